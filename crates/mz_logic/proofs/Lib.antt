@@ -1,0 +1,4 @@
+pub mod SymLemmas
+pub mod TermLemmas
+pub mod IndexLemmas
+pub mod ConstantLemmas

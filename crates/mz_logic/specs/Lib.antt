@@ -1,0 +1,17 @@
+pub mod Sym
+pub mod Term
+pub mod TermView
+pub mod TermFalls
+pub mod Formula
+pub mod FormulaView
+pub mod FormulaFalls
+pub mod Formulas
+pub mod Indices
+pub mod Constants
+pub mod Substitution
+pub mod Negation
+pub mod Letters
+pub mod Instance
+pub mod Replacement
+pub mod Derivation
+pub mod Derives
