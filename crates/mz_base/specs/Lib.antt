@@ -1,3 +1,5 @@
 pub mod Bytes
 pub mod Name
 pub mod Place
+pub mod RuleCode
+pub mod Status

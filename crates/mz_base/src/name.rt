@@ -137,7 +137,7 @@ impl Name {
     pub fn is_built_in(&self) -> bool
         ensures { result ≡ is_built_in self.now.number }
     {
-        self.number == HIDDEN || self.number == TARSKI_0 || self.number == TARSKI_A
+        matches!(self.number, HIDDEN | TARSKI_0 | TARSKI_A)
     }
 
     /// The name HIDDEN.
@@ -162,5 +162,51 @@ impl Name {
         ensures { text_of result.number ≡ codes "TARSKI_A" }
     {
         Name { number: TARSKI_A }
+    }
+}
+
+#[cfg(test)]
+mod tests {
+    use super::*;
+    use std::test::Fail;
+
+    #[test]
+    fn reads_names(rt: HostRuntime) -> Result<(), Fail> {
+        let rows: [(&[u8], &[u8], u64); 4] = [
+            (b"A", b"A", 4683743612465315840),
+            (b"tarski_0", b"TARSKI_0", 0x5441_5253_4b49_5f30),
+            (b"Hidden", b"HIDDEN", 0x4849_4444_454e_0000),
+            (b"z9_", b"Z9_", 0x5a39_5f00_0000_0000),
+        ];
+        for (word, text, number) in rows {
+            let name = Name::read(word).map_err(|_| "refused")?;
+            assert_eq!(rt; name.number(), number);
+            assert_eq!(rt; name.text(rt.alloc())?.as_slice(), text);
+        }
+        let words: [&[u8]; 6] = [b"1A", b"ABCDEFGHI", b"", b"_A", b"A-B", b"\xc3\xa9"];
+        for word in words {
+            assert!(rt; Name::read(word).is_err());
+        }
+        Ok(())
+    }
+
+    #[test]
+    fn knows_built_in_names(rt: HostRuntime) -> Result<(), Fail> {
+        let rows: [(&[u8], bool); 5] = [
+            (b"HIDDEN", true),
+            (b"tarski_0", true),
+            (b"TARSKI_A", true),
+            (b"TARSKI_B", false),
+            (b"HIDDEN2", false),
+        ];
+        for (word, expected) in rows {
+            let name = Name::read(word).map_err(|_| "refused")?;
+            assert_eq!(rt; name.is_built_in(), expected);
+        }
+        assert_eq!(rt;
+            Name::tarski_a().lowered(rt.alloc())?.as_slice(),
+            b"tarski_a".as_slice()
+        );
+        Ok(())
     }
 }

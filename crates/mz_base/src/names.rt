@@ -82,3 +82,20 @@ impl Names {
         Ok(())
     }
 }
+
+#[cfg(test)]
+mod tests {
+    use super::*;
+    use std::test::Fail;
+
+    #[test]
+    fn grows(rt: HostRuntime) -> Result<(), Fail> {
+        let mut names = Names::new(rt.alloc());
+        names.push(Name::hidden())?;
+        let copy = names.copy(rt.alloc())?;
+        assert_eq!(rt; copy.len(), 1);
+        assert!(rt; copy.contains(&Name::hidden()));
+        assert!(rt; !copy.contains(&Name::tarski_0()));
+        Ok(())
+    }
+}

@@ -73,3 +73,19 @@ impl Numbers {
         Ok(())
     }
 }
+
+#[cfg(test)]
+mod tests {
+    use super::*;
+    use std::test::Fail;
+
+    #[test]
+    fn grows(rt: HostRuntime) -> Result<(), Fail> {
+        let mut numbers = Numbers::from_slice(rt.alloc(), &[3, 1])?;
+        numbers.push(2)?;
+        assert_eq!(rt; numbers.as_slice(), [3, 1, 2].as_slice());
+        assert!(rt; numbers.contains(2));
+        assert!(rt; !numbers.contains(4));
+        Ok(())
+    }
+}

@@ -81,3 +81,21 @@ impl Text {
         self.items.extend_from_slice(bytes)
     }
 }
+
+#[cfg(test)]
+mod tests {
+    use super::*;
+    use std::test::Fail;
+
+    #[test]
+    fn grows(rt: HostRuntime) -> Result<(), Fail> {
+        let mut text = Text::new(rt.alloc());
+        assert!(rt; text.is_empty());
+        text.extend_from_slice(b"ab")?;
+        text.push(b'c')?;
+        let copy = text.copy(rt.alloc())?;
+        assert_eq!(rt; copy.as_slice(), b"abc".as_slice());
+        assert_eq!(rt; copy.len(), 3);
+        Ok(())
+    }
+}
