@@ -13,5 +13,7 @@ pub mod Negation
 pub mod Letters
 pub mod Instance
 pub mod Replacement
+pub mod Same
+pub mod Rest
 pub mod Derivation
 pub mod Derives
