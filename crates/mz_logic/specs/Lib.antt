@@ -17,3 +17,4 @@ pub mod Same
 pub mod Rest
 pub mod Derivation
 pub mod Derives
+pub mod Literal

@@ -2,12 +2,16 @@
 #![tactic(auto)]
 
 pub mod constants;
+pub mod disjunct;
+pub mod disjuncts;
 pub mod formula;
 pub mod formulas;
 pub mod indices;
 pub mod instances;
 pub mod kind;
 pub mod letters;
+pub mod literal;
+pub mod literals;
 pub mod negation;
 pub mod rule;
 pub mod sameness;
