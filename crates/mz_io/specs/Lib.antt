@@ -1,0 +1,4 @@
+pub mod Count
+pub mod File
+pub mod Shelf
+pub mod Sink
