@@ -1,7 +1,7 @@
 //! Where the report goes.
 ghost use Rattle.std.specs.Prelude.{◌≡◌, ◌<◌, ◌≤◌, ℕ, List, Option, length, take, IfOk, OnOk, OnErr};
 ghost use Rattle.mz_io.specs.Count.{Rose, last_count};
-ghost use Rattle.mz_io.specs.Sink.{with_bytes, TookPrefix};
+ghost use Rattle.mz_io.specs.Sink.{with_bytes, TookPrefix, TookPart};
 
 /// A write that failed.
 #[derive(Clone, Copy, Debug, PartialEq, Eq)]
@@ -40,11 +40,12 @@ pub trait Sink {
 ///
 /// # Errors
 /// `SinkFailed` only where the sink's count of faults rose. Then a part of the bytes from their front
-/// was taken.
+/// was taken, and not all.
 pub fn write_all<W: Sink>(out: &mut W, bytes: &[u8]) -> Result<(), SinkFailed>
     ensures never_fall { W.faults out.old ≤ W.faults out.new }
     ensures all { OnOk result (W.taken out.new ≡ with_bytes (W.taken out.old) bytes.now) }
     ensures prefix { TookPrefix (W.taken out.old) (W.taken out.new) bytes.now }
+    ensures part { OnErr result (TookPart (W.taken out.old) (W.taken out.new) bytes.now) }
     ensures failed { OnErr result (Rose (W.faults out.old) (W.faults out.new)) }
 {
     let mut done = 0;
