@@ -5,3 +5,6 @@ pub mod ConstantLemmas
 pub mod SubstitutionLemmas
 pub mod InstanceLemmas
 pub mod SameLemmas
+pub mod Rules
+pub mod Connectives
+pub mod Generalization

@@ -18,3 +18,4 @@ pub mod Rest
 pub mod Derivation
 pub mod Derives
 pub mod Literal
+pub mod ConstantTerm
