@@ -8,3 +8,5 @@ pub mod SameLemmas
 pub mod Rules
 pub mod Connectives
 pub mod Generalization
+pub mod Fresh
+pub mod Equivalence
