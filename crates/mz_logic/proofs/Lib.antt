@@ -10,3 +10,5 @@ pub mod Connectives
 pub mod Generalization
 pub mod Fresh
 pub mod Equivalence
+pub mod Congruence
+pub mod AxiomLaws

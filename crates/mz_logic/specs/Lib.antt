@@ -19,3 +19,4 @@ pub mod Derivation
 pub mod Derives
 pub mod Literal
 pub mod ConstantTerm
+pub mod Equality
