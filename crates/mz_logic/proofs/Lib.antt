@@ -12,3 +12,4 @@ pub mod Fresh
 pub mod Equivalence
 pub mod Congruence
 pub mod AxiomLaws
+pub mod SameRelation

@@ -2,9 +2,10 @@
 use Rattle.std.proofs.Common.{◌≡◌, ◌↔◌, List, [], ◌∷◌, refl, sym, ap, ◌∙◌, subst}
 use Rattle.mz_logic.specs.Formula.{Formula, Truth, Eq, Atom, Not, And, All}
 use Rattle.mz_logic.specs.Negation.{negated}
-use Rattle.mz_logic.specs.Same.{grouped, normal_form, conjunction, IsPlain, RestsAgree}
+use Rattle.mz_logic.specs.Same.{grouped, normal_form}
+use Rattle.mz_logic.specs.Conjuncts.{conjunction, IsPlain, RestsAgree}
 
-grouped_assoc : (a b c : Formula) → grouped (grouped a b) c ≡ grouped a (grouped b c)
+pub grouped_assoc : (a b c : Formula) → grouped (grouped a b) c ≡ grouped a (grouped b c)
 grouped_assoc Truth b c = refl
 grouped_assoc (Eq t u) b c = refl
 grouped_assoc (Atom s ts) b c = refl
@@ -21,7 +22,7 @@ grouped_twice (And f g) b = refl
 grouped_twice (All f) b = refl
 
 -- a normal form begins with no double negation
-normal_form_twice : (f : Formula) → negated (negated (normal_form f)) ≡ normal_form f
+pub normal_form_twice : (f : Formula) → negated (negated (normal_form f)) ≡ normal_form f
 normal_form_twice Truth = refl
 normal_form_twice (Eq t u) = refl
 normal_form_twice (Atom s ts) = refl

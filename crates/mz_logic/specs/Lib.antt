@@ -14,6 +14,7 @@ pub mod Letters
 pub mod Instance
 pub mod Replacement
 pub mod Same
+pub mod Conjuncts
 pub mod Rest
 pub mod Derivation
 pub mod Derives

@@ -1,7 +1,18 @@
--- A formula up to association of & and double negation.
-use Rattle.std.specs.Prelude.{◌≡◌, ℕ, ◌+◌, List, [], ◌∷◌}
-use Rattle.mz_logic.specs.Formula.{Formula, Truth, Eq, Atom, Not, And, All, formula_size}
+-- Formulas that are the same up to association of `&` and double negation.
+use Rattle.mz_logic.specs.Formula.{Formula, Truth, Eq, Atom, Not, And, All}
 use Rattle.mz_logic.specs.Negation.{negated}
+
+-- the least relation that is an equivalence, holds within formulas, drops double negations and
+-- regroups conjunctions
+pub data IsSame : Formula → Formula → Type 0 where
+  itself : (f : Formula) → IsSame f f
+  exchanged : (f g : Formula) → IsSame f g → IsSame g f
+  chained : (f g h : Formula) → IsSame f g → IsSame g h → IsSame f h
+  not_twice : (f : Formula) → IsSame (Not (Not f)) f
+  regrouped : (f g h : Formula) → IsSame (And (And f g) h) (And f (And g h))
+  negation : (f g : Formula) → IsSame f g → IsSame (Not f) (Not g)
+  conjuncts : (f g h k : Formula) → IsSame f h → IsSame g k → IsSame (And f g) (And h k)
+  body : (f g : Formula) → IsSame f g → IsSame (All f) (All g)
 
 -- a conjunction, grouped to the right
 abbrev pub grouped : Formula → Formula → Formula
@@ -20,33 +31,3 @@ normal_form (Atom s ts) = Atom s ts
 normal_form (Not f) = negated (normal_form f)
 normal_form (And f g) = grouped (normal_form f) (normal_form g)
 normal_form (All f) = All (normal_form f)
-
--- the normal form of a conjunction
-unfoldable pub conjunction : Formula → List Formula → Formula
-conjunction f [] = normal_form f
-conjunction f (g ∷ gs) = grouped (normal_form f) (conjunction g gs)
-
--- neither a conjunction nor a double negation
-abbrev pub IsPlain : Formula → Type 0
-IsPlain Truth = Unit {0}
-IsPlain (Eq t u) = Unit {0}
-IsPlain (Atom s ts) = Unit {0}
-IsPlain (Not Truth) = Unit {0}
-IsPlain (Not (Eq t u)) = Unit {0}
-IsPlain (Not (Atom s ts)) = Unit {0}
-IsPlain (Not (Not f)) = ⊥
-IsPlain (Not (And f g)) = Unit {0}
-IsPlain (Not (All f)) = Unit {0}
-IsPlain (And f g) = ⊥
-IsPlain (All f) = Unit {0}
-
--- the rests are equal as conjunctions
-abbrev pub RestsAgree : List Formula → List Formula → Type 0
-RestsAgree [] [] = Unit {0}
-RestsAgree [] (g ∷ gs) = ⊥
-RestsAgree (f ∷ fs) [] = ⊥
-RestsAgree (f ∷ fs) (g ∷ gs) = conjunction f fs ≡ conjunction g gs
-
-abbrev pub rest_size : List Formula → ℕ
-rest_size [] = 0
-rest_size (f ∷ fs) = formula_size f + rest_size fs

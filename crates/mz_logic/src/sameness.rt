@@ -1,6 +1,7 @@
 // Whether two formulas are the same up to association of `&` and double negation.
 ghost use Rattle.std.specs.Prelude.{◌≡◌, ◌↔◌, IsTrue};
-ghost use Rattle.mz_logic.specs.Same.{normal_form, conjunction, IsPlain, RestsAgree};
+ghost use Rattle.mz_logic.specs.Same.{IsSame, normal_form};
+ghost use Rattle.mz_logic.specs.Conjuncts.{conjunction, IsPlain, RestsAgree};
 ghost use Rattle.mz_logic.specs.Rest.{list_of};
 
 use crate::formula::{Formula, FormulaNode};
@@ -12,9 +13,17 @@ enum Rest<'a> {
     Then(&'a Formula, &'a Rest<'a>),
 }
 
-/// Whether the formulas are the same up to association of `&` and double negation.
-#[tactic(auto, using(crate::proofs::SameLemmas::head_rules))]
+/// Whether the formulas are the same up to association of `&` and double negation, at any depth.
+#[tactic(auto, using(crate::proofs::SameRelation::relation_rules))]
 pub fn same(f: &Formula, g: &Formula) -> bool
+    ensures same { IsTrue result ↔ IsSame f.now g.now }
+    ensures one_normal_form { IsTrue result ↔ (normal_form f.now ≡ normal_form g.now) }
+{
+    have_one_normal_form(f, g)
+}
+
+#[tactic(auto, using(crate::proofs::SameLemmas::head_rules))]
+fn have_one_normal_form(f: &Formula, g: &Formula) -> bool
     ensures { IsTrue result ↔ (normal_form f.now ≡ normal_form g.now) }
 {
     same_from(f, &Rest::End, g, &Rest::End)
