@@ -6,10 +6,11 @@ use Rattle.mz_logic.specs.Formula.{Formula, Truth, Eq, Atom, Not, And, All, form
 use Rattle.mz_logic.specs.Constants.{formula_mentions}
 use Rattle.mz_logic.specs.Substitution.{put_formula, body_at}
 use Rattle.mz_logic.specs.Negation.{falsity, negated}
-use Rattle.mz_logic.specs.Same.{grouped, normal_form}
+use Rattle.mz_logic.specs.Same.{IsSame, grouped, normal_form}
 use Rattle.mz_logic.specs.Derives.{Derives}
 use Rattle.mz_logic.proofs.Rules.{and_in, and_left, and_right, not_in, not_out, all_in, all_out}
 use Rattle.mz_logic.proofs.Connectives.{first, second, through, twice_in, twice_out}
+use Rattle.mz_logic.proofs.SameRelation.{normal_form-IsSame}
 use Rattle.mz_logic.proofs.Fresh.{formula_greatest, formula_mentions-above}
 
 -- each derives the other
@@ -69,8 +70,7 @@ regroup ax f g h =
     let pl : List Formula = l ∷ [] in
     let pr : List Formula = r ∷ [] in
     let fg : Derives ax pl (And f g) = and_left ax pl (And f g) h (first ax [] l) in
-    let gh : Derives ax pr (And g h) = and_right ax pr f (And g h) (first ax [] r) in
-    (
+    let gh : Derives ax pr (And g h) = and_right ax pr f (And g h) (first ax [] r) in (
       and_in ax pl f (And g h) (and_left ax pl f g fg) (and_in ax pl g h (and_right ax pl f g fg) (and_right ax pl (And f g) h (first ax [] l))),
       and_in ax pr (And f g) h (and_in ax pr f g (and_left ax pr f (And g h) (first ax [] r)) (and_left ax pr g h gh)) (and_right ax pr g h gh),
     )
@@ -147,3 +147,6 @@ pub equivalent_same : (ax : List Formula) (f g : Formula) → normal_form f ≡ 
 equivalent_same ax f g e =
     let back : Equivalent ax g (normal_form g) = equivalent_normal_form ax g in
     equivalent_chain ax f (normal_form g) g (subst (Equivalent ax f) e (equivalent_normal_form ax f)) (back.1, back.0)
+
+pub same_derives : (ax g : List Formula) (f k : Formula) → IsSame f k → Derives ax g f → Derives ax g k
+same_derives ax g f k s d = through ax g f k (equivalent_same ax f k (normal_form-IsSame s)).0 d

@@ -21,3 +21,4 @@ pub mod Derives
 pub mod Literal
 pub mod ConstantTerm
 pub mod Equality
+pub mod Laws

@@ -9,6 +9,7 @@ pub mod formulas;
 pub mod indices;
 pub mod instances;
 pub mod kind;
+pub mod laws;
 pub mod letters;
 pub mod literal;
 pub mod literals;
