@@ -1,0 +1,9 @@
+//! Vocabularies, read line by line.
+#![tactic(auto)]
+
+pub mod entry;
+pub mod line;
+pub mod read;
+pub mod symbol;
+pub mod voc_fault;
+pub mod vocabulary;
