@@ -1,0 +1,6 @@
+//! The step that decides whether a conclusion is obvious from premises.
+#![tactic(auto)]
+
+pub mod by;
+pub mod by_verdict;
+pub mod problem;
