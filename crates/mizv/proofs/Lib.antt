@@ -1,0 +1,5 @@
+pub mod SpellingLemmas
+pub mod CutLemmas
+pub mod TheoremLemmas
+pub mod OutcomeLemmas
+pub mod DerivedLemmas

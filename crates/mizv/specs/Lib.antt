@@ -1,0 +1,4 @@
+pub mod Word
+pub mod FirstForm
+pub mod Reading
+pub mod Outcome

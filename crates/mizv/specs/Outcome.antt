@@ -1,0 +1,62 @@
+-- The outcome of a text of the first form, and of any other text.
+use Rattle.std.specs.Prelude.{◌≡◌, ℕ, ◌⊎◌, List, [], ◌∷◌, Bool, not, All, Some, None, filter, map, reverse}
+use Rattle.std.specs.List.{position_or_len}
+use Rattle.std.specs.Str.{bytes_eq}
+use Rattle.mz_base.specs.Place.{start}
+use Rattle.mz_base.specs.declared.rule_code.RuleCode.TheVariants.{NotBuilt, Open}
+use Rattle.mz_logic.specs.Term as term
+use Rattle.mz_logic.specs.Formula as formula
+use Rattle.mz_logic.specs.Formula.{Formula}
+use Rattle.mz_logic.specs.Derives.{Derives}
+use Rattle.mizv.specs.declared.fault.Fault.{Fault}
+use Rattle.mizv.specs.declared.theorem.Theorem.{Theorem}
+use Rattle.mizv.specs.declared.first_article.First.{First}
+use Rattle.mizv.specs.declared.first_article.First.TheVariants.{Accepted, Rejected}
+use Rattle.mizv.specs.FirstForm.{HasFirstForm}
+
+-- the index of the latest variable of the name: how many variables stand behind it
+abbrev pub index_of : List (List ℕ) → List ℕ → ℕ
+index_of variables name = position_or_len (λ v. bytes_eq v name) (reverse variables)
+
+-- the formula under a quantifier for each variable
+abbrev pub quantified : List (List ℕ) → Formula → Formula
+quantified [] f = f
+quantified (v ∷ vs) f = formula.All (quantified vs f)
+
+-- the formula of a theorem
+abbrev pub erased : Theorem → Formula
+erased t = quantified t.variables (formula.Eq (term.Bound (index_of t.variables t.left)) (term.Bound (index_of t.variables t.right)))
+
+-- a theorem whose sides are two identifiers is open in the only disjunct of its step, which stands at its `;`
+abbrev pub open_fault : Theorem → Fault
+open_fault t = record { place = t.semicolon; code = Open; number = Some 1 }
+
+abbrev pub has_same_sides : Theorem → Bool
+has_same_sides t = bytes_eq t.left t.right
+
+-- one fault for each theorem whose sides are two identifiers
+abbrev pub faults_of : List Theorem → List Fault
+faults_of ts = map open_fault (filter (λ t. not (has_same_sides t)) ts)
+
+abbrev pub judged : List Theorem → List Fault → First
+judged ts [] = Accepted (map erased ts)
+judged ts (f ∷ fs) = Rejected (f ∷ fs)
+
+-- accepted with the formulas of the theorems where there is no fault, else rejected with the faults
+abbrev pub first_of : List Theorem → First
+first_of ts = judged ts (faults_of ts)
+
+-- a text without the first form has one fault, at its first byte
+abbrev pub not_built : First
+not_built = Rejected (record { place = start; code = NotBuilt; number = None } ∷ [])
+
+-- what is said of a text
+abbrev pub Outcome : List ℕ → First → Type 0
+Outcome bytes r =
+    ((ts : List Theorem) × HasFirstForm bytes ts × (r ≡ first_of ts))
+    ⊎ (((ts : List Theorem) → HasFirstForm bytes ts → ⊥) × (r ≡ not_built))
+
+-- each formula that is accepted is derivable from nothing
+abbrev pub Derived : First → Type 0
+Derived (Accepted fs) = All (Derives [] []) fs
+Derived (Rejected faults) = Unit {0}
