@@ -13,3 +13,4 @@ pub mod Equivalence
 pub mod Congruence
 pub mod AxiomLaws
 pub mod SameRelation
+pub mod TextExamples

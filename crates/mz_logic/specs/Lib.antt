@@ -22,3 +22,4 @@ pub mod Literal
 pub mod ConstantTerm
 pub mod Equality
 pub mod Laws
+pub mod Text

@@ -1,6 +1,7 @@
 // Terms, formulas and sequents of first-order logic, and what is derivable.
 #![tactic(auto)]
 
+pub mod bodies;
 pub mod constants;
 pub mod disjunct;
 pub mod disjuncts;
@@ -20,3 +21,5 @@ pub mod sequent;
 pub mod substitution;
 pub mod sym;
 pub mod term;
+#[cfg(test)]
+mod tests;
