@@ -1,0 +1,10 @@
+pub mod Choose
+pub mod Compose
+pub mod Deep
+pub mod Look
+pub mod Leads
+pub mod Lists
+pub mod Nested
+pub mod One
+pub mod Places
+pub mod Maybe
