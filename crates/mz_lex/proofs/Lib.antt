@@ -1,0 +1,4 @@
+pub mod CutLemmas
+pub mod LongestLemmas
+pub mod OneCutLemmas
+pub mod PieceLemmas

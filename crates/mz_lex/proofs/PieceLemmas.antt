@@ -1,0 +1,277 @@
+-- The longest token at the start of a text, and comments.
+use Rattle.std.proofs.Common.{◌≡◌, ◌≢◌, ℕ, suc, zero, ◌+◌, ◌-◌, ◌<◌, ◌≤◌, ◌⊎◌, inl, inr, ⊎_elim, Bool, true, false, not, cond, ◌&&◌, ◌||◌, ◌==◌, eqb, nat_eq, nat_lt, nat_le, List, [], ◌∷◌, ◌++◌, length, get_or, take, drop, Option, Some, None, refl, sym, ap, subst, ◌∙◌, arith, append_assoc, append-nil, add-one, one-add, length-append}
+use Rattle.std.specs.Prelude.{fold, find, position}
+use Rattle.std.specs.List.{list_any, list_all, starts_with, prefix_len, position_or_len}
+use Rattle.std.specs.Option.{option_or}
+use Rattle.std.specs.Str.{bytes_eq}
+use Rattle.std.specs.Cmp.Lexicographic.{pointwise}
+use Rattle.std.proofs.lemmas.List.{take-append-drop, length-take-le}
+use Rattle.std.proofs.Math.Seq.{take-append_seam}
+use Rattle.std.proofs.lemmas.List.Folds.{find-append, list_any-append}
+use Rattle.std.proofs.lemmas.Slice.Eq.{starts_is, bytes_eq-Decides}
+use Rattle.std.proofs.lemmas.Bool.Decides.{Decides-eqb}
+use borrow.Author.Tests.{ltb-true, ltb-false, eqb-true, eqb-false}
+use Rattle.mz_base.specs.Words.{is_word_byte}
+use Rattle.mz_base.specs.declared.token_kind.TokenKind.{TokenKind}
+use Rattle.mz_lex.specs.declared.lexeme.Lexeme.{Lexeme}
+use Rattle.mz_lex.specs.declared.longest.Longest.{Longest}
+use Rattle.mz_lex.specs.Longest.{no_lexeme, longer, longest_of}
+use Rattle.mz_lex.specs.Tokens.{is_separator, opens_comment, opens_pragma, opens_token, is_spelled, lexeme_of, is_lexeme, is_spelling, word_kind, kind_with, priority_with, is_line_end, EndsLine, IsToken, IsBadByte, IsComment}
+use Rattle.mz_lex.specs.Piece.{comment_len, word_len, IsLongestToken, IsTokenPiece, IsCommentPiece}
+
+-- tests
+
+and_both : (t u : Bool) → (t && u) ≡ true → (t ≡ true) × (u ≡ true)
+and_both true u h = (refl, h)
+and_both false u h = cc
+
+or_one : (t u : Bool) → (t || u) ≡ true → (t ≡ true) ⊎ (u ≡ true)
+or_one true u h = inl refl
+or_one false u h = inr h
+
+or_first : (t u : Bool) → t ≡ true → (t || u) ≡ true
+or_first t u h = rw h refl
+
+or_second : (t u : Bool) → u ≡ true → (t || u) ≡ true
+or_second true u h = refl
+or_second false u h = h
+
+and_false : (t u : Bool) → (t && u) ≡ false → u ≡ true → t ≡ false
+and_false true u h k = cc
+and_false false u h k = refl
+
+lt-ltb : (a b : ℕ) → a < b → nat_lt a b ≡ true
+lt-ltb a b h = holds (nat_lt a b) refl
+  where
+    holds : (t : Bool) → nat_lt a b ≡ t → t ≡ true
+    holds true e = refl
+    holds false e = absurd (omega (arith, ltb-false a b e))
+
+not_true : (t : Bool) → (t ≡ true → ⊥) → t ≡ false
+not_true true h = absurd (h refl)
+not_true false h = refl
+
+-- the front that passes a test
+
+prefix_len-le : (p : ℕ → Bool) (xs : List ℕ) → prefix_len p xs ≤ length xs
+prefix_len-le p [] = omega arith
+prefix_len-le p (x ∷ xs) = elim (p x) as (λ t. cond t (1 + prefix_len p xs) 0 ≤ suc (length xs)) [ true ↦ omega (arith, prefix_len-le p xs) | false ↦ omega arith ]
+
+passes_front : (p : ℕ → Bool) (x m : ℕ) (xs : List ℕ) (t : Bool) → p x ≡ t → list_all p (take m xs) ≡ true → list_all p (take (cond t (1 + m) 0) (x ∷ xs)) ≡ true
+passes_front p x m xs true h ih = rw (one-add, h) ih
+passes_front p x m xs false h ih = refl
+
+list_all-prefix : (p : ℕ → Bool) (xs : List ℕ) → list_all p (take (prefix_len p xs) xs) ≡ true
+list_all-prefix p [] = refl
+list_all-prefix p (x ∷ xs) = passes_front p x (prefix_len p xs) xs (p x) refl (list_all-prefix p xs)
+
+prefix_len-at_least : (p : ℕ → Bool) (front back : List ℕ) → list_all p front ≡ true → length front ≤ prefix_len p (front ++ back)
+prefix_len-at_least p [] back h = omega arith
+prefix_len-at_least p (x ∷ front) back h =
+    let both = and_both (p x) (list_all p front) h in
+    rw both.0 (omega (arith, prefix_len-at_least p front back both.1))
+
+-- look-ups
+
+find-none : (q : Lexeme → Bool) (ls : List Lexeme) → list_any q ls ≡ false → find q ls ≡ None
+find-none q [] h = refl
+find-none q (l ∷ ls) h = missed (q l) (list_any q ls) h (find-none q ls)
+  where
+    missed : (t u : Bool) → (t || u) ≡ false → (u ≡ false → find q ls ≡ None) → cond t (Some l) (find q ls) ≡ None
+    missed true u e ih = cc
+    missed false u e ih = ih e
+
+list_any-found : (q : Lexeme → Bool) (ls : List Lexeme) (l : Lexeme) → find q ls ≡ Some l → list_any q ls ≡ true
+list_any-found q ls l h = found_in (list_any q ls) refl
+  where
+    found_in : (t : Bool) → list_any q ls ≡ t → t ≡ true
+    found_in true e = refl
+    found_in false e = let none = find-none q ls e in cc
+
+-- what the longest lexeme so far is
+pub record Best (text : List ℕ) (seen : List Lexeme) (best : Longest) : Type 0 where
+  pub within : best.length ≤ length text
+  pub held : 0 < best.length → (l : Lexeme) × (lexeme_of seen (take best.length text) ≡ Some l) × (l.kind ≡ best.kind) × (l.priority ≡ best.priority)
+  pub longest : (other more : List ℕ) → text ≡ other ++ more → is_lexeme seen other ≡ true → length other ≤ best.length
+
+Best-none : (text : List ℕ) → Best text [] no_lexeme
+Best-none text = record { within = omega arith; held = λ h. absurd (omega arith); longest = λ other more e h. cc }
+
+begins : (text p : List ℕ) → starts_with nat_eq text p ≡ true → text ≡ p ++ drop (length p) text
+begins text p h = (starts_is Decides-eqb text p (starts_with nat_eq text p) refl).0 h
+
+begins_so : (text p rest : List ℕ) → text ≡ p ++ rest → starts_with nat_eq text p ≡ true
+begins_so text p rest e = (starts_is Decides-eqb text p (starts_with nat_eq text p) refl).1 rest e
+
+either_spelled : (seen : List Lexeme) (l : Lexeme) (other : List ℕ) → is_lexeme (seen ++ l ∷ []) other ≡ true → (is_lexeme seen other ≡ true) ⊎ (l.spelling ≡ other)
+either_spelled seen l other h =
+    let split = list_any-append (λ k. is_spelled k other) seen (l ∷ []) in
+    ⊎_elim inl (λ e. ⊎_elim (λ s. inr ((bytes_eq-Decides l.spelling other).0 s)) (λ s. cc) (or_one (is_spelled l other) false e)) (or_one (is_lexeme seen other) (is_spelled l other || false) (rw split at h))
+
+module _ (text : List ℕ) (seen : List Lexeme) (l : Lexeme) (best : Longest) (so : Best text seen best) where
+  abbrev new : Longest
+  new = record { length = length l.spelling; kind = l.kind; priority = l.priority }
+
+  Best-new : nat_lt best.length (length l.spelling) ≡ true → starts_with nat_eq text l.spelling ≡ true → Best text (seen ++ l ∷ []) new
+  Best-new lt starts =
+      let more : best.length < length l.spelling = ltb-true best.length (length l.spelling) lt in
+      let split : text ≡ l.spelling ++ drop (length l.spelling) text = begins text l.spelling starts in
+      let taken : take (length l.spelling) text ≡ l.spelling = ap (take (length l.spelling)) split ∙ take-append_seam l.spelling (drop (length l.spelling) text) in
+      let unseen : is_lexeme seen l.spelling ≡ false = not_true (is_lexeme seen l.spelling) (λ h. absurd (omega (arith, so.longest l.spelling (drop (length l.spelling) text) split h))) in
+      let none : lexeme_of seen l.spelling ≡ None = find-none (λ k. is_spelled k l.spelling) seen unseen in
+      let self : is_spelled l l.spelling ≡ true = (bytes_eq-Decides l.spelling l.spelling).1 refl in
+      let here : lexeme_of (seen ++ l ∷ []) l.spelling ≡ Some l = rw (find-append (λ k. is_spelled k l.spelling) seen (l ∷ []), none, self) refl in
+      record {
+        within = omega (arith, ap length split, length-append l.spelling (drop (length l.spelling) text));
+        held = λ h. (l, rw taken here, refl, refl);
+        longest = λ other rest e h. ⊎_elim (λ s. omega (arith, so.longest other rest e s)) (λ s. omega (arith, ap length s)) (either_spelled seen l other h);
+      }
+
+  Best-old : (nat_lt best.length (length l.spelling) && starts_with nat_eq text l.spelling) ≡ false → Best text (seen ++ l ∷ []) best
+  Best-old stays =
+      record {
+        within = so.within;
+        held = λ h. let kept = so.held h in (kept.0, rw (find-append (λ k. is_spelled k (take best.length text)) seen (l ∷ []), kept.1) refl, kept.2, kept.3);
+        longest = λ other rest e h. ⊎_elim (so.longest other rest e) (λ s. no_longer other rest e s) (either_spelled seen l other h);
+      }
+    where
+      no_longer : (other rest : List ℕ) → text ≡ other ++ rest → l.spelling ≡ other → length other ≤ best.length
+      no_longer other rest e s =
+          let starts : starts_with nat_eq text l.spelling ≡ true = begins_so text l.spelling rest (e ∙ ap (λ o. o ++ rest) (sym s)) in
+          let short : nat_lt best.length (length l.spelling) ≡ false = and_false (nat_lt best.length (length l.spelling)) (starts_with nat_eq text l.spelling) stays starts in
+          omega (arith, ap length s, ltb-false best.length (length l.spelling) short)
+
+  Best-more : Best text (seen ++ l ∷ []) (longer text best l)
+  Best-more = longer_cases (nat_lt best.length (length l.spelling)) (starts_with nat_eq text l.spelling) refl refl
+    where
+      longer_cases : (t u : Bool) → nat_lt best.length (length l.spelling) ≡ t → starts_with nat_eq text l.spelling ≡ u → Best text (seen ++ l ∷ []) (cond (t && u) new best)
+      longer_cases true true e f = Best-new e f
+      longer_cases true false e f = Best-old (rw (e, f) refl)
+      longer_cases false u e f = Best-old (rw e refl)
+
+Best-fold : (text : List ℕ) (seen ls : List Lexeme) (best : Longest) → Best text seen best → Best text (seen ++ ls) (fold (longer text) best ls)
+Best-fold text seen [] best so = rw append-nil so
+Best-fold text seen (l ∷ ls) best so =
+    let more : Best text ((seen ++ l ∷ []) ++ ls) (fold (longer text) (longer text best l) ls) = Best-fold text (seen ++ l ∷ []) ls (longer text best l) (Best-more text seen l best so) in
+    subst (λ all. Best text all (fold (longer text) (longer text best l) ls)) (append_assoc seen (l ∷ []) ls) more
+
+longest_of-Best : (text : List ℕ) (ls : List Lexeme) (best : Longest) → best ≡ longest_of text ls → Best text ls best
+unfolding longest_of
+longest_of-Best text ls best e = subst (Best text ls) (sym e) (Best-fold text [] ls no_lexeme (Best-none text))
+
+-- a spelling is a lexeme's or a word, and has a byte
+spelling_cases : (ls : List Lexeme) (w : List ℕ) → is_spelling ls w ≡ true → (is_lexeme ls w ≡ true) ⊎ (list_all is_word_byte w ≡ true)
+spelling_cases ls w h = or_one (is_lexeme ls w) (list_all is_word_byte w) (and_both (nat_lt 0 (length w)) (is_lexeme ls w || list_all is_word_byte w) h).1
+
+is_spelling-so : (ls : List Lexeme) (w : List ℕ) → 0 < length w → (is_lexeme ls w || list_all is_word_byte w) ≡ true → is_spelling ls w ≡ true
+is_spelling-so ls w some h =
+    let t : nat_lt 0 (length w) ≡ true = lt-ltb 0 (length w) some in
+    rw t h
+
+-- no spelling is longer than the longest lexeme and the word
+no_longer_spelling : (ls : List Lexeme) (text : List ℕ) (best : Longest) (n : ℕ) → Best text ls best → best.length ≤ n → word_len text ≤ n → (other more : List ℕ) → text ≡ other ++ more → is_spelling ls other ≡ true → length other ≤ n
+no_longer_spelling ls text best n so le words other more e h =
+    ⊎_elim (λ l. omega (arith, so.longest other more e l))
+    (λ w. let at_least : length other ≤ word_len text = subst (λ t. length other ≤ word_len t) (sym e) (prefix_len-at_least is_word_byte other more w) in omega arith)
+    (spelling_cases ls other h)
+
+-- the lexeme is at least as long as the word
+pub lexeme_longest : (ls : List Lexeme) (text : List ℕ) (best : Longest) (n : ℕ) → best ≡ longest_of text ls → n ≡ word_len text → n ≤ best.length → IsLongestToken ls text best
+lexeme_longest ls text best n e en le =
+    let so = longest_of-Best text ls best e in
+    let w : List ℕ = take best.length text in
+    let size : length w ≡ best.length = length-take-le best.length text so.within in
+    record {
+      within = so.within;
+      spells = λ h. is_spelling-so ls w (omega arith) (or_first (is_lexeme ls w) (list_all is_word_byte w) (list_any-found (λ l. is_spelled l w) ls (so.held h).0 (so.held h).1));
+      kind = λ h. rw (so.held h).1 (sym (so.held h).2);
+      priority = λ h. rw (so.held h).1 (sym (so.held h).3);
+      longest = no_longer_spelling ls text best best.length so (omega arith) (omega arith);
+    }
+
+-- the word is longer
+pub word_longest : (ls : List Lexeme) (text : List ℕ) (best : Longest) (n : ℕ) (kind : TokenKind) → best ≡ longest_of text ls → n ≡ word_len text → best.length < n → kind ≡ word_kind (take n text) → IsLongestToken ls text (record { length = n; kind = kind; priority = 0 })
+word_longest ls text best n kind e en lt ek =
+    let so = longest_of-Best text ls best e in
+    let w : List ℕ = take n text in
+    let within : n ≤ length text = omega (arith, prefix_len-le is_word_byte text) in
+    let size : length w ≡ n = length-take-le n text within in
+    let words : list_all is_word_byte w ≡ true = subst (λ k. list_all is_word_byte (take k text) ≡ true) (sym en) (list_all-prefix is_word_byte text) in
+    let no : is_lexeme ls w ≡ false = not_true (is_lexeme ls w) (λ h. absurd (omega (arith, so.longest w (drop n text) (sym (take-append-drop n text)) h))) in
+    let none : lexeme_of ls w ≡ None = find-none (λ l. is_spelled l w) ls no in
+    record {
+      within = within;
+      spells = λ h. is_spelling-so ls w (omega arith) (or_second (is_lexeme ls w) (list_all is_word_byte w) words);
+      kind = λ h. rw none ek;
+      priority = λ h. rw none refl;
+      longest = no_longer_spelling ls text best n so (omega arith) (omega arith);
+    }
+
+-- comments
+
+ends_line : (xs : List ℕ) → EndsLine (drop (comment_len xs) xs)
+ends_line [] = tt
+ends_line (x ∷ xs) = ends_here (comment_len xs) x xs (is_line_end x) refl (ends_line xs)
+  where
+    ends_here : (m x : ℕ) (xs : List ℕ) (t : Bool) → is_line_end x ≡ t → EndsLine (drop m xs) → EndsLine (drop (cond (not t) (1 + m) 0) (x ∷ xs))
+    ends_here m x xs true h ih = h
+    ends_here m x xs false h ih = rw one-add ih
+
+opens_more : (text : List ℕ) → opens_comment text ≡ true → 0 < comment_len text
+opens_more [] h = cc
+opens_more (b ∷ bs) h =
+    let colon : b ≡ 58 = sym (eqb-true 58 b (and_both (eqb 58 b) _ h).0) in
+    let no_end : is_line_end b ≡ false = rw colon refl in
+    rw no_end (omega arith)
+
+pub comment_piece : (text : List ℕ) (n : ℕ) → opens_comment text ≡ true → opens_pragma text ≡ false → n ≡ comment_len text → IsCommentPiece text n
+comment_piece text n opens pragma e =
+    subst (IsCommentPiece text) (sym e) (record {
+      comment = record {
+        opens = opens;
+        no_pragma = pragma;
+        split = sym (take-append-drop (comment_len text) text);
+        one_line = list_all-prefix (λ b. not (is_line_end b)) text;
+        ends = ends_line text;
+      };
+      some = opens_more text opens;
+      within = prefix_len-le (λ b. not (is_line_end b)) text;
+    })
+
+-- tokens
+
+pub opens_token-so : (text : List ℕ) → 0 < length text → is_separator (get_or text 0 0) ≡ false → opens_comment text ≡ false → opens_token text ≡ true
+opens_token-so [] some h k = absurd (omega arith)
+opens_token-so (b ∷ bs) some h k = rw (h, k) refl
+
+pub token_piece : (ls : List Lexeme) (text : List ℕ) (best : Longest) → opens_token text ≡ true → IsLongestToken ls text best → 0 < best.length → IsTokenPiece ls text best
+token_piece ls text best opens so some =
+    record {
+      token = record {
+        opens = opens;
+        split = sym (take-append-drop best.length text);
+        spells = so.spells some;
+        longest = λ other more e h. omega (arith, so.longest other more e h, length-take-le best.length text so.within);
+      };
+      some = some;
+      within = so.within;
+      kind = so.kind some;
+      priority = so.priority some;
+    }
+
+pub no_token : (ls : List Lexeme) (text : List ℕ) (best : Longest) → opens_token text ≡ true → IsLongestToken ls text best → best.length ≤ 0 → IsBadByte ls text
+no_token ls text best opens so none =
+    record {
+      opens = opens;
+      no_spelling = λ other more e. not_true (is_spelling ls other) (λ h. absurd (omega (arith, so.longest other more e h, ltb-true 0 (length other) (and_both (nat_lt 0 (length other)) _ h).0)));
+    }
+
+not_chosen : (t : Bool) (n : ℕ) → None ≡ cond t (Some n) None → t ≡ false
+not_chosen true n h = cc
+not_chosen false n h = refl
+
+pub no_line_end : (bytes : List ℕ) → None ≡ position is_line_end bytes → length bytes ≡ comment_len bytes
+no_line_end bytes h =
+    let n : ℕ = comment_len bytes in
+    let past : length bytes ≤ n = ltb-false n (length bytes) (not_chosen (nat_lt n (length bytes)) n h) in
+    omega (arith, prefix_len-le (λ b. not (is_line_end b)) bytes)

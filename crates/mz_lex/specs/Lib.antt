@@ -1,0 +1,5 @@
+pub mod Cut
+pub mod Longest
+pub mod Piece
+pub mod SymbolTable
+pub mod Tokens
