@@ -1,5 +1,5 @@
 -- What a shelf answers.
-use Rattle.std.specs.Prelude.{◌≡◌, ℕ, ◌≤◌, nat_le, if◌then◌else◌, List, length, Option, Some, None, Result, Ok, Err}
+use Rattle.std.specs.Prelude.{◌<◌, ◌≡◌, ℕ, ◌≤◌, nat_le, if◌then◌else◌, List, length, Option, Some, None, Result, Ok, Err}
 use Rattle.mz_base.specs.declared.name.Name.{Name}
 use Rattle.mz_io.specs.declared.file_kind.FileKind.{FileKind}
 use Rattle.mz_io.specs.declared.file.File.{File}
@@ -53,3 +53,11 @@ OnFailed (Ok text) P = Unit {0}
 OnFailed (Err Failed) P = P
 OnFailed (Err TooLong) P = Unit {0}
 OnFailed (Err Memory) P = Unit {0}
+
+-- where the bytes are known, a text that was read is all of them, and one that is too long has more than the limit
+abbrev pub IsRead : Option (List ℕ) → Result (List ℕ) FetchFault → Type 0
+IsRead None result = Unit {0}
+IsRead (Some bytes) (Ok text) = text ≡ bytes
+IsRead (Some bytes) (Err Failed) = Unit {0}
+IsRead (Some bytes) (Err TooLong) = text_limit < length bytes
+IsRead (Some bytes) (Err Memory) = Unit {0}

@@ -9,7 +9,7 @@ pub enum FileKind {
 }
 
 impl FileKind {
-    ghost use Rattle.mz_io.specs.File.{same_kind};
+    ghost use Rattle.mz_io.specs.File.{same_kind, extension};
 
     /// Whether both are the same kind.
     pub fn is(self, other: FileKind) -> bool
@@ -20,6 +20,16 @@ impl FileKind {
             (FileKind::Article, FileKind::Vocabulary) => false,
             (FileKind::Vocabulary, FileKind::Article) => false,
             (FileKind::Vocabulary, FileKind::Vocabulary) => true,
+        }
+    }
+
+    /// How the name of such a file ends.
+    pub fn extension(self) -> &'static [u8]
+        ensures { result.now ≡ extension self }
+    {
+        match self {
+            FileKind::Article => b".miz",
+            FileKind::Vocabulary => b".voc",
         }
     }
 }
