@@ -134,3 +134,43 @@ impl<'r, R: Files> Shelf for FolderShelf<'r, R> {
         answer
     }
 }
+
+#[cfg(test)]
+mod tests {
+    use super::*;
+    use std::fs;
+    use std::test::Fail;
+
+    #[test]
+    fn reads_files(rt: HostRuntime) -> Result<(), Fail> {
+        fs::write(&rt, "shelf1.miz", "environ begin")?;
+        let long = vec![in rt.alloc(); b' '; 1_048_577]?;
+        fs::write(&rt, "shelf2.voc", long.as_slice())?;
+        let first = Name::read(b"SHELF1").map_err(|_| "no name")?;
+        let second = Name::read(b"SHELF2").map_err(|_| "no name")?;
+        let folder = Text::from_slice(rt.alloc(), b".")?;
+        let mut shelf = FolderShelf::new(&rt, folder);
+        match shelf.fetch(rt.alloc(), FileKind::Article, &first) {
+            Ok(Some(text)) => assert_eq!(rt; text.as_slice(), b"environ begin".as_slice()),
+            _ => panic!(rt; "another answer"),
+        }
+        assert!(rt;
+            matches!(
+                shelf.fetch(rt.alloc(), FileKind::Vocabulary, &first),
+                Ok(None)
+            )
+        );
+        let answer = shelf.fetch(rt.alloc(), FileKind::Vocabulary, &second);
+        assert!(rt; matches!(answer, Err(FetchFault::TooLong)));
+        assert_eq!(rt; shelf.faults, 0);
+        assert_eq!(rt; shelf.amount, 1_048_590);
+        let folder = Text::from_slice(rt.alloc(), b"shelf1.miz")?;
+        let mut shelf = FolderShelf::new(&rt, folder);
+        let answer = shelf.fetch(rt.alloc(), FileKind::Article, &first);
+        assert!(rt; matches!(answer, Err(FetchFault::Failed)));
+        assert_eq!(rt; shelf.faults, 1);
+        fs::remove_file(&rt, "shelf1.miz")?;
+        fs::remove_file(&rt, "shelf2.voc")?;
+        Ok(())
+    }
+}

@@ -92,3 +92,70 @@ impl Shelf for MemoryShelf {
         }
     }
 }
+
+#[cfg(test)]
+mod tests {
+    use super::*;
+    use crate::file::File;
+    use std::test::Fail;
+
+    fn file(alloc: Global, kind: FileKind, name: &[u8], bytes: &[u8]) -> Result<File, Fail> {
+        Ok(File {
+            kind,
+            name: Name::read(name).map_err(|_| "no name")?,
+            bytes: Text::from_slice(alloc, bytes)?,
+        })
+    }
+
+    #[test]
+    fn gives_the_first_file(rt: HostRuntime) -> Result<(), Fail> {
+        let mut files = FileList::new(rt.alloc());
+        files.push(file(rt.alloc(), FileKind::Vocabulary, b"A", b"RP")?)?;
+        files.push(file(rt.alloc(), FileKind::Article, b"A", b"environ begin")?)?;
+        files.push(file(rt.alloc(), FileKind::Article, b"A", b"later")?)?;
+        files.push(file(rt.alloc(), FileKind::Article, b"B", b"environ")?)?;
+        let fail = Numbers::from_slice(rt.alloc(), &[3, 5])?;
+        let mut shelf = MemoryShelf::new(files, fail);
+        let rows: [(FileKind, &[u8], Result<Option<&[u8]>, FetchFault>, u64, u64); 6] = [
+            (FileKind::Article, b"A", Ok(Some(b"environ begin")), 0, 13),
+            (FileKind::Vocabulary, b"a", Ok(Some(b"RP")), 0, 15),
+            (FileKind::Article, b"A", Err(FetchFault::Failed), 1, 15),
+            (FileKind::Vocabulary, b"B", Ok(None), 1, 15),
+            (FileKind::Article, b"B", Err(FetchFault::Failed), 2, 15),
+            (FileKind::Article, b"B", Ok(Some(b"environ")), 2, 22),
+        ];
+        for (kind, name, expected, faults, amount) in rows {
+            let name = Name::read(name).map_err(|_| "no name")?;
+            match (shelf.fetch(rt.alloc(), kind, &name), expected) {
+                (Ok(Some(text)), Ok(Some(bytes))) => assert_eq!(rt; text.as_slice(), bytes),
+                (Ok(None), Ok(None)) => {}
+                (Err(fault), Err(other)) => assert_eq!(rt; fault, other),
+                _ => panic!(rt; "another answer"),
+            }
+            assert_eq!(rt; shelf.faults, faults);
+            assert_eq!(rt; shelf.amount, amount);
+        }
+        Ok(())
+    }
+
+    #[test]
+    fn refuses_one_byte_too_many(rt: HostRuntime) -> Result<(), Fail> {
+        let name = Name::read(b"A").map_err(|_| "no name")?;
+        for (len, amount) in [(1_048_576, 1_048_576), (1_048_577, 1_048_577)] {
+            let bytes = vec![in rt.alloc(); b' '; len]?;
+            let mut files = FileList::new(rt.alloc());
+            files.push(file(rt.alloc(), FileKind::Article, b"A", bytes.as_slice())?)?;
+            let mut shelf = MemoryShelf::new(files, Numbers::new(rt.alloc()));
+            match shelf.fetch(rt.alloc(), FileKind::Article, &name) {
+                Ok(Some(text)) => {
+                    assert_eq!(rt; text.len(), 1_048_576);
+                    assert_eq!(rt; len, 1_048_576);
+                }
+                Err(FetchFault::TooLong) => assert_eq!(rt; len, 1_048_577),
+                _ => panic!(rt; "another answer"),
+            }
+            assert_eq!(rt; shelf.amount, amount);
+        }
+        Ok(())
+    }
+}
