@@ -52,11 +52,11 @@ is_lower-raised_byte b = grind (arith, nat_tests)
 pub is_name_byte-letter : (b : ℕ) → is_letter b ≡ true → is_name_byte b ≡ true
 is_name_byte-letter b h = grind (arith, nat_tests)
 
-and_left : (a b : Bool) → a && b ≡ true → a ≡ true
+pub and_left : (a b : Bool) → a && b ≡ true → a ≡ true
 and_left true b h = refl
 and_left false b h = h
 
-and_right : (a b : Bool) → a && b ≡ true → b ≡ true
+pub and_right : (a b : Bool) → a && b ≡ true → b ≡ true
 and_right true b h = h
 and_right false b h = cc
 
@@ -85,7 +85,7 @@ is_raised_name-raised (b ∷ bs) h =
     (no_lower-raised (b ∷ bs))
 
 -- what is known of a name's bytes
-name_bytes : (bs : List ℕ) → is_name bs ≡ true → (list_all is_name_byte bs ≡ true) × (length bs ≤ 8)
+pub name_bytes : (bs : List ℕ) → is_name bs ≡ true → (list_all is_name_byte bs ≡ true) × (length bs ≤ 8)
 name_bytes [] h = cc
 name_bytes (b ∷ bs) h =
     let front : is_letter b && nat_le (length bs) 7 ≡ true =
@@ -119,7 +119,7 @@ padded_below_256 [] n h i = zeros_below_256 n i
 padded_below_256 (b ∷ bs) n h zero = let range = is_name_byte_range b (and_left _ _ h) in omega arith
 padded_below_256 (b ∷ bs) n h (suc i) = padded_below_256 bs n (and_right _ _ h) i
 
-length-filled : (bs : List ℕ) → length bs ≤ 8 → length (filled bs) ≡ 8
+pub length-filled : (bs : List ℕ) → length bs ≤ 8 → length (filled bs) ≡ 8
 length-filled bs h = omega (arith, length-append bs (replicate (8 - length bs) 0), length-replicate {A = ℕ} (8 - length bs) 0)
 
 text_of-from_be_bytes : (n : ℕ) (bs : List ℕ) → is_name bs ≡ true → n ≡ from_be_bytes w64 (filled bs) → text_of n ≡ bs

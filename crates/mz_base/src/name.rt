@@ -1,11 +1,14 @@
 //! Names of articles and vocabularies.
 ghost use Rattle.std.specs.Prelude.{◌≡◌, ◌↔◌, IsTrue, IsOk, IfOk, ◌≤◌, length, codes};
 ghost use Rattle.std.specs.List.{list_all};
+ghost use Rattle.std.specs.Ordering.{nat_cmp};
+ghost use Rattle.std.specs.Cmp.Lexicographic.{slice_cmp};
 ghost use Rattle.mz_base.specs.Bytes.{raised_byte, raised, lowered_byte, lowered};
 ghost use Rattle.mz_base.specs.Name.{is_name, is_name_byte, is_raised_name, filled, number_of, text_of, is_built_in};
 
 use crate::text::Text;
 use std::alloc::{AllocError, Global};
+use std::cmp::Ordering;
 
 /// The bytes of `HIDDEN`, filled with zeros to eight, most significant first.
 const HIDDEN: u64 = 0x4849_4444_454e_0000;
@@ -130,6 +133,14 @@ impl Name {
             }
         }
         Ok(text)
+    }
+
+    /// The order of the names' bytes. The derived order of names is the same.
+    pub fn compare(&self, other: &Name) -> Ordering
+        ensures bytes { result ≡ slice_cmp nat_cmp (text_of self.now.number) (text_of other.now.number) }
+        ensures numbers { result ≡ nat_cmp self.now.number other.now.number }
+    {
+        self.cmp(other)
     }
 
     /// Whether the name is one of HIDDEN, TARSKI_0 and TARSKI_A, which are built in.
