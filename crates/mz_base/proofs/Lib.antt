@@ -1,2 +1,3 @@
+pub mod NameEqual
 pub mod NameLemmas
 pub mod NameOrder
