@@ -6,7 +6,7 @@ use Rattle.mz_logic.specs.Formula.{Formula, Eq, Not, And}
 use Rattle.mz_logic.specs.Formulas.{IsMember}
 use Rattle.mz_logic.specs.Indices.{closed}
 use Rattle.mz_logic.specs.Negation.{falsity}
-use Rattle.mz_logic.specs.Replacement.{sides, replaced, kept}
+use Rattle.mz_logic.specs.Replacement.{replaced, kept}
 use Rattle.mz_logic.specs.Derives.{Derives}
 use Rattle.mz_logic.proofs.Rules.{hypothesis, weakening, and_in, and_left, and_right, not_in, not_out, classical, reflexive, replace, cut}
 
@@ -79,7 +79,7 @@ twice_out ax g f d =
 
 -- equations
 pub swapped : (ax g : List Formula) (t u : Term) → closed t ≡ true → closed u ≡ true → Derives ax g (Eq t u) → Derives ax g (Eq u t)
-swapped ax g t u ct cu d = replace ax g t u (Eq t t) (Eq u t) ct cu (sides t u t t replaced (kept t)) d (reflexive ax g t ct)
+swapped ax g t u ct cu d = replace ax g t u (Eq t t) (Eq u t) ct cu (replaced, kept t) d (reflexive ax g t ct)
 
 pub chained : (ax g : List Formula) (t u v : Term) → closed u ≡ true → closed v ≡ true → Derives ax g (Eq t u) → Derives ax g (Eq u v) → Derives ax g (Eq t v)
-chained ax g t u v cu cv d e = replace ax g u v (Eq t u) (Eq t v) cu cv (sides t t u v (kept t) replaced) e d
+chained ax g t u v cu cv d e = replace ax g u v (Eq t u) (Eq t v) cu cv (kept t, replaced) e d

@@ -14,3 +14,4 @@ pub mod Congruence
 pub mod AxiomLaws
 pub mod SameRelation
 pub mod TextExamples
+pub mod ReplacementLemmas

@@ -1,13 +1,14 @@
 -- The rules of derivations, and what is derivable.
 use Rattle.std.specs.Prelude.{◌≡◌, ◌≤◌, ◌-◌, true, false, List, [], ◌∷◌, map, Some, slice_get, All}
 use Rattle.std.specs.List.{list_any}
-use Rattle.mz_logic.specs.Term.{Term, Const}
+use Rattle.mz_logic.specs.Term.{Const}
 use Rattle.mz_logic.specs.Formula as formula
 use Rattle.mz_logic.specs.Formula.{Formula}
 use Rattle.mz_logic.specs.Formulas.{IsMember, sequent}
 use Rattle.mz_logic.specs.Indices.{closed}
 use Rattle.mz_logic.specs.Constants.{formula_mentions}
 use Rattle.mz_logic.specs.Substitution.{body_at}
+use Rattle.mz_logic.specs.Forms.{IfEq, IfNot, IfAnd, IfAll}
 use Rattle.mz_logic.specs.Negation.{falsity}
 use Rattle.mz_logic.specs.Instance.{instance}
 use Rattle.mz_logic.specs.Replacement.{Replaced}
@@ -33,42 +34,6 @@ IfTwo [] P = ⊥
 IfTwo (p ∷ []) P = ⊥
 IfTwo (p ∷ q ∷ []) P = P p q
 IfTwo (p ∷ q ∷ r ∷ ps) P = ⊥
-
--- the formula is an equation of t and u
-abbrev pub IfEq : Formula → (Term → Term → Type 0) → Type 0
-IfEq formula.Truth P = ⊥
-IfEq (formula.Eq t u) P = P t u
-IfEq (formula.Atom s ts) P = ⊥
-IfEq (formula.Not f) P = ⊥
-IfEq (formula.And f g) P = ⊥
-IfEq (formula.All f) P = ⊥
-
--- the formula is the negation of f
-abbrev pub IfNot : Formula → (Formula → Type 0) → Type 0
-IfNot formula.Truth P = ⊥
-IfNot (formula.Eq t u) P = ⊥
-IfNot (formula.Atom s ts) P = ⊥
-IfNot (formula.Not f) P = P f
-IfNot (formula.And f g) P = ⊥
-IfNot (formula.All f) P = ⊥
-
--- the formula is the conjunction of f and g
-abbrev pub IfAnd : Formula → (Formula → Formula → Type 0) → Type 0
-IfAnd formula.Truth P = ⊥
-IfAnd (formula.Eq t u) P = ⊥
-IfAnd (formula.Atom s ts) P = ⊥
-IfAnd (formula.Not f) P = ⊥
-IfAnd (formula.And f g) P = P f g
-IfAnd (formula.All f) P = ⊥
-
--- the formula is a quantifier over the body b
-abbrev pub IfAll : Formula → (Formula → Type 0) → Type 0
-IfAll formula.Truth P = ⊥
-IfAll (formula.Eq t u) P = ⊥
-IfAll (formula.Atom s ts) P = ⊥
-IfAll (formula.Not f) P = ⊥
-IfAll (formula.And f g) P = ⊥
-IfAll (formula.All b) P = P b
 
 -- the parent p gives f from the premises of s
 unfoldable pub Gives : Sequent → Sequent → Formula → Type 0

@@ -10,6 +10,7 @@ pub mod Indices
 pub mod Constants
 pub mod Substitution
 pub mod Negation
+pub mod Forms
 pub mod Letters
 pub mod Instance
 pub mod Replacement

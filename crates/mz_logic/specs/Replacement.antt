@@ -1,9 +1,11 @@
 -- Some occurrences of the term t are replaced by the term u, none included.
-use Rattle.std.specs.Prelude.{List}
+use Rattle.std.specs.Prelude.{◌≡◌}
 use Rattle.mz_logic.specs.declared.sym.Sym.{Sym}
-use Rattle.mz_logic.specs.Term.{Term, Terms, App, none, more, terms_of}
+use Rattle.mz_logic.specs.Term.{Term, Terms, Bound, Const, App, none, more, terms_of}
 use Rattle.mz_logic.specs.Formula.{Formula, Truth, Eq, Atom, Not, And, All}
+use Rattle.mz_logic.specs.Forms.{IfApp, IfEq, IfAtom, IfNot, IfAnd, IfAll}
 
+-- a term and a list of arguments with some occurrences of t replaced by u
 mutual
   pub data TermReplaced (t u : Term) : Term → Term → Type 0 where
     replaced : TermReplaced t u t u
@@ -14,10 +16,17 @@ mutual
     end : ArgsReplaced t u none none
     next : (a b : Term) (xs ys : Terms) → TermReplaced t u a b → ArgsReplaced t u xs ys → ArgsReplaced t u (more a xs) (more b ys)
 
-pub data Replaced (t u : Term) : Formula → Formula → Type 0 where
-  truth : Replaced t u Truth Truth
-  sides : (a b c d : Term) → TermReplaced t u a b → TermReplaced t u c d → Replaced t u (Eq a c) (Eq b d)
-  arguments : (s : Sym) (xs ys : List Term) → ArgsReplaced t u (terms_of xs) (terms_of ys) → Replaced t u (Atom s xs) (Atom s ys)
-  negation : (f g : Formula) → Replaced t u f g → Replaced t u (Not f) (Not g)
-  conjuncts : (f g h k : Formula) → Replaced t u f g → Replaced t u h k → Replaced t u (And f h) (And g k)
-  body : (f g : Formula) → Replaced t u f g → Replaced t u (All f) (All g)
+-- both are applications of one symbol, and the replacement is within the arguments
+abbrev pub WithinReplaced : Term → Term → Term → Term → Type 0
+WithinReplaced t u (Bound index) b = ⊥
+WithinReplaced t u (Const number) b = ⊥
+WithinReplaced t u (App s xs) b = IfApp b (λ r ys. (s ≡ r) × ArgsReplaced t u xs ys)
+
+-- g is f with some occurrences of t replaced by u
+abbrev pub Replaced : Term → Term → Formula → Formula → Type 0
+Replaced t u Truth g = (g ≡ Truth)
+Replaced t u (Eq a c) g = IfEq g (λ b d. TermReplaced t u a b × TermReplaced t u c d)
+Replaced t u (Atom s xs) g = IfAtom g (λ r ys. (s ≡ r) × ArgsReplaced t u (terms_of xs) (terms_of ys))
+Replaced t u (Not f) g = IfNot g (λ k. Replaced t u f k)
+Replaced t u (And f h) g = IfAnd g (λ k l. Replaced t u f k × Replaced t u h l)
+Replaced t u (All f) g = IfAll g (λ k. Replaced t u f k)

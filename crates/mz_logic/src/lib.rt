@@ -15,6 +15,7 @@ pub mod letters;
 pub mod literal;
 pub mod literals;
 pub mod negation;
+pub mod replacement;
 pub mod rule;
 pub mod sameness;
 pub mod sequent;
