@@ -17,7 +17,7 @@ use Rattle.mizv.specs.declared.theorem.Theorem.{Theorem}
 use Rattle.mizv.specs.FirstForm.{IsTheorem}
 use Rattle.mizv.specs.Outcome.{index_of, quantified, erased, has_same_sides, open_fault, faults_of, judged, first_of, Derived}
 use Rattle.mizv.proofs.SpellingLemmas.{same_spelling}
-use Rattle.mizv.proofs.OutcomeLemmas.{index_of-lt-length}
+use Rattle.mizv.proofs.FaultLemmas.{index_of-lt-length}
 
 -- a quantifier over what is derivable at a constant that it doesn't mention
 generalized : (c : ℕ) (b : Formula) → formula_mentions c b ≡ false → Derives [] [] (body_at b (Const c)) → Derives [] [] (formula.All b)

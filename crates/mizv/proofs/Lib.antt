@@ -1,5 +1,6 @@
 pub mod SpellingLemmas
 pub mod CutLemmas
 pub mod TheoremLemmas
-pub mod OutcomeLemmas
+pub mod FaultLemmas
 pub mod DerivedLemmas
+pub mod OutcomeLemmas

@@ -1,84 +1,40 @@
--- The outcome of a text, and the variables that it names.
-use Rattle.std.proofs.Common.{◌≡◌, ℕ, if◌then◌else◌, ◌<◌, ◌≤◌, ◌+◌, ◌-◌, ◌⊎◌, inl, inr, List, [], ◌∷◌, ◌++◌, length, get_or, map, codes, sym, ap, ◌∙◌, subst, refl, Bool, true, false, not, arith, reverse}
-use Rattle.std.proofs.lemmas.List.{length-reverse, get_or-reverse, get_or_default}
-use Rattle.std.proofs.lemmas.List.Sums.{fails_before_first, prefix_len_stops, prefix_len-le-length}
-use Rattle.std.specs.List.{All, Contains, position_or_len, filter}
-use Rattle.std.specs.Str.{bytes_eq}
-use Rattle.mizv.specs.declared.fault.Fault.{Fault}
+-- There is one outcome, and what it accepts is derivable.
+use Rattle.std.specs.Prelude.{Result, Ok, Err, IfOk}
+use Rattle.std.proofs.Common.{◌≡◌, ℕ, ◌⊎◌, inl, inr, List, sym, ap, ◌∙◌, subst, refl}
+use Rattle.std.specs.List.{All}
+use Rattle.std.specs.declared.alloc.AllocError.{AllocError}
 use Rattle.mizv.specs.declared.theorem.Theorem.{Theorem}
 use Rattle.mizv.specs.declared.first_article.First.{First}
-use Rattle.mizv.specs.declared.first_article.First.TheVariants.{Accepted, Rejected}
-use Rattle.mizv.specs.declared.word.Word.{Word}
-use Rattle.mizv.specs.FirstForm.{IsTheorem, HasFirstForm, ReadsArticle}
-use Rattle.mizv.specs.Outcome.{index_of, has_same_sides, open_fault, faults_of, judged, first_of, not_built, Outcome}
-use Rattle.mizv.proofs.SpellingLemmas.{same_spelling, bytes_eq-same}
-use Rattle.mizv.proofs.TheoremLemmas.{read_are_theorems}
-
--- a name that is listed stands at its index
-index_of-listed : (vs : List (List ℕ)) (name : List ℕ) → Contains vs name → (index_of vs name < length vs) × (bytes_eq (get_or (reverse vs) (index_of vs name) name) name ≡ true)
-index_of-listed vs name listed =
-    let p : List ℕ → Bool = λ v. bytes_eq v name in
-    let k : ℕ = length vs - 1 - listed.0 in
-    let lt : k < length vs = omega (arith, listed.1) in
-    let back : length vs - 1 - k ≡ listed.0 = omega (arith, listed.1) in
-    let at : get_or (reverse vs) k name ≡ name = get_or-reverse vs k name lt ∙ ap (λ j. get_or vs j name) back ∙ listed.2 in
-    let passes : p (get_or (reverse vs) k name) ≡ true = bytes_eq-same (get_or (reverse vs) k name) name at in
-    let len : length (reverse vs) ≡ length vs = length-reverse vs in
-    let within : index_of vs name ≤ k = not_above (index_of vs name) k (λ h. true_is_not_false (sym passes ∙ fails_before_first p (reverse vs) k name h)) in
-    let stops : not (p (get_or (reverse vs) (index_of vs name) name)) ≡ false = prefix_len_stops (λ v. not (p v)) (reverse vs) name (omega (arith, len, within, lt)) in
-    (omega (arith, within, lt), not_false (p (get_or (reverse vs) (index_of vs name) name)) stops)
-  where
-    not_above : (m n : ℕ) → (n < m → ⊥) → m ≤ n
-    not_above m n h = omega (arith, h)
-
-    true_is_not_false : true ≡ false → ⊥
-    true_is_not_false e = cc
-
-    not_false : (b : Bool) → not b ≡ false → b ≡ true
-    not_false true e = refl
-    not_false false e = cc
-
-pub index_of-lt-length : (vs : List (List ℕ)) (name : List ℕ) → Contains vs name → index_of vs name < length vs
-index_of-lt-length vs name listed = (index_of-listed vs name listed).0
-
-pub index_of-le-length : (vs : List (List ℕ)) (name : List ℕ) → index_of vs name ≤ length vs
-index_of-le-length vs name = omega (arith, prefix_len-le-length (λ v. not (bytes_eq v name)) (reverse vs), length-reverse vs)
-
--- two names with one index are one
-pub index_of-inj : (vs : List (List ℕ)) (l r : List ℕ) → Contains vs l → Contains vs r → index_of vs l ≡ index_of vs r → l ≡ r
-index_of-inj vs l r hl hr e =
-    let al : (index_of vs l < length vs) × (bytes_eq (get_or (reverse vs) (index_of vs l) l) l ≡ true) = index_of-listed vs l hl in
-    let ar : (index_of vs r < length vs) × (bytes_eq (get_or (reverse vs) (index_of vs r) r) r ≡ true) = index_of-listed vs r hr in
-    let il : get_or (reverse vs) (index_of vs l) l ≡ l = same_spelling (get_or (reverse vs) (index_of vs l) l) l al.1 in
-    let ir : get_or (reverse vs) (index_of vs r) r ≡ r = same_spelling (get_or (reverse vs) (index_of vs r) r) r ar.1 in
-    let len : length (reverse vs) ≡ length vs = length-reverse vs in
-    let at : get_or (reverse vs) (index_of vs r) l ≡ get_or (reverse vs) (index_of vs r) r = get_or_default (reverse vs) (index_of vs r) l r (omega (arith, len, ar.0)) in
-    sym il ∙ ap (λ k. get_or (reverse vs) k l) e ∙ at ∙ ir
-
-pub faults_of-first : (t : Theorem) (ts : List Theorem) → faults_of (t ∷ ts) ≡ faults_of (t ∷ []) ++ faults_of ts
-faults_of-first t ts = elim (has_same_sides t) as (λ b. map open_fault (if not b then t ∷ filter (λ u. not (has_same_sides u)) ts else filter (λ u. not (has_same_sides u)) ts) ≡ map open_fault (if not b then t ∷ [] else []) ++ faults_of ts) [ true ↦ refl | false ↦ refl ]
-
-pub faults_of-same : (t : Theorem) → t.left ≡ t.right → faults_of (t ∷ []) ≡ []
-faults_of-same t e = ap (λ b. map open_fault (if not b then t ∷ [] else [])) (bytes_eq-same t.left t.right e)
-
-pub faults_of-other : (t : Theorem) → (t.left ≡ t.right → ⊥) → faults_of (t ∷ []) ≡ open_fault t ∷ []
-faults_of-other t h =
-    elim (has_same_sides t) as (λ b. has_same_sides t ≡ b → map open_fault (if not b then t ∷ [] else []) ≡ open_fault t ∷ []) [ true ↦ (λ e. absurd (h (same_spelling t.left t.right e))) | false ↦ (λ e. refl) ] refl
-
--- the theorems of a text of the first form are theorems
-article_theorems : (ws : List Word) (ts : List Theorem) → ReadsArticle ws ts → All IsTheorem ts
-article_theorems [] ts r = absurd r
-article_theorems (environ ∷ []) ts r = absurd r
-article_theorems (environ ∷ begin ∷ ws) ts r = read_are_theorems ws ts r.2
-
-pub form_theorems : (bytes : List ℕ) (ts : List Theorem) → HasFirstForm bytes ts → All IsTheorem ts
-form_theorems bytes ts h = article_theorems h.1.0 ts h.1.2
+use Rattle.mizv.specs.FirstForm.{IsTheorem, HasFirstForm}
+use Rattle.mizv.specs.Outcome.{first_of, not_built, Outcome, Derived}
+use Rattle.mizv.proofs.DerivedLemmas.{derived_first_of}
 
 -- there is one outcome
-pub only_judged : (bytes : List ℕ) (ts : List Theorem) (r : First) → HasFirstForm bytes ts → ((us : List Theorem) → HasFirstForm bytes us → us ≡ ts) → r ≡ first_of ts → (other : First) → Outcome bytes other → other ≡ r
-only_judged bytes ts r form only e other o =
-    elim o [ inl h ↦ h.2 ∙ ap first_of (only h.0 h.1) ∙ sym e | inr h ↦ absurd (h.0 ts form) ]
+only_judged : (bytes : List ℕ) (ts : List Theorem) → HasFirstForm bytes ts → ((us : List Theorem) → HasFirstForm bytes us → us ≡ ts) → (other : First) → Outcome bytes other → other ≡ first_of ts
+only_judged bytes ts form only other o =
+    elim o [ inl h ↦ h.2 ∙ ap first_of (only h.0 h.1) | inr h ↦ absurd (h.0 ts form) ]
 
-pub only_not_built : (bytes : List ℕ) (r : First) → ((ts : List Theorem) → HasFirstForm bytes ts → ⊥) → r ≡ not_built → (other : First) → Outcome bytes other → other ≡ r
-only_not_built bytes r none e other o =
-    elim o [ inl h ↦ absurd (none h.0 h.1) | inr h ↦ h.1 ∙ sym e ]
+only_not_built : (bytes : List ℕ) → ((ts : List Theorem) → HasFirstForm bytes ts → ⊥) → (other : First) → Outcome bytes other → other ≡ not_built
+only_not_built bytes none other o =
+    elim o [ inl h ↦ absurd (none h.0 h.1) | inr h ↦ h.1 ]
+
+-- what holds of one outcome holds of a result with this outcome
+IfOk-same : (P : First → Type 0) (value : First) (r : Result First AllocError) → IfOk r (λ x. x ≡ value) → P value → IfOk r P
+IfOk-same P value (Ok x) e h = subst P (sym e) h
+IfOk-same P value (Err x) e h = tt
+
+pub outcome_not_built : (bytes : List ℕ) (r : Result First AllocError) → ((ts : List Theorem) → HasFirstForm bytes ts → ⊥) → IfOk r (λ x. x ≡ not_built) → IfOk r (Outcome bytes)
+outcome_not_built bytes r none e = IfOk-same (Outcome bytes) not_built r e (inr (none, refl))
+
+pub outcome_judged : (bytes : List ℕ) (ts us : List Theorem) (r : Result First AllocError) → HasFirstForm bytes ts → us ≡ ts → IfOk r (λ x. x ≡ first_of us) → IfOk r (Outcome bytes)
+outcome_judged bytes ts us r form same e = IfOk-same (Outcome bytes) (first_of us) r e (inl (ts, form, ap first_of same))
+
+pub only_outcome_not_built : (bytes : List ℕ) (r : Result First AllocError) → ((ts : List Theorem) → HasFirstForm bytes ts → ⊥) → IfOk r (λ x. x ≡ not_built) → IfOk r (λ x. (other : First) → Outcome bytes other → other ≡ x)
+only_outcome_not_built bytes r none e = IfOk-same (λ x. (other : First) → Outcome bytes other → other ≡ x) not_built r e (only_not_built bytes none)
+
+pub only_outcome_judged : (bytes : List ℕ) (ts us : List Theorem) (r : Result First AllocError) → HasFirstForm bytes ts → ((vs : List Theorem) → HasFirstForm bytes vs → vs ≡ ts) → us ≡ ts → IfOk r (λ x. x ≡ first_of us) → IfOk r (λ x. (other : First) → Outcome bytes other → other ≡ x)
+only_outcome_judged bytes ts us r form only same e =
+    IfOk-same (λ x. (other : First) → Outcome bytes other → other ≡ x) (first_of us) r e (λ other o. only_judged bytes ts form only other o ∙ ap first_of (sym same))
+
+pub derived_judged : (ts us : List Theorem) (r : Result First AllocError) → All IsTheorem ts → us ≡ ts → IfOk r (λ x. x ≡ first_of us) → IfOk r Derived
+derived_judged ts us r theorems same e = IfOk-same Derived (first_of us) r e (subst (λ vs. Derived (first_of vs)) (sym same) (derived_first_of ts theorems))

@@ -1,5 +1,5 @@
 -- The outcome of a text of the first form, and of any other text.
-use Rattle.std.specs.Prelude.{◌≡◌, ℕ, ◌⊎◌, List, [], ◌∷◌, Bool, not, All, Some, None, filter, map, reverse}
+use Rattle.std.specs.Prelude.{◌≡◌, ℕ, ◌+◌, ◌⊎◌, List, [], ◌∷◌, Bool, not, All, Some, None, filter, map, reverse}
 use Rattle.std.specs.List.{position_or_len}
 use Rattle.std.specs.Str.{bytes_eq}
 use Rattle.mz_base.specs.Place.{start}
@@ -26,6 +26,10 @@ quantified (v ∷ vs) f = formula.All (quantified vs f)
 -- the formula of a theorem
 abbrev pub erased : Theorem → Formula
 erased t = quantified t.variables (formula.Eq (term.Bound (index_of t.variables t.left)) (term.Bound (index_of t.variables t.right)))
+
+-- the equation of a theorem with a constant for each variable: 1 for the last one, and so on
+abbrev pub instance_of : Theorem → Formula
+instance_of t = formula.Eq (term.Const (index_of t.variables t.left + 1)) (term.Const (index_of t.variables t.right + 1))
 
 -- a theorem whose sides are two identifiers is open in the only disjunct of its step, which stands at its `;`
 abbrev pub open_fault : Theorem → Fault

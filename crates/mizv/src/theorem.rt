@@ -1,7 +1,7 @@
 //! Theorems of the first form.
-ghost use Rattle.std.specs.Prelude.{◌≡◌, ◌↔◌, ◌≤◌, [], ◌∷◌, ◌++◌, List, ℕ, IsTrue, IsNone, IfOk, IfSome, MatchOption, length, take, drop, true, codes, map, Contains};
+ghost use Rattle.std.specs.Prelude.{◌≡◌, ◌↔◌, ◌≤◌, [], ◌∷◌, ◌++◌, List, ℕ, IsTrue, IsNone, IfOk, IfSome, MatchOption, length, take, drop, true, codes, map, All, Contains};
 ghost use Rattle.std.specs.List.{list_all};
-ghost use Rattle.mizv.specs.FirstForm.{is_identifier, spellings, theorem_words, Reads};
+ghost use Rattle.mizv.specs.FirstForm.{is_identifier, spellings, theorem_words, IsTheorem, Reads};
 ghost use Rattle.mizv.specs.Reading.{is_identifier_list, every_second, ReadsTheorem, is_inner, StopsAtSemicolon, IsFrame, IsFit};
 ghost use Rattle.mizv.specs.declared.theorem.Theorem.{Theorem};
 
@@ -207,6 +207,7 @@ pub fn read_theorems(alloc: Global, words: &[Word]) -> Result<Option<Vec<Theorem
     ensures none { IfOk result (λ r. IsNone r → (ts : List Theorem) → Reads words.now ts → ⊥) }
     ensures found { IfOk result (λ r. IfSome r (λ v. Reads words.now v.items)) }
     ensures only { IfOk result (λ r. IfSome r (λ v. (ts : List Theorem) → Reads words.now ts → ts ≡ v.items)) }
+    ensures theorems { IfOk result (λ r. IfSome r (λ v. All IsTheorem v.items)) }
 {
     let mut theorems = Vec::new(alloc);
     let mut rest = words;

@@ -1,5 +1,5 @@
 use Rattle.std.proofs.Common.{ap, is_some}
-use Rattle.mizv.proofs.TheoremLemmas.{no_theorem, read_step, no_semicolon, all_read, only_read}
+use Rattle.mizv.proofs.TheoremLemmas.{no_theorem, read_step, no_semicolon, all_read, only_read, read_are_theorems}
 use Rattle.mizv.proofs.theorem.read_theorems.Goals as goal
 
 pub returns-in_default-clause-none : goal.returns-in_default-clause-none
@@ -21,3 +21,6 @@ returns-clause-found c = all_read _ _ _ c.loop-rest.invariant c.loop-rest-test.e
 
 pub returns-clause-only : goal.returns-clause-only
 returns-clause-only c = only_read _ _ _ c.loop-rest.invariant c.loop-rest-test.ensures
+
+pub returns-clause-theorems : goal.returns-clause-theorems
+returns-clause-theorems c = read_are_theorems _ _ (all_read _ _ _ c.loop-rest.invariant c.loop-rest-test.ensures)
