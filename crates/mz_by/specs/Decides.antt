@@ -2,7 +2,7 @@
 use Rattle.std.specs.Prelude.{◌≡◌, ℕ}
 use Rattle.mz_logic.specs.Term.{Term, Bound, Const, App}
 use Rattle.mz_logic.specs.Formula.{Formula}
-use Rattle.mz_logic.specs.Derives.{IfEq}
+use Rattle.mz_logic.specs.Forms.{IfEq}
 use Rattle.mz_by.specs.declared.by_verdict.ByVerdict.{ByVerdict}
 use Rattle.mz_by.specs.declared.by_verdict.ByVerdict.TheVariants.{Closed, Open, Over}
 
