@@ -1,4 +1,5 @@
 pub mod CutLemmas
+pub mod HeadLemmas
 pub mod LongestLemmas
 pub mod OneCutLemmas
 pub mod PieceLemmas

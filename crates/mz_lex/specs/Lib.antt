@@ -1,5 +1,10 @@
+pub mod BuiltIn
 pub mod Cut
+pub mod Expected
+pub mod Head
+pub mod HeadFault
 pub mod Longest
 pub mod Piece
+pub mod Sign
 pub mod SymbolTable
 pub mod Tokens

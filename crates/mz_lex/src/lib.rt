@@ -1,10 +1,15 @@
 //! The one cut of a text into tokens, and the environment part.
 #![tactic(auto)]
 
+pub mod built_in;
 pub mod cut;
+pub mod expected;
+pub mod head;
+pub mod head_fault;
 pub mod lex_fault;
 pub mod lexeme;
 pub mod longest;
 pub mod piece;
+pub mod sign;
 pub mod symbol_table;
 pub mod tokens;
