@@ -15,3 +15,5 @@ pub mod AxiomLaws
 pub mod SameRelation
 pub mod TextExamples
 pub mod ReplacementLemmas
+pub mod InstanceTestLemmas
+pub mod SubstitutionLaws

@@ -24,3 +24,4 @@ pub mod ConstantTerm
 pub mod Equality
 pub mod Laws
 pub mod Text
+pub mod InstanceTest

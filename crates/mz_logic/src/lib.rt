@@ -8,6 +8,7 @@ pub mod disjuncts;
 pub mod formula;
 pub mod formulas;
 pub mod indices;
+pub mod instance_check;
 pub mod instances;
 pub mod kind;
 pub mod laws;
