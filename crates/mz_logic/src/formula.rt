@@ -7,7 +7,8 @@ use crate::term::{Term, Terms};
 use std::alloc::{AllocError, Global};
 use std::marker::Model;
 
-/// A formula. It counts how deep its quantifiers nest.
+/// A formula of first-order logic. `binders` is how deep its quantifiers nest, so that a call which
+/// takes no memory may count those it goes through.
 #[cycle(formula)]
 #[derive(Drop)]
 pub struct Formula {
@@ -15,7 +16,8 @@ pub struct Formula {
     pub binders: u32,
 }
 
-/// The forms of a formula.
+/// The forms of a formula: truth, an equation, a symbol with its arguments, a negation, a
+/// conjunction, and a quantifier over its body, in which `Bound(0)` is the quantifier's own index.
 #[cycle(formula)]
 #[derive(Drop)]
 pub enum FormulaNode {
@@ -49,6 +51,7 @@ impl Model for Formula {
 }
 
 impl Formula {
+    /// Truth.
     pub fn truth() -> Formula
         ensures { result ≡ Truth }
     {
@@ -58,6 +61,7 @@ impl Formula {
         }
     }
 
+    /// An equation.
     pub fn equation(left: Term, right: Term) -> Formula
         ensures { result ≡ Eq left right }
     {
@@ -67,6 +71,7 @@ impl Formula {
         }
     }
 
+    /// A symbol applied to arguments.
     pub fn atom(sym: Sym, args: Terms) -> Formula
         ensures { result ≡ Atom sym args }
     {
@@ -76,6 +81,7 @@ impl Formula {
         }
     }
 
+    /// The negation of `f`, also where that is a double one.
     pub fn not(alloc: Global, f: Formula) -> Result<Formula, AllocError>
         ensures { IfOk result (λ g. g ≡ Not f) }
     {
@@ -87,6 +93,7 @@ impl Formula {
         })
     }
 
+    /// The conjunction of `f` and `g`.
     pub fn and(alloc: Global, f: Formula, g: Formula) -> Result<Formula, AllocError>
         ensures { IfOk result (λ h. h ≡ And f g) }
     {

@@ -6,14 +6,15 @@ use crate::sym::Sym;
 use std::alloc::{AllocError, Global};
 use std::marker::Model;
 
-/// A term.
+/// A term of first-order logic.
 #[cycle(term)]
 #[derive(Drop)]
 pub struct Term {
     pub node: TermNode,
 }
 
-/// The forms of a term.
+/// The forms of a term: the index of a binder, from 0 for the innermost; a constant, by its number;
+/// a symbol with its arguments.
 #[cycle(term)]
 #[derive(Drop)]
 pub enum TermNode {
@@ -22,7 +23,7 @@ pub enum TermNode {
     App(Sym, Terms),
 }
 
-/// A list of terms.
+/// A list of terms, as the arguments of a symbol.
 #[cycle(term)]
 #[derive(Drop)]
 pub struct Terms {
@@ -66,6 +67,7 @@ impl Model for Terms {
 }
 
 impl Term {
+    /// The index of a binder, from 0 for the innermost.
     pub fn bound(index: u32) -> Term
         ensures { result ≡ Bound index }
     {
@@ -74,6 +76,7 @@ impl Term {
         }
     }
 
+    /// The constant with a number.
     pub fn constant(number: u32) -> Term
         ensures { result ≡ Const number }
     {
@@ -82,6 +85,7 @@ impl Term {
         }
     }
 
+    /// A symbol applied to arguments.
     pub fn apply(sym: Sym, args: Terms) -> Term
         ensures { result ≡ App sym (terms_of args) }
     {
@@ -105,6 +109,7 @@ impl Term {
         }
     }
 
+    /// Whether it is this index of a binder.
     pub fn is_bound(&self, index: u32) -> bool
         ensures { IsTrue result ↔ (self.now ≡ Bound index) }
     {
@@ -114,6 +119,7 @@ impl Term {
         }
     }
 
+    /// Whether it is the constant with this number.
     pub fn is_const(&self, number: u32) -> bool
         ensures { IsTrue result ↔ (self.now ≡ Const number) }
     {
@@ -139,6 +145,7 @@ impl Term {
 }
 
 impl Terms {
+    /// No terms.
     pub fn new(alloc: Global) -> Terms
         ensures { result ≡ [] }
     {
@@ -147,12 +154,14 @@ impl Terms {
         }
     }
 
+    /// How many there are.
     pub fn len(&self) -> usize
         ensures { result ≡ length self.now }
     {
         self.items.len()
     }
 
+    /// The term at an index from 0.
     pub fn get(&self, index: usize) -> &Term
         requires { index < length self.now }
         ensures { slice_get self.now index ≡ Some result.now }
@@ -160,6 +169,7 @@ impl Terms {
         &self.items[index]
     }
 
+    /// Puts a term at the end.
     pub fn push(&mut self, t: Term) -> Result<(), AllocError>
         ensures ok { OnOk result (self.new ≡ self.old ++ t ∷ []) }
         ensures err { OnErr result (self.new ≡ self.old) }
