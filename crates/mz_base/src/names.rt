@@ -8,6 +8,7 @@ use std::marker::Model;
 /// A list of names.
 #[derive(Debug, Drop)]
 pub struct Names {
+    /// The names, in order.
     pub items: Vec<Name>,
 }
 

@@ -7,6 +7,7 @@ use std::marker::Model;
 /// A list of numbers.
 #[derive(Debug, Drop)]
 pub struct Numbers {
+    /// The numbers, in order.
     pub items: Vec<u64>,
 }
 

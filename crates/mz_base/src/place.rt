@@ -4,7 +4,9 @@ ghost use Rattle.std.specs.Prelude.{◌≡◌, ◌+◌, ◌<◌, ◌≤◌, ◌^
 /// A line and a column, both from 1. A column counts bytes. A line ends after its byte 10.
 #[derive(Clone, Copy, Debug, PartialEq, Eq, PartialOrd, Ord)]
 pub struct Place {
+    /// The line, from 1.
     pub line: u64,
+    /// The column in bytes, from 1.
     pub column: u64,
 }
 

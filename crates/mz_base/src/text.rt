@@ -7,6 +7,7 @@ use std::marker::Model;
 /// A list of bytes.
 #[derive(Debug, Drop)]
 pub struct Text {
+    /// The bytes, in order.
     pub items: Vec<u8>,
 }
 

@@ -8,8 +8,11 @@ use mz_base::text::Text;
 /// A file: its kind, its name and its bytes.
 #[derive(Debug, Drop)]
 pub struct File {
+    /// Article or vocabulary.
     pub kind: FileKind,
+    /// Its name, without the ending of its kind.
     pub name: Name,
+    /// What it holds.
     pub bytes: Text,
 }
 

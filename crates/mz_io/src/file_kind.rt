@@ -4,7 +4,9 @@ ghost use Rattle.std.specs.Prelude.{◌≡◌};
 /// What a file is. Article NAME is the file `name.miz` and vocabulary NAME the file `name.voc`.
 #[derive(Clone, Copy, Debug, PartialEq, Eq)]
 pub enum FileKind {
+    /// A text with theorems and definitions.
     Article,
+    /// A list of symbols.
     Vocabulary,
 }
 

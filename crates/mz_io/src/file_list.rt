@@ -12,6 +12,7 @@ use std::marker::Model;
 /// A list of files. Of several with the same kind and name the first counts.
 #[derive(Debug, Drop)]
 pub struct FileList {
+    /// The files, in order.
     pub items: Vec<File>,
 }
 

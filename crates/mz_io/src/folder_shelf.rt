@@ -18,9 +18,13 @@ use std::rt::Files;
 /// and vocabulary NAME the file `name.voc`, in lower case. A file that is not there is no text.
 #[derive(Drop)]
 pub struct FolderShelf<'r, R: Files> {
+    /// What opens the files.
     pub rt: &'r R,
+    /// The path of the folder.
     pub folder: Text,
+    /// How many calls failed.
     pub faults: u64,
+    /// The bytes given, a text that is too long counting as 1,048,577.
     pub amount: u64,
     pub ghost faults_fit: { faults ≤ last_count },
     pub ghost amount_fits: { amount ≤ last_count },

@@ -16,10 +16,15 @@ use std::alloc::Global;
 /// in `fail` fail.
 #[derive(Debug, Drop)]
 pub struct MemoryShelf {
+    /// What the shelf tells.
     pub files: FileList,
+    /// The numbers of the calls that fail.
     pub fail: Numbers,
+    /// How many calls there were.
     pub calls: u64,
+    /// How many of them failed.
     pub faults: u64,
+    /// The bytes given, a text that is too long counting as 1,048,577.
     pub amount: u64,
     pub ghost faults_fit: { faults ≤ last_count },
     pub ghost amount_fits: { amount ≤ last_count },

@@ -15,10 +15,15 @@ pub const SINK_ROOM: usize = 1_048_576;
 /// fail, and so does a call with some bytes where no room is left.
 #[derive(Debug, Drop)]
 pub struct MemorySink {
+    /// The most bytes that a call takes.
     pub step: usize,
+    /// The numbers of the calls that fail.
     pub fail: Numbers,
+    /// How many calls there were.
     pub calls: u64,
+    /// How many of them failed.
     pub faults: u64,
+    /// The bytes taken, in the room that was reserved.
     pub taken: Vec<u8>,
     pub ghost faults_fit: { faults ≤ last_count },
     pub ghost positive: { 1 ≤ step },

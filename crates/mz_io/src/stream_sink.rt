@@ -13,7 +13,9 @@ use std::io::Write;
 /// bytes.
 #[derive(Drop)]
 pub struct StreamSink<W: Write + Drop> {
+    /// What the bytes are handed to.
     pub writer: W,
+    /// How many calls failed.
     pub faults: u64,
     pub ghost faults_fit: { faults ≤ last_count },
 }
