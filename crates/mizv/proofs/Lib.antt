@@ -4,3 +4,5 @@ pub mod TheoremLemmas
 pub mod FaultLemmas
 pub mod DerivedLemmas
 pub mod OutcomeLemmas
+pub mod RunLemmas
+pub mod PlaceLemmas

@@ -1,8 +1,9 @@
 -- The outcome of a text of the first form, and of any other text.
-use Rattle.std.specs.Prelude.{◌≡◌, ℕ, ◌+◌, ◌⊎◌, List, [], ◌∷◌, Bool, not, All, Some, None, filter, map, reverse}
+use Rattle.std.specs.Prelude.{◌≡◌, ℕ, ◌+◌, ◌≤◌, ◌⊎◌, List, length, [], ◌∷◌, Bool, not, All, Some, None, filter, map, reverse}
 use Rattle.std.specs.List.{position_or_len}
 use Rattle.std.specs.Str.{bytes_eq}
-use Rattle.mz_base.specs.Place.{start}
+use Rattle.mz_base.specs.Place.{start, place_at}
+use Rattle.mz_base.specs.declared.place.Place.{Place}
 use Rattle.mz_base.specs.declared.rule_code.RuleCode.TheVariants.{NotBuilt, Open}
 use Rattle.mz_logic.specs.Term as term
 use Rattle.mz_logic.specs.Formula as formula
@@ -51,8 +52,11 @@ abbrev pub first_of : List Theorem → First
 first_of ts = judged ts (faults_of ts)
 
 -- a text without the first form has one fault, at its first byte
+abbrev pub not_built_fault : Fault
+not_built_fault = record { place = start; code = NotBuilt; number = None }
+
 abbrev pub not_built : First
-not_built = Rejected (record { place = start; code = NotBuilt; number = None } ∷ [])
+not_built = Rejected (not_built_fault ∷ [])
 
 -- what is said of a text
 abbrev pub Outcome : List ℕ → First → Type 0
@@ -64,3 +68,12 @@ Outcome bytes r =
 abbrev pub Derived : First → Type 0
 Derived (Accepted fs) = All (Derives [] []) fs
 Derived (Rejected faults) = Unit {0}
+
+-- the place is that of a byte of the text, or just after its last byte
+abbrev pub IsPlaceIn : List ℕ → Place → Type 0
+IsPlaceIn bytes place = (k : ℕ) × (k ≤ length bytes) × (place ≡ place_at bytes k)
+
+-- each fault stands in the text, or just after its last byte
+abbrev pub ArePlacesIn : List ℕ → First → Type 0
+ArePlacesIn bytes (Accepted fs) = Unit {0}
+ArePlacesIn bytes (Rejected faults) = All (λ f. IsPlaceIn bytes f.place) faults

@@ -1,6 +1,7 @@
 //! Faults of an article.
 use mz_base::place::Place;
 use mz_base::rule_code::RuleCode;
+use std::alloc::Global;
 use std::marker::Model;
 
 /// A fault of an article: where it is, its code, and the number that comes with the code, if one does.
@@ -28,4 +29,17 @@ impl Model for Faults {
     ghost coded = { coded_list the_row.coded };
 
     ghost view = { λ a. a.items.items };
+}
+
+impl Faults {
+    ghost use Rattle.std.specs.Prelude.{◌≡◌, []};
+
+    /// No fault, which takes no memory yet.
+    pub fn new(alloc: Global) -> Faults
+        ensures { result ≡ [] }
+    {
+        Faults {
+            items: Vec::new(alloc),
+        }
+    }
 }

@@ -6,7 +6,7 @@ ghost use Rattle.mz_by.specs.Decides.{Decides};
 ghost use Rattle.mizv.specs.declared.first_article.First.{First};
 ghost use Rattle.mizv.specs.declared.theorem.Theorem.{Theorem};
 ghost use Rattle.mizv.specs.FirstForm.{IsTheorem, HasFirstForm};
-ghost use Rattle.mizv.specs.Outcome.{index_of, instance_of, quantified, erased, faults_of, first_of, not_built, Outcome, Derived};
+ghost use Rattle.mizv.specs.Outcome.{index_of, instance_of, quantified, erased, faults_of, first_of, not_built, Outcome, Derived, ArePlacesIn};
 
 use crate::fault::{Fault, Faults};
 use crate::theorem::{Identifiers, Theorem, read_theorems};
@@ -195,6 +195,7 @@ pub fn first_article(alloc: Global, bytes: &[u8]) -> Result<First, AllocError>
     ensures outcome { IfOk result (Outcome bytes.now) }
     ensures only { IfOk result (λ r. (other : First) → Outcome bytes.now other → other ≡ r) }
     ensures derived { IfOk result Derived }
+    ensures places { IfOk result (ArePlacesIn bytes.now) }
 {
     match read_article(alloc, bytes)? {
         Some(theorems) => judged(alloc, theorems.as_slice()),
