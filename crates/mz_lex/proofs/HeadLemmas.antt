@@ -241,7 +241,7 @@ module _ (ts : List Token) (t : Token) (e next : Expected) (s : Sign) (ds : List
     runs = runs_now;
     named = named;
     some = λ h. some (sym en ∙ h);
-    fresh = λ h. fresh (sym en ∙ h)
+    fresh = λ h. fresh (sym en ∙ h);
   }
 
   matched : (e' : Expected) → e ≡ e' → Matches (spelled_by e' ds k p ns) ts
@@ -270,7 +270,7 @@ module _ (ts : List Token) (t : Token) (e next : Expected) (s : Sign) (ds : List
       let o = name_only e next (subst (λ z. Some next ≡ next_of e z) is goes) in
       let D = spell_directives ds in
       let same : AWord signs.Environ ∷ (D ++ ADirective k p ∷ names_between ns') ≡ (AWord signs.Environ ∷ (D ++ ADirective k p ∷ names_then ns)) ++ AName n ∷ [] =
-          ap (λ z. AWord signs.Environ ∷ (D ++ ADirective k p ∷ z)) (ap names_between en ∙ names_between-push ns n) ∙ ap (λ z. AWord signs.Environ ∷ z) (sym (append_assoc D (ADirective k p ∷ names_then ns) (AName n ∷ []))) in
+      ap (λ z. AWord signs.Environ ∷ (D ++ ADirective k p ∷ z)) (ap names_between en ∙ names_between-push ns n) ∙ ap (λ z. AWord signs.Environ ∷ z) (sym (append_assoc D (ADirective k p ∷ names_then ns) (AName n ∷ []))) in
       built AtSign ds k p ns' o.1 (one_more (AWord signs.Environ ∷ (D ++ ADirective k p ∷ names_then ns)) (AWord signs.Environ ∷ (D ++ ADirective k p ∷ names_between ns')) (AName n) same (matched AtName o.0) (sym es ∙ is, number, place)) so.named (λ h. omega (arith, ap length en, length-append ns (n ∷ []))) (λ h. cc)
 
   pub past_comma : s ≡ signs.Comma → HeadSoFar (ts ++ t ∷ []) next ds k p ns
@@ -278,7 +278,7 @@ module _ (ts : List Token) (t : Token) (e next : Expected) (s : Sign) (ds : List
       let o = comma_only e next (subst (λ z. Some next ≡ next_of e z) is goes) in
       let D = spell_directives ds in
       let same : AWord signs.Environ ∷ (D ++ ADirective k p ∷ names_then ns) ≡ (AWord signs.Environ ∷ (D ++ ADirective k p ∷ names_between ns)) ++ AWord signs.Comma ∷ [] =
-          ap (λ z. AWord signs.Environ ∷ (D ++ ADirective k p ∷ z)) (some_names_then ns (so.some o.0)) ∙ ap (λ z. AWord signs.Environ ∷ z) (sym (append_assoc D (ADirective k p ∷ names_between ns) (AWord signs.Comma ∷ []))) in
+      ap (λ z. AWord signs.Environ ∷ (D ++ ADirective k p ∷ z)) (some_names_then ns (so.some o.0)) ∙ ap (λ z. AWord signs.Environ ∷ z) (sym (append_assoc D (ADirective k p ∷ names_between ns) (AWord signs.Comma ∷ []))) in
       built AtName ds k p ns o.1 (one_more (AWord signs.Environ ∷ (D ++ ADirective k p ∷ names_between ns)) (AWord signs.Environ ∷ (D ++ ADirective k p ∷ names_then ns)) (AWord signs.Comma) same (matched AtSign o.0) (sym es ∙ is)) so.named (λ h. cc) (λ h. cc)
 
   pub past_semicolon : (d : Directive) (ds' : List Directive) (ns' : List PlacedName) → s ≡ signs.Semicolon → d ≡ record { kind = k; place = p; names = ns } → ds' ≡ ds ++ d ∷ [] → HeadSoFar (ts ++ t ∷ []) next ds' k p ns'
@@ -288,7 +288,7 @@ module _ (ts : List Token) (t : Token) (e next : Expected) (s : Sign) (ds : List
       let d0 : Directive = record { kind = k; place = p; names = ns } in
       let all : ds' ≡ ds ++ d0 ∷ [] = eds ∙ ap (λ z. ds ++ z ∷ []) ed in
       let same : AWord signs.Environ ∷ spell_directives ds' ≡ (AWord signs.Environ ∷ (D ++ ADirective k p ∷ names_between ns)) ++ AWord signs.Semicolon ∷ [] =
-          ap (λ z. AWord signs.Environ ∷ spell_directives z) all ∙ ap (λ z. AWord signs.Environ ∷ z) (spell_directives-append ds (d0 ∷ []) ∙ sym (append_assoc D (ADirective k p ∷ names_between ns) (AWord signs.Semicolon ∷ []))) in
+      ap (λ z. AWord signs.Environ ∷ spell_directives z) all ∙ ap (λ z. AWord signs.Environ ∷ z) (spell_directives-append ds (d0 ∷ []) ∙ sym (append_assoc D (ADirective k p ∷ names_between ns) (AWord signs.Semicolon ∷ []))) in
       built AtDirective ds' k p ns' o.1 (one_more (AWord signs.Environ ∷ (D ++ ADirective k p ∷ names_between ns)) (AWord signs.Environ ∷ spell_directives ds') (AWord signs.Semicolon) same (matched AtSign o.0) (sym es ∙ is)) (subst EachNamed (sym all) (EachNamed-more ds d0 so.named (so.some o.0))) (λ h. cc) (λ h. cc)
 
   pub past_later : s ≡ signs.Later → ⊥
@@ -371,13 +371,13 @@ goes_on ts AtName ds k p ns m named some unended =
     let d : Directive = record { kind = k; place = p; names = ns ++ placed ∷ [] } in
     let D = spell_directives ds in
     let e : spell_head (ds ++ d ∷ []) ≡ (AWord signs.Environ ∷ (D ++ ADirective k p ∷ names_then ns)) ++ (AName placed ∷ AWord signs.Semicolon ∷ AWord signs.Begin ∷ []) =
-        simp (spell_directives-append, names_between-push, append_assoc) in
+    simp (spell_directives-append, names_between-push, append_assoc) in
     record { some = ds ++ d ∷ []; next = name_token; more = semicolon_token ∷ begin_token ∷ []; spells = completed (AWord signs.Environ ∷ (D ++ ADirective k p ∷ names_then ns)) (AName placed ∷ AWord signs.Semicolon ∷ AWord signs.Begin ∷ []) ts (name_token ∷ semicolon_token ∷ begin_token ∷ []) (ds ++ d ∷ []) e (EachNamed-more ds d named (omega (arith, length-append ns (placed ∷ [])))) m (placed_fits, (semicolon_token-sign, (begin_token-sign, tt))) }
 goes_on ts AtSign ds k p ns m named some unended =
     let d : Directive = record { kind = k; place = p; names = ns } in
     let D = spell_directives ds in
     let e : spell_head (ds ++ d ∷ []) ≡ (AWord signs.Environ ∷ (D ++ ADirective k p ∷ names_between ns)) ++ (AWord signs.Semicolon ∷ AWord signs.Begin ∷ []) =
-        simp (spell_directives-append, append_assoc) in
+    simp (spell_directives-append, append_assoc) in
     record { some = ds ++ d ∷ []; next = semicolon_token; more = begin_token ∷ []; spells = completed (AWord signs.Environ ∷ (D ++ ADirective k p ∷ names_between ns)) (AWord signs.Semicolon ∷ AWord signs.Begin ∷ []) ts (semicolon_token ∷ begin_token ∷ []) (ds ++ d ∷ []) e (EachNamed-more ds d named (some refl)) m (semicolon_token-sign, (begin_token-sign, tt)) }
 goes_on ts AtEnd ds k p ns m named some unended = absurd (unended refl)
 
@@ -431,12 +431,12 @@ token_refused all ts rest t e s ds k p end ns so split es stops = by_tests (is_a
       begins = begins_so_far ts e ds k p ns so;
       breaks = no_head (ts ++ t ∷ []) broken;
       not_later = λ x l.
-        let r = run-expects ts x in
-        let u = so.runs in
-        let here : e ≡ AtDirective = cc in
-        let there : s ≡ signs.Later = es ∙ l in
-        denied (rw (here, there) refl);
-      at = refl
+          let r = run-expects ts x in
+          let u = so.runs in
+          let here : e ≡ AtDirective = cc in
+          let there : s ≡ signs.Later = es ∙ l in
+          denied (rw (here, there) refl);
+      at = refl;
     }
 
     by_tests : (a b : Bool) → is_at_directive e ≡ a → is_later s ≡ b → AreRefused all end (cond (a && b) (Profile2 t.place) (Unexpected t.place))

@@ -3,3 +3,4 @@ pub mod HeadLemmas
 pub mod LongestLemmas
 pub mod OneCutLemmas
 pub mod PieceLemmas
+pub mod TableLemmas

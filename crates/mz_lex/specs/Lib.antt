@@ -7,4 +7,5 @@ pub mod Longest
 pub mod Piece
 pub mod Sign
 pub mod SymbolTable
+pub mod Table
 pub mod Tokens

@@ -12,4 +12,6 @@ pub mod longest;
 pub mod piece;
 pub mod sign;
 pub mod symbol_table;
+pub mod table;
+pub mod table_fault;
 pub mod tokens;

@@ -13,14 +13,14 @@ returns-in_default-clause-refused c =
 pub loop-token-preserved : goal.loop-token-preserved
 loop-token-preserved c =
     elim c.match-sign.branch [
-      in-Environ w ↦ turned _ _ _ _ _ _ _ _ _ _ _ _ c.loop-token-test.true c.token-item.is (past_environ _ _ _ _ _ _ _ _ _ c.loop-token.invariant c.sign_of-sign.ensures c.in-Some.ensures w.in-Environ.is) (ap (λ v. v.items) w.items-is) w.kind-is w.place-is (ap (λ v. v.items) w.names-is)
-    | in-Begin w ↦ turned _ _ _ _ _ _ _ _ _ _ _ _ c.loop-token-test.true c.token-item.is (past_begin _ _ _ _ _ _ _ _ _ c.loop-token.invariant c.sign_of-sign.ensures c.in-Some.ensures w.in-Begin.is) (ap (λ v. v.items) w.items-is) w.kind-is w.place-is (ap (λ v. v.items) w.names-is)
-    | in-Directive w ↦ turned _ _ _ _ _ _ _ _ _ _ _ _ c.loop-token-test.true c.token-item.is (past_directive _ _ _ _ _ _ _ _ _ c.loop-token.invariant c.sign_of-sign.ensures c.in-Some.ensures _ _ _ w.in-Directive.is refl w.new-names-in-Directive.ensures.items) (ap (λ v. v.items) w.items-is) w.kind-is w.place-is (ap (λ v. v.items) w.names-is)
-    | in-Later w ↦ absurd (past_later _ _ _ _ _ _ _ _ _ c.loop-token.invariant c.sign_of-sign.ensures c.in-Some.ensures w.in-Later.is)
-    | in-Name+in-Ok+in_ok-push-in-Ok w ↦ turned _ _ _ _ _ _ _ _ _ _ _ _ c.loop-token-test.true c.token-item.is (past_name _ _ _ _ _ _ _ _ _ c.loop-token.invariant c.sign_of-sign.ensures c.in-Some.ensures _ _ w.in-Name.is (rw w.as_slice.ensures at w.in-Ok.ensures.number) refl w.in_ok-push-in-Ok.ensures.items) (ap (λ v. v.items) w.items-is) w.kind-is w.place-is (ap (λ v. v.items) w.names-is)
-    | in-Comma w ↦ turned _ _ _ _ _ _ _ _ _ _ _ _ c.loop-token-test.true c.token-item.is (past_comma _ _ _ _ _ _ _ _ _ c.loop-token.invariant c.sign_of-sign.ensures c.in-Some.ensures w.in-Comma.is) (ap (λ v. v.items) w.items-is) w.kind-is w.place-is (ap (λ v. v.items) w.names-is)
-    | in-Semicolon+in_ok-push-in-Semicolon w ↦ turned _ _ _ _ _ _ _ _ _ _ _ _ c.loop-token-test.true c.token-item.is (past_semicolon _ _ _ _ _ _ _ _ _ c.loop-token.invariant c.sign_of-sign.ensures c.in-Some.ensures _ _ _ w.in-Semicolon.is (ap (λ v. record { kind = c.loop-token.kind; place = c.loop-token.place; names = v.items }) w.replace.ensures.value) w.in_ok-push-in-Semicolon.ensures.items) (ap (λ v. v.items) w.items-is) w.kind-is w.place-is (ap (λ v. v.items) w.names-is)
-    | in-Other w ↦ absurd (past_other _ _ _ _ _ _ _ _ _ c.loop-token.invariant c.sign_of-sign.ensures c.in-Some.ensures w.in-Other.is)
+      | in-Environ w ↦ turned _ _ _ _ _ _ _ _ _ _ _ _ c.loop-token-test.true c.token-item.is (past_environ _ _ _ _ _ _ _ _ _ c.loop-token.invariant c.sign_of-sign.ensures c.in-Some.ensures w.in-Environ.is) (ap (λ v. v.items) w.items-is) w.kind-is w.place-is (ap (λ v. v.items) w.names-is)
+      | in-Begin w ↦ turned _ _ _ _ _ _ _ _ _ _ _ _ c.loop-token-test.true c.token-item.is (past_begin _ _ _ _ _ _ _ _ _ c.loop-token.invariant c.sign_of-sign.ensures c.in-Some.ensures w.in-Begin.is) (ap (λ v. v.items) w.items-is) w.kind-is w.place-is (ap (λ v. v.items) w.names-is)
+      | in-Directive w ↦ turned _ _ _ _ _ _ _ _ _ _ _ _ c.loop-token-test.true c.token-item.is (past_directive _ _ _ _ _ _ _ _ _ c.loop-token.invariant c.sign_of-sign.ensures c.in-Some.ensures _ _ _ w.in-Directive.is refl w.new-names-in-Directive.ensures.items) (ap (λ v. v.items) w.items-is) w.kind-is w.place-is (ap (λ v. v.items) w.names-is)
+      | in-Later w ↦ absurd (past_later _ _ _ _ _ _ _ _ _ c.loop-token.invariant c.sign_of-sign.ensures c.in-Some.ensures w.in-Later.is)
+      | in-Name+in-Ok+in_ok-push-in-Ok w ↦ turned _ _ _ _ _ _ _ _ _ _ _ _ c.loop-token-test.true c.token-item.is (past_name _ _ _ _ _ _ _ _ _ c.loop-token.invariant c.sign_of-sign.ensures c.in-Some.ensures _ _ w.in-Name.is (rw w.as_slice.ensures at w.in-Ok.ensures.number) refl w.in_ok-push-in-Ok.ensures.items) (ap (λ v. v.items) w.items-is) w.kind-is w.place-is (ap (λ v. v.items) w.names-is)
+      | in-Comma w ↦ turned _ _ _ _ _ _ _ _ _ _ _ _ c.loop-token-test.true c.token-item.is (past_comma _ _ _ _ _ _ _ _ _ c.loop-token.invariant c.sign_of-sign.ensures c.in-Some.ensures w.in-Comma.is) (ap (λ v. v.items) w.items-is) w.kind-is w.place-is (ap (λ v. v.items) w.names-is)
+      | in-Semicolon+in_ok-push-in-Semicolon w ↦ turned _ _ _ _ _ _ _ _ _ _ _ _ c.loop-token-test.true c.token-item.is (past_semicolon _ _ _ _ _ _ _ _ _ c.loop-token.invariant c.sign_of-sign.ensures c.in-Some.ensures _ _ _ w.in-Semicolon.is (ap (λ v. record { kind = c.loop-token.kind; place = c.loop-token.place; names = v.items }) w.replace.ensures.value) w.in_ok-push-in-Semicolon.ensures.items) (ap (λ v. v.items) w.items-is) w.kind-is w.place-is (ap (λ v. v.items) w.names-is)
+      | in-Other w ↦ absurd (past_other _ _ _ _ _ _ _ _ _ c.loop-token.invariant c.sign_of-sign.ensures c.in-Some.ensures w.in-Other.is)
     ]
 
 pub returns-in-Err-clause-refused : goal.returns-in-Err-clause-refused

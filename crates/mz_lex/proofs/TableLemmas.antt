@@ -1,0 +1,59 @@
+-- The symbols that names add.
+use Rattle.std.proofs.Common.{◌≡◌, ℕ, suc, ◌+◌, ◌<◌, ◌≤◌, Bool, true, false, List, [], ◌∷◌, ◌++◌, length, get_or, take, drop, Option, Some, None, refl, sym, ap, subst, ◌∙◌, arith, append_assoc, append-nil}
+use Rattle.std.specs.Prelude.{filter}
+use Rattle.std.proofs.lemmas.List.{take_more, take_all, take-append-drop}
+use Rattle.std.proofs.Math.Seq.{drop-cons}
+use Rattle.mz_base.specs.NamedText.{NamedText}
+use Rattle.mz_base.specs.declared.directive.Directive.{Directive}
+use Rattle.mz_base.specs.declared.placed_name.PlacedName.{PlacedName}
+use Rattle.mz_voc.specs.declared.entry.Entry.{Entry}
+use Rattle.mz_voc.specs.Vocabulary.{IsVocabulary}
+use Rattle.mz_lex.specs.declared.table_fault.TableFault.{TableFault}
+use Rattle.mz_lex.specs.Table.{names_under, vocabulary_names, is_hidden, text_named, any_clash, is_new, joined, Adds, hidden, vocabulary, AddsAll, none, more, IsFaultOf, IsTableRefused}
+
+vocabulary_names-append : (ds es : List Directive) → vocabulary_names (ds ++ es) ≡ vocabulary_names ds ++ vocabulary_names es
+vocabulary_names-append [] es = refl
+vocabulary_names-append (d ∷ ds) es = ap (λ ns. names_under d ++ ns) (vocabulary_names-append ds es) ∙ sym (append_assoc (names_under d) (vocabulary_names ds) (vocabulary_names es))
+
+-- one more directive
+pub names_more : (ds : List Directive) (i : ℕ) (d : Directive) (ns under ns' : List PlacedName) → i < length ds → d ≡ get_or ds i d → ns ≡ vocabulary_names (take i ds) → under ≡ names_under d → ns' ≡ ns ++ under → ns' ≡ vocabulary_names (take (i + 1) ds)
+names_more ds i d ns under ns' lt at so eu en =
+    let cut : take (i + 1) ds ≡ take i ds ++ d ∷ [] = take_more ds i d lt ∙ ap (λ z. take i ds ++ z ∷ []) (sym at) in
+    let all : vocabulary_names (take (i + 1) ds) ≡ vocabulary_names (take i ds) ++ names_under d =
+    ap vocabulary_names cut ∙ vocabulary_names-append (take i ds) (d ∷ []) ∙ ap (λ z. vocabulary_names (take i ds) ++ z) (append-nil (names_under d)) in
+    en ∙ (λ j. so j ++ eu j) ∙ sym all
+
+pub adds_hidden : (vs : List NamedText) (known : List Entry) (n : PlacedName) → true ≡ is_hidden n → Adds vs known n known
+adds_hidden vs known n h = hidden n (sym h)
+
+pub adds_entries : (vs : List NamedText) (known : List Entry) (n : PlacedName) (text slice : List ℕ) (voc inside entries known1 known2 found items : List Entry) →
+    false ≡ is_hidden n → Some text ≡ text_named vs n → slice ≡ text → IsVocabulary slice voc → inside ≡ voc → entries ≡ inside → known1 ≡ known → false ≡ any_clash known1 entries → known2 ≡ known → found ≡ filter (is_new known2) entries → items ≡ known ++ found → length items ≤ 4096 → Adds vs known n items
+adds_entries vs known n text slice voc inside entries known1 known2 found items h t es v ei ee e1 clash e2 ef eitems le =
+    let same : entries ≡ voc = ee ∙ ei in
+    let j : items ≡ joined known voc = eitems ∙ ap (λ z. known ++ z) (ef ∙ (λ i. filter (is_new (e2 i)) (same i))) in
+    let quiet : any_clash known voc ≡ false = sym (clash ∙ (λ i. any_clash (e1 i) (same i))) in
+    let few : length (joined known voc) ≤ 4096 = subst (λ z. length z ≤ 4096) j le in
+    subst (Adds vs known n) (sym j) (vocabulary n text voc (sym h) (sym t) (subst (λ b. IsVocabulary b voc) es v) quiet few)
+
+AddsAll-more : (vs : List NamedText) (known : List Entry) (ns : List PlacedName) (next : List Entry) (n : PlacedName) (all : List Entry) → AddsAll vs known ns next → Adds vs next n all → AddsAll vs known (ns ++ n ∷ []) all
+AddsAll-more vs known ns next n all none a = more n [] all all a none
+AddsAll-more vs known ns next n all (more m ms mid last b c) a = more m (ms ++ n ∷ []) mid all b (AddsAll-more vs mid ms next n all c a)
+
+pub adds_none : (vs : List NamedText) (items : List Entry) → items ≡ [] → AddsAll vs [] [] items
+adds_none vs items e = subst (AddsAll vs [] []) (sym e) none
+
+pub adds_more : (vs : List NamedText) (ns : List PlacedName) (i : ℕ) (n : PlacedName) (known next : List Entry) → i < length ns → n ≡ get_or ns i n → AddsAll vs [] (take i ns) known → Adds vs known n next → AddsAll vs [] (take (i + 1) ns) next
+adds_more vs ns i n known next lt at so a =
+    let cut : take (i + 1) ns ≡ take i ns ++ n ∷ [] = take_more ns i n lt ∙ ap (λ z. take i ns ++ z ∷ []) (sym at) in
+    subst (λ z. AddsAll vs [] z next) (sym cut) (AddsAll-more vs [] (take i ns) known n next so a)
+
+pub name_refused : (vs : List NamedText) (ns : List PlacedName) (i : ℕ) (n : PlacedName) (known : List Entry) (fault : TableFault) → i < length ns → n ≡ get_or ns i n → AddsAll vs [] (take i ns) known → IsFaultOf vs known n fault → IsTableRefused vs ns fault
+name_refused vs ns i n known fault lt at so f = record {
+  before = take i ns;
+  name = n;
+  behind = drop (suc i) ns;
+  known = known;
+  split = sym (take-append-drop i ns) ∙ ap (λ z. take i ns ++ z) (drop-cons ns i n lt ∙ ap (λ z. z ∷ drop (suc i) ns) (sym at));
+  adds = so;
+  refused = f;
+}
