@@ -20,6 +20,7 @@ pub mod replacement;
 pub mod rule;
 pub mod sameness;
 pub mod sequent;
+pub mod sequents;
 pub mod substitution;
 pub mod sym;
 pub mod term;
