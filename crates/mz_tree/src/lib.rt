@@ -1,0 +1,14 @@
+//! Trees of the grammar with their spelling, and the marks of commas.
+#![tactic(auto)]
+
+mod ahead;
+pub mod being;
+pub mod comma;
+pub mod lists;
+pub mod mark;
+pub mod marked_token;
+pub mod marks;
+mod outlook;
+pub mod role;
+pub mod trees;
+pub mod word;
