@@ -10,7 +10,7 @@ use std::alloc::{AllocError, Global};
 /// How many bytes a `MemorySink` has room for.
 pub const SINK_ROOM: usize = 1_048_576;
 
-/// A sink over memory, which tells the bytes taken. It has room for 1,048,576 bytes and never grows.
+/// A sink over memory, which tells the bytes taken. It has room for 1,048,576 bytes from the start and takes no more.
 /// A call takes at most `step` bytes. Calls are numbered from 1; those whose numbers are in `fail`
 /// fail, and so does a call with some bytes where no room is left.
 #[derive(Debug, Drop)]

@@ -5,7 +5,7 @@ use crate::formula::Formula;
 use crate::formulas::Formulas;
 use std::alloc::{AllocError, Global};
 
-/// A conclusion from premises. A formula of a sequent has no free bound index.
+/// A conclusion from premises. A formula of a sequent is to have no free bound index; the type doesn't test it.
 #[derive(Drop)]
 pub struct Sequent {
     pub premises: Formulas,
