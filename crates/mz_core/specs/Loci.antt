@@ -1,0 +1,29 @@
+-- Loci.
+use Rattle.std.specs.Prelude.{ℕ, zero, suc, ◌+◌, List, [], ◌∷◌, length, nat_eq, if◌then◌else◌}
+use Rattle.mz_logic.specs.declared.sym.Sym.{Sym}
+use Rattle.mz_logic.specs.Term.{Term, Bound, App, terms_of}
+use Rattle.mz_logic.specs.Formula.{Formula, Atom}
+use Rattle.mz_core.specs.declared.soft_type.SoftType.{SoftType}
+use Rattle.mz_core.specs.Connectives.{for_type}
+
+-- for L holds f
+abbrev pub over : List SoftType → Formula → Formula
+over [] f = f
+over (ty ∷ tys) f = for_type ty (over tys f)
+
+-- the innermost `count` variables under `depth` more binders, the outermost first
+abbrev pub variables : ℕ → ℕ → List Term
+variables depth zero = []
+variables depth (suc count) = Bound (depth + count) ∷ variables depth count
+
+-- a symbol's term on the loci
+abbrev pub term_on : List SoftType → Sym → Term
+term_on loci s = App s (terms_of (variables 0 (length loci)))
+
+-- a symbol's atom on the loci
+abbrev pub atom_on : List SoftType → Sym → Formula
+atom_on loci s = Atom s (variables 0 (length loci))
+
+-- a mode on the loci, as a type
+abbrev pub mode_on : List SoftType → Sym → SoftType
+mode_on loci s = record { adjectives = []; radix = record { sym = s; args = variables 0 (length loci) } }

@@ -1,0 +1,99 @@
+-- What a structure grants; it owes nothing. All stand under the loci.
+use Rattle.std.specs.Prelude.{ℕ, zero, suc, ◌+◌, List, [], ◌∷◌, ◌++◌, length, map, reverse}
+use Rattle.mz_logic.specs.declared.sym.Sym.{Sym}
+use Rattle.mz_logic.specs.Term.{Term, Bound, App, terms_of}
+use Rattle.mz_logic.specs.Formula.{Formula, Eq, Atom, And}
+use Rattle.mz_core.specs.declared.soft_type.SoftType.{SoftType}
+use Rattle.mz_core.specs.declared.field.Field.{Field}
+use Rattle.mz_core.specs.declared.structure.Structure.{Structure}
+use Rattle.mz_core.specs.Raise.{raised, type_raised}
+use Rattle.mz_core.specs.Fill.{type_filled}
+use Rattle.mz_core.specs.Connectives.{joined, implies, for_type}
+use Rattle.mz_core.specs.DefinitionRows.{of_type}
+use Rattle.mz_core.specs.SetTermRows.{object_type}
+use Rattle.mz_core.specs.Loci.{over, variables}
+
+-- S(t), under `by` variables
+abbrev pub structure_atom : ℕ → Structure → Term → Formula
+structure_atom by s t = Atom s.sym (variables by (length s.loci) ++ t ∷ [])
+
+-- strict(t), under `by` variables
+abbrev pub strict_atom : ℕ → Structure → Term → Formula
+strict_atom by s t = Atom s.strict (variables by (length s.loci) ++ t ∷ [])
+
+-- the aggregate of ts, under `by` variables
+abbrev pub aggregate : ℕ → Structure → List Term → Term
+aggregate by s ts = App s.aggregate (terms_of (variables by (length s.loci) ++ ts))
+
+-- si(t), under `by` variables
+abbrev pub selected : ℕ → Term → Field → Term
+selected by t f = App f.selector (terms_of (map (raised 0 by) f.args ++ t ∷ []))
+
+-- T(i) where y has the fields' values ts, given from the last field to the first, and the loci are ls,
+-- from the innermost outward
+abbrev pub field_type : List Term → Term → List Term → Field → SoftType
+field_type ts y ls f = type_filled (ts ++ y ∷ ls) f.ty
+
+-- Ti(si(y)), y being the only variable
+abbrev pub field_fits : Structure → Field → Formula
+field_fits s f =
+    of_type
+    (field_type (reverse (map (selected 1 (Bound 0)) s.fields)) (Bound 0) (reverse (variables 1 (length s.loci))) f)
+    (selected 1 (Bound 0) f)
+
+-- for y being object holds f
+abbrev pub for_object : Formula → Formula
+for_object f = for_type object_type f
+
+-- (1) S(y) implies each ancestor's guard at y
+abbrev pub ancestor_at : SoftType → Formula
+ancestor_at ty = of_type (type_raised 0 1 ty) (Bound 0)
+
+abbrev pub grant_of_ancestors : Structure → Formula
+grant_of_ancestors s = for_object (implies (structure_atom 1 s (Bound 0)) (joined (map ancestor_at s.ancestors)))
+
+-- (2) S(y) implies Ti(si(y)) for each i
+abbrev pub grant_of_fields : Structure → Formula
+grant_of_fields s = for_object (implies (structure_atom 1 s (Bound 0)) (joined (map (field_fits s) s.fields)))
+
+-- zi meets Ti, for each i
+abbrev pub fit_each : List Term → Term → List Term → List Field → List Term → List Formula
+fit_each ts y ls [] zs = []
+fit_each ts y ls (f ∷ fs) [] = []
+fit_each ts y ls (f ∷ fs) (z ∷ zs) = of_type (field_type ts y ls f) z ∷ fit_each ts y ls fs zs
+
+-- si(a) = zi, for each i, under `by` variables
+abbrev pub select_each : ℕ → Term → List Field → List Term → List Formula
+select_each by a [] zs = []
+select_each by a (f ∷ fs) [] = []
+select_each by a (f ∷ fs) (z ∷ zs) = Eq (selected by a f) z ∷ select_each by a fs zs
+
+-- for z1,..,zn being object holds f
+abbrev pub for_objects : ℕ → Formula → Formula
+for_objects zero f = f
+for_objects (suc count) f = for_object (for_objects count f)
+
+-- (3) for z1 to zn, each of which meets its type, with a = the aggregate of these: S(a), strict(a), si(a) = zi
+abbrev pub aggregate_has : Structure → ℕ → List Term → Term → Formula
+aggregate_has s count zs a =
+    implies (joined (fit_each (reverse zs) a (reverse (variables count (length s.loci))) s.fields zs))
+    (joined (structure_atom count s a ∷ strict_atom count s a ∷ select_each count a s.fields zs))
+
+abbrev pub grant_of_aggregate : Structure → Formula
+grant_of_aggregate s =
+    for_objects (length s.fields)
+    (aggregate_has s (length s.fields) (variables 0 (length s.fields)) (aggregate (length s.fields) s (variables 0 (length s.fields))))
+
+-- (4) S(y) & strict(y) implies that y is the aggregate of s1(y) to sn(y)
+abbrev pub grant_of_strict : Structure → Formula
+grant_of_strict s =
+    for_object
+    (implies (And (structure_atom 1 s (Bound 0)) (strict_atom 1 s (Bound 0)))
+    (Eq (Bound 0) (aggregate 1 s (map (selected 1 (Bound 0)) s.fields))))
+
+abbrev pub structure_grants : Structure → List Formula
+structure_grants s =
+    over s.loci (grant_of_ancestors s) ∷
+    over s.loci (grant_of_fields s) ∷
+    over s.loci (grant_of_aggregate s) ∷
+    over s.loci (grant_of_strict s) ∷ []

@@ -1,0 +1,28 @@
+//! Adjectives of types.
+ghost use Rattle.std.specs.Prelude.{◌≡◌, IfOk};
+
+use mz_logic::sym::Sym;
+use mz_logic::term::Terms;
+use std::alloc::{AllocError, Global};
+
+/// An attribute with its arguments but for the subject; not positive where it is written with `non`.
+#[derive(Drop)]
+pub struct Adjective {
+    pub positive: bool,
+    pub sym: Sym,
+    pub args: Terms,
+}
+
+impl Adjective {
+    /// An equal adjective.
+    pub fn copy(&self, alloc: Global) -> Result<Adjective, AllocError>
+        ensures { IfOk result (λ a. a ≡ self.now) }
+    {
+        let args = self.args.copy(alloc)?;
+        Ok(Adjective {
+            positive: self.positive,
+            sym: self.sym,
+            args,
+        })
+    }
+}

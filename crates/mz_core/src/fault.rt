@@ -1,0 +1,31 @@
+//! Faults of an article.
+use mz_base::place::Place;
+use mz_base::rule_code::RuleCode;
+use std::marker::Model;
+
+/// A fault of an article: where it is, its code, and the number that comes with the code, if one does.
+#[derive(Clone, Copy, Debug, PartialEq, Eq)]
+pub struct Fault {
+    pub place: Place,
+    pub code: RuleCode,
+    pub number: Option<u64>,
+}
+
+/// Faults in the order of the text.
+#[derive(Drop)]
+pub struct Faults {
+    pub items: Vec<Fault>,
+}
+
+impl Model for Faults {
+    ghost use Rattle.std.specs.Prelude.{List};
+    ghost use Rattle.std.specs.Coded.{coded_list};
+    ghost use Rattle.mz_core.specs.declared.fault.Fault.{Fault};
+    ghost use Rattle.mz_core.specs.contracts.fault.Fault.{the_row};
+
+    ghost Value = { List Fault };
+
+    ghost coded = { coded_list the_row.coded };
+
+    ghost view = { λ a. a.items.items };
+}

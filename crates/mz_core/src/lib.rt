@@ -1,0 +1,40 @@
+//! Types of the language, statements, and the items of an article: what each owes and grants.
+#![tactic(auto)]
+
+pub mod adjective;
+pub mod adjectives;
+pub mod connectives;
+pub mod definition;
+pub mod erasure;
+pub mod export;
+pub mod fault;
+pub mod field;
+pub mod fields;
+pub mod formula_case;
+pub mod formula_cases;
+pub mod formula_definiens;
+pub mod guard;
+pub mod item;
+pub mod items;
+pub mod left;
+pub mod notations;
+pub mod outcome;
+pub mod pattern;
+pub mod property;
+pub mod radix;
+pub mod raise;
+pub mod redefinition;
+pub mod registration;
+pub mod scheme;
+pub mod scheme_letter;
+pub mod scheme_letters;
+pub mod set_term;
+pub mod soft_type;
+pub mod soft_types;
+pub mod statement;
+pub mod statements;
+pub mod structure;
+pub mod term_case;
+pub mod term_cases;
+pub mod term_definiens;
+pub mod verdict;

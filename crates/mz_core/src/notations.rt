@@ -1,0 +1,45 @@
+//! Lists of notations.
+ghost use Rattle.std.specs.Prelude.{◌≡◌, ◌++◌, ◌∷◌, [], OnOk, OnErr};
+
+use crate::pattern::Pattern;
+use std::alloc::{AllocError, Global};
+use std::marker::Model;
+
+/// Notations, in the order of the text.
+#[derive(Drop)]
+pub struct Notations {
+    pub items: Vec<Pattern>,
+}
+
+impl Model for Notations {
+    ghost use Rattle.std.specs.Prelude.{List};
+    ghost use Rattle.std.specs.Coded.{coded_list};
+    ghost use Rattle.mz_core.specs.declared.pattern.Pattern.{Pattern};
+    ghost use Rattle.mz_core.specs.contracts.pattern.Pattern.{the_row};
+
+    ghost Value = { List Pattern };
+
+    ghost coded = { coded_list the_row.coded };
+
+    ghost view = { λ a. a.items.items };
+}
+
+impl Notations {
+    /// No notations.
+    pub fn new(alloc: Global) -> Notations
+        ensures { result ≡ [] }
+    {
+        Notations {
+            items: Vec::new(alloc),
+        }
+    }
+
+    /// Puts a pattern at the end.
+    pub fn push(&mut self, x: Pattern) -> Result<(), AllocError>
+        ensures ok { OnOk result (self.new ≡ self.old ++ x ∷ []) }
+        ensures err { OnErr result (self.new ≡ self.old) }
+    {
+        self.items.push(x)?;
+        Ok(())
+    }
+}

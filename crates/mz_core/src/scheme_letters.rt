@@ -1,0 +1,45 @@
+//! Lists of letters of a scheme.
+ghost use Rattle.std.specs.Prelude.{◌≡◌, ◌++◌, ◌∷◌, [], OnOk, OnErr};
+
+use crate::scheme_letter::SchemeLetter;
+use std::alloc::{AllocError, Global};
+use std::marker::Model;
+
+/// Letters of a scheme, in the order of the text.
+#[derive(Drop)]
+pub struct SchemeLetters {
+    pub items: Vec<SchemeLetter>,
+}
+
+impl Model for SchemeLetters {
+    ghost use Rattle.std.specs.Prelude.{List};
+    ghost use Rattle.std.specs.Coded.{coded_list};
+    ghost use Rattle.mz_core.specs.declared.scheme_letter.SchemeLetter.{SchemeLetter};
+    ghost use Rattle.mz_core.specs.contracts.scheme_letter.SchemeLetter.{the_row};
+
+    ghost Value = { List SchemeLetter };
+
+    ghost coded = { coded_list the_row.coded };
+
+    ghost view = { λ a. a.items.items };
+}
+
+impl SchemeLetters {
+    /// No letters of a scheme.
+    pub fn new(alloc: Global) -> SchemeLetters
+        ensures { result ≡ [] }
+    {
+        SchemeLetters {
+            items: Vec::new(alloc),
+        }
+    }
+
+    /// Puts a letter at the end.
+    pub fn push(&mut self, x: SchemeLetter) -> Result<(), AllocError>
+        ensures ok { OnOk result (self.new ≡ self.old ++ x ∷ []) }
+        ensures err { OnErr result (self.new ≡ self.old) }
+    {
+        self.items.push(x)?;
+        Ok(())
+    }
+}

@@ -1,0 +1,55 @@
+//! Lists of statements.
+ghost use Rattle.std.specs.Prelude.{◌≡◌, ◌++◌, ◌∷◌, [], IfOk, OnOk, OnErr};
+
+use crate::statement::Statement;
+use std::alloc::{AllocError, Global};
+use std::marker::Model;
+
+/// Statements, in the order of the text.
+#[derive(Drop)]
+pub struct Statements {
+    pub items: Vec<Statement>,
+}
+
+impl Model for Statements {
+    ghost use Rattle.std.specs.Prelude.{List};
+    ghost use Rattle.std.specs.Coded.{coded_list};
+    ghost use Rattle.mz_core.specs.Statement.{Statement, statement_code};
+
+    ghost Value = { List Statement };
+
+    ghost coded = { coded_list statement_code };
+
+    ghost view = { λ a. a.items.items };
+}
+
+impl Statements {
+    /// No statements.
+    pub fn new(alloc: Global) -> Statements
+        ensures { result ≡ [] }
+    {
+        Statements {
+            items: Vec::new(alloc),
+        }
+    }
+
+    /// Puts a statement at the end.
+    pub fn push(&mut self, x: Statement) -> Result<(), AllocError>
+        ensures ok { OnOk result (self.new ≡ self.old ++ x ∷ []) }
+        ensures err { OnErr result (self.new ≡ self.old) }
+    {
+        self.items.push(x)?;
+        Ok(())
+    }
+
+    /// An equal list.
+    pub fn copy(&self, alloc: Global) -> Result<Statements, AllocError>
+        ensures { IfOk result (λ xs. xs ≡ self.now) }
+    {
+        let mut out = Vec::new(alloc);
+        for x in &self.items {
+            out.push(x.copy(alloc)?)?;
+        }
+        Ok(Statements { items: out })
+    }
+}
