@@ -1,11 +1,11 @@
 -- What the program keeps while it goes over the tokens.
-use Rattle.std.proofs.Common.{◌≡◌, Bool, false, List, [], ◌∷◌, ◌++◌, reverse, refl, sym, ap, subst, ◌∙◌, append_assoc, length, ℕ}
+use Rattle.std.proofs.Common.{◌≡◌, Bool, false, List, [], ◌∷◌, ◌++◌, reverse, refl, sym, ap, ◌∙◌, append_assoc}
 use Rattle.std.proofs.lemmas.List.{reverse-append}
 use Rattle.mz_tree.specs.declared.role.Role.{Role}
 use Rattle.mz_tree.specs.declared.mark.Mark.{Mark}
 use Rattle.mz_tree.specs.declared.outlook.Outlook.{Outlook}
 use Rattle.mz_tree.specs.declared.ahead.Ahead as rust
-use Rattle.mz_tree.specs.Ahead.{begins, segment, tail, reserve_segment, reserve_tail, arrows, first, begins_with, segment_with, tail_with, reserve_tail_with, arrows_with, matched_with}
+use Rattle.mz_tree.specs.Ahead.{begins, segment, reserve_segment, first, begins_with, segment_with, tail_with, reserve_tail_with, arrows_with, matched_with}
 use Rattle.mz_tree.specs.IsAhead.{IsAhead, Meets}
 use Rattle.mz_tree.specs.Outlook.{outlook_with, outlooks, settled, reserving_after, marks_from}
 

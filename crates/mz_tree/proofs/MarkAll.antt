@@ -1,14 +1,12 @@
 -- All marks that are computed are those of the definition.
-use Rattle.std.proofs.Common.{◌≡◌, ℕ, zero, suc, ◌+◌, ◌<◌, ◌≤◌, Bool, true, false, ◌&&◌, ◌⊎◌, inl, inr, List, [], ◌∷◌, ◌++◌, take, drop, length, get_or, refl, sym, ap, subst, ◌∙◌, append_assoc, arith, length-append}
+use Rattle.std.proofs.Common.{◌≡◌, ℕ, zero, suc, ◌<◌, Bool, true, false, ◌&&◌, ◌⊎◌, inl, inr, List, [], ◌∷◌, ◌++◌, take, drop, length, get_or, refl, sym, ap, subst, ◌∙◌, append_assoc, arith}
 use Rattle.std.specs.List.{list_all}
 use Rattle.mz_tree.specs.declared.role.Role.{Role}
 use Rattle.mz_tree.specs.declared.role.Role.TheVariants.{Identifier, Comma, Open, Close, Bracket, Being, Arrow, For, Reserve, Semicolon, Structure, Aggregate, Term, Other}
-use Rattle.mz_tree.specs.declared.mark.Mark.{Mark}
 use Rattle.mz_tree.specs.declared.mark.Mark.TheVariants as mark
-use Rattle.mz_tree.specs.declared.outlook.Outlook.TheVariants as outlook
 use Rattle.mz_tree.specs.Ahead.{begins, segment, reserve_segment}
-use Rattle.mz_tree.specs.Marks.{may_begin_term, is_no_semicolon, InReserve, NewSegment, Divides, IsMark, AreMarks}
-use Rattle.mz_tree.specs.Outlook.{comma_with, outlook_with, settled, mark_with, reserving_after, marks_from}
+use Rattle.mz_tree.specs.Marks.{is_no_semicolon, InReserve, Divides, IsMark, AreMarks}
+use Rattle.mz_tree.specs.Outlook.{comma_with, outlook_with, settled, reserving_after, marks_from}
 use Rattle.mz_tree.proofs.MarkLemmas.{segment_sound, reserve_segment_sound, segment_complete, begins_is, Either}
 
 -- the flag says whether the tokens before stand in a `reserve`

@@ -1,8 +1,7 @@
 -- The forms of expressions: which marked tokens spell which tree. Any token may go on after a whole tree here; a parser
 -- states fewer.
-use Rattle.std.specs.Prelude.{◌≡◌, Bool, true, false, List, [], ◌∷◌, map}
+use Rattle.std.specs.Prelude.{◌≡◌, Bool, true, List, map}
 use Rattle.mz_base.specs.declared.token.Token.{Token}
-use Rattle.mz_tree.specs.declared.mark.Mark.{Mark}
 use Rattle.mz_forms.specs.Form.{Form}
 use Rattle.mz_tree.specs.Marks.{AreMarks}
 use Rattle.mz_tree.specs.Role.{role_of}

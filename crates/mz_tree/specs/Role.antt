@@ -1,6 +1,5 @@
 -- What a token is to the marks of commas.
-use Rattle.std.specs.Prelude.{Bool, List, ℕ, [], ◌∷◌, ◌||◌, codes, if◌then◌else◌}
-use Rattle.std.specs.List.{list_any}
+use Rattle.std.specs.Prelude.{Bool, List, ℕ, ◌||◌, codes, if◌then◌else◌}
 use Rattle.std.specs.Str.{bytes_eq}
 use Rattle.mz_base.specs.declared.symbol_kind.SymbolKind.{SymbolKind}
 use Rattle.mz_base.specs.declared.symbol_kind.SymbolKind.TheVariants as symbol

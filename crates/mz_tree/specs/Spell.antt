@@ -1,6 +1,5 @@
 -- The spelling of expressions: one case for each alternative of the grammar.
-use Rattle.std.specs.Prelude.{◌≡◌, ℕ, suc, List, [], ◌∷◌, ◌++◌, map, length, refl, codes, Option, Some, None}
-use Rattle.mz_base.specs.declared.place.Place.{Place}
+use Rattle.std.specs.Prelude.{List, [], ◌∷◌, ◌++◌, codes}
 use Rattle.mz_base.specs.declared.symbol_kind.SymbolKind.TheVariants as symbols
 use Rattle.mz_tree.specs.declared.marked_token.MarkedToken.{MarkedToken}
 use Rattle.mz_tree.specs.Spelled.{reserved, special, identifier, symbol, functor, mode, argument, list_comma, comma_token, being_token, non_of}

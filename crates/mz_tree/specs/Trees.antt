@@ -1,9 +1,7 @@
 -- The trees of expressions, as contracts see them.
 use Rattle.std.specs.Prelude.{◌≡◌, ℕ, suc, ◌+◌, ◌≤◌, List, [], ◌∷◌, refl, Option}
 use Rattle.std.proofs.Common.{arith, ap, sym, ◌∙◌}
-use Rattle.std.specs.Coded.{Coded, code_by}
 use base.Stored.{Gv, gnil, gnum, gcons}
-use denote.Struct.Codes.{itself}
 use denote.Param.Weighed.{most}
 use Rattle.mz_base.specs.declared.place.Place.{Place}
 use Rattle.mz_tree.specs.declared.word.Word.{Word}

@@ -1,8 +1,7 @@
-use Rattle.std.proofs.Common.{◌≡◌, List, [], ◌∷◌, false, subst, refl, length, arith, rules}
+use Rattle.std.proofs.Common.{◌≡◌, List, [], ◌∷◌, subst, refl, length, arith, rules}
 use Rattle.mz_tree.specs.declared.role.Role.{Role}
 use Rattle.mz_tree.specs.declared.mark.Mark.{Mark}
 use Rattle.mz_tree.specs.Marks.{AreMarks}
-use Rattle.mz_tree.specs.Outlook.{marks_from}
 use Rattle.mz_tree.proofs.AheadLemmas.{on_end}
 use Rattle.mz_tree.proofs.MarkAll.{marks_right}
 use Rattle.mz_tree.proofs.marks.marks_of.Goals as goal
