@@ -14,4 +14,6 @@ pub mod sign;
 pub mod symbol_table;
 pub mod table;
 pub mod table_fault;
+#[cfg(test)]
+mod tests;
 pub mod tokens;

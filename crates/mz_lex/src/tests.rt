@@ -1,0 +1,336 @@
+//! Texts with the tokens, heads, tables and refusals that they have.
+use crate::built_in::built_in_lexemes;
+use crate::head::head;
+use crate::head_fault::HeadFault;
+use crate::lex_fault::LexFault;
+use crate::symbol_table::SymbolTable;
+use crate::table::table;
+use crate::table_fault::TableFault;
+use crate::tokens::tokens;
+use mz_base::directive_kind::DirectiveKind;
+use mz_base::name::Name;
+use mz_base::place::Place;
+use mz_base::symbol_kind::SymbolKind;
+use mz_base::text::Text;
+use mz_base::token_kind::TokenKind;
+use mz_base::vocabularies::Vocabularies;
+use mz_base::vocabulary_text::VocabularyText;
+use mz_voc::voc_fault::VocFault;
+use std::alloc::{AllocError, Global};
+use std::sync::Arc;
+use std::test::Fail;
+
+/// An answer: that there is one, or a refusal with its place.
+#[derive(Clone, Copy, Debug, PartialEq, Eq)]
+enum Answer {
+    Fine(usize),
+    BadByte(u64, u64),
+    TooManyTokens(u64, u64),
+    Pragma(u64, u64),
+    Unexpected(u64, u64),
+    EndsEarly(u64, u64),
+    Profile2(u64, u64),
+    Absent(u64, u64),
+    BadEntry(u64, u64, u64),
+    BadPriority(u64, u64, u64),
+    Repeated(u64, u64, u64),
+    TwoKinds(u64, u64),
+    TooManySymbols(u64, u64),
+    Memory,
+}
+
+fn vocabulary(alloc: Global, name: &[u8], bytes: &[u8]) -> Result<VocabularyText, Fail> {
+    let text = Arc::new(alloc, Text::from_slice(alloc, bytes)?)?;
+    Ok(VocabularyText {
+        name: Name::read(name).ok().ok_or("no name")?,
+        text: Some(text),
+    })
+}
+
+/// The table of a text that names the vocabularies A and B, with these bytes.
+fn table_of(alloc: Global, a: &[u8], b: &[u8], text: &[u8]) -> Result<SymbolTable, Fail> {
+    let mut items = Vec::new(alloc);
+    items.push(vocabulary(alloc, b"A", a)?)?;
+    items.push(vocabulary(alloc, b"B", b)?)?;
+    let part = head(alloc, text)?;
+    Ok(table(alloc, &Vocabularies { items }, &part)?)
+}
+
+fn tokens_answer(alloc: Global, symbols: &[u8], text: &[u8]) -> Result<Answer, Fail> {
+    let table = table_of(alloc, symbols, b"", b"environ vocabularies A; begin")?;
+    Ok(match tokens(alloc, &table, text) {
+        Ok(tokens) => Answer::Fine(tokens.items.len()),
+        Err(LexFault::BadByte { place }) => Answer::BadByte(place.line, place.column),
+        Err(LexFault::TooManyTokens { place }) => Answer::TooManyTokens(place.line, place.column),
+        Err(LexFault::Pragma { place }) => Answer::Pragma(place.line, place.column),
+        Err(LexFault::Memory(_)) => Answer::Memory,
+    })
+}
+
+fn head_answer(alloc: Global, text: &[u8]) -> Answer {
+    match head(alloc, text) {
+        Ok(part) => Answer::Fine(part.items.len()),
+        Err(HeadFault::BadByte { place }) => Answer::BadByte(place.line, place.column),
+        Err(HeadFault::TooManyTokens { place }) => Answer::TooManyTokens(place.line, place.column),
+        Err(HeadFault::Pragma { place }) => Answer::Pragma(place.line, place.column),
+        Err(HeadFault::Unexpected { place }) => Answer::Unexpected(place.line, place.column),
+        Err(HeadFault::EndsEarly { place }) => Answer::EndsEarly(place.line, place.column),
+        Err(HeadFault::Profile2 { place }) => Answer::Profile2(place.line, place.column),
+        Err(HeadFault::Memory(_)) => Answer::Memory,
+    }
+}
+
+fn bad(place: Place, fault: &VocFault) -> Answer {
+    match fault {
+        VocFault::BadEntry { line } => Answer::BadEntry(place.line, place.column, *line),
+        VocFault::BadPriority { line } => Answer::BadPriority(place.line, place.column, *line),
+        VocFault::Repeated { line } => Answer::Repeated(place.line, place.column, *line),
+        VocFault::Memory(_) => Answer::Memory,
+    }
+}
+
+fn table_answer(alloc: Global, a: &[u8], b: &[u8], text: &[u8]) -> Result<Answer, Fail> {
+    let mut items = Vec::new(alloc);
+    items.push(vocabulary(alloc, b"A", a)?)?;
+    items.push(vocabulary(alloc, b"B", b)?)?;
+    items.push(vocabulary(alloc, b"TARSKI_0", b"Rq")?)?;
+    items.push(vocabulary(alloc, b"HIDDEN", b"::")?)?;
+    let part = head(alloc, text)?;
+    Ok(match table(alloc, &Vocabularies { items }, &part) {
+        Ok(_) => Answer::Fine(0),
+        Err(TableFault::Absent { place }) => Answer::Absent(place.line, place.column),
+        Err(TableFault::Bad { place, fault }) => bad(place, &fault),
+        Err(TableFault::TwoKinds { place }) => Answer::TwoKinds(place.line, place.column),
+        Err(TableFault::TooManySymbols { place }) => {
+            Answer::TooManySymbols(place.line, place.column)
+        }
+        Err(TableFault::Memory(_)) => Answer::Memory,
+    })
+}
+
+/// A text with the number of semicolons behind it.
+fn with_semicolons(alloc: Global, text: &[u8], count: usize) -> Result<Vec<u8>, AllocError> {
+    let mut bytes = Vec::from_slice(alloc, text)?;
+    for _ in 0..count {
+        bytes.push(b';')?;
+    }
+    Ok(bytes)
+}
+
+/// A vocabulary of so many attributes, each of three letters.
+fn attributes(alloc: Global, count: usize) -> Result<Vec<u8>, AllocError> {
+    let mut bytes = Vec::new(alloc);
+    let mut left = count;
+    for a in b'a'..=b'z' {
+        for b in b'a'..=b'z' {
+            for c in b'A'..=b'Z' {
+                if left > 0 {
+                    left -= 1;
+                    bytes.extend_from_slice([b'V', a, b, c, b'\n'].as_slice())?;
+                }
+            }
+        }
+    }
+    Ok(bytes)
+}
+
+#[test]
+fn cuts_each_built_in_spelling(rt: HostRuntime) -> Result<(), Fail> {
+    let words =
+        b"and antonym are as assume asymmetry attr be begin being by canceled case cases cluster coherence commutativity compatibility connectedness consider consistency constructors contradiction correctness def deffunc definition definitions defpred do does end environ equalities equals ex exactly existence expansions for from func given hence hereby holds idempotence identify if iff implies involutiveness irreflexivity is it let means mode non not notation notations now of or otherwise over per pred projectivity proof provided qua reconsider redefine reduce reducibility reflexivity registration registrations requirements reserve sch scheme schemes set sethood st struct such suppose symmetry synonym take that the then theorem theorems thesis thus to transitivity uniqueness vocabularies where with";
+    let specials = b", ; : ( ) [ ] { } & -> .= (# #) $1 $2 $3 $4 $5 $6 $7 $8 $9 $10";
+    let rows: [(&[u8], TokenKind, usize); 2] = [
+        (words.as_slice(), TokenKind::Reserved, 107),
+        (specials.as_slice(), TokenKind::Special, 24),
+    ];
+    let alloc = rt.alloc();
+    let table = SymbolTable::new(alloc, built_in_lexemes(alloc)?)?;
+    for (text, kind, count) in rows {
+        let tokens = tokens(alloc, &table, text)?;
+        assert_eq!(rt; tokens.items.len(), count);
+        for token in &tokens.items {
+            assert_eq!(rt; token.kind, kind);
+        }
+    }
+    Ok(())
+}
+
+#[test]
+fn cuts_the_longest_tokens(rt: HostRuntime) -> Result<(), Fail> {
+    let id = TokenKind::Identifier;
+    let numeral = TokenKind::Numeral;
+    let special = TokenKind::Special;
+    let reserved = TokenKind::Reserved;
+    let predicate = TokenKind::Symbol(SymbolKind::Predicate);
+    let attribute = TokenKind::Symbol(SymbolKind::Attribute);
+    let bracket = TokenKind::Symbol(SymbolKind::LeftBracket);
+    let rows: [(&[u8], &[u8], usize, usize, TokenKind, &[u8], u64, u64); 27] = [
+        (b"Rc=", b"Xc=Y", 3, 0, id, b"Xc", 1, 1),
+        (b"Rc=", b"Xc=Y", 3, 1, predicate, b"=", 1, 3),
+        (b"Rc=", b"Xc=Y", 3, 2, id, b"Y", 1, 4),
+        (b"Rc=", b"X c= Y", 3, 0, id, b"X", 1, 1),
+        (b"Rc=", b"X c= Y", 3, 1, predicate, b"c=", 1, 3),
+        (b"Rc=", b"X c= Y", 3, 2, id, b"Y", 1, 6),
+        (b"", b"a::b", 1, 0, id, b"a", 1, 1),
+        (b"Ka:", b"a::b", 3, 0, bracket, b"a:", 1, 1),
+        (b"Ka:", b"a::b", 3, 1, special, b":", 1, 3),
+        (b"Ka:", b"a::b", 3, 2, id, b"b", 1, 4),
+        (b"", b"$11", 2, 0, special, b"$1", 1, 1),
+        (b"", b"$11", 2, 1, numeral, b"1", 1, 3),
+        (b"", b"12' 1A 12", 3, 0, id, b"12'", 1, 1),
+        (b"", b"12' 1A 12", 3, 1, id, b"1A", 1, 5),
+        (b"", b"12' 1A 12", 3, 2, numeral, b"12", 1, 8),
+        (b"", b"a\r\nb :: c\n d", 3, 0, id, b"a", 1, 1),
+        (b"", b"a\r\nb :: c\n d", 3, 1, id, b"b", 2, 1),
+        (b"", b"a\r\nb :: c\n d", 3, 2, id, b"d", 3, 2),
+        (b"Vse", b"set se", 2, 0, reserved, b"set", 1, 1),
+        (b"Vse", b"set se", 2, 1, attribute, b"se", 1, 5),
+        (b"V+\nV++", b"+++", 2, 0, attribute, b"++", 1, 1),
+        (b"V+\nV++", b"+++", 2, 1, attribute, b"+", 1, 3),
+        (b"Vfoo", b"foo foo1", 2, 0, attribute, b"foo", 1, 1),
+        (b"Vfoo", b"foo foo1", 2, 1, id, b"foo1", 1, 5),
+        (b"", b"(#x#)", 3, 0, special, b"(#", 1, 1),
+        (b"", b"(#x#)", 3, 1, id, b"x", 1, 3),
+        (b"", b"(#x#)", 3, 2, special, b"#)", 1, 4),
+    ];
+    for (symbols, text, count, at, kind, spelling, line, column) in rows {
+        let table = table_of(rt.alloc(), symbols, b"", b"environ vocabularies A; begin")?;
+        let tokens = tokens(rt.alloc(), &table, text)?;
+        assert_eq!(rt; tokens.items.len(), count, "at {text:?}");
+        let token = tokens.items.get(at).ok_or("no token")?;
+        assert_eq!(rt; token.kind, kind, "at {text:?}");
+        assert_eq!(rt; token.spelling.as_slice(), spelling, "at {text:?}");
+        assert_eq!(rt; token.place, Place { line, column }, "at {text:?}");
+    }
+    Ok(())
+}
+
+#[test]
+fn tells_where_the_cut_stops(rt: HostRuntime) -> Result<(), Fail> {
+    let most = with_semicolons(rt.alloc(), b"environ begin", 199_998)?;
+    let more = with_semicolons(rt.alloc(), b"environ begin", 199_999)?;
+    let rows: [(&[u8], Answer); 12] = [
+        (b"", Answer::Fine(0)),
+        (b":: the end", Answer::Fine(0)),
+        (b"environ begin ::\xc8", Answer::Fine(2)),
+        (b"environ begin \xc8", Answer::BadByte(1, 15)),
+        (b"environ ::$C1\nbegin", Answer::Pragma(1, 9)),
+        (b"a ::$\n ::$C", Answer::Pragma(2, 2)),
+        (b"$0", Answer::BadByte(1, 1)),
+        (b"a .", Answer::BadByte(1, 3)),
+        (b"\n-", Answer::BadByte(2, 1)),
+        (b"<", Answer::BadByte(1, 1)),
+        (most.as_slice(), Answer::Fine(200_000)),
+        (more.as_slice(), Answer::TooManyTokens(1, 200_012)),
+    ];
+    for (text, want) in rows {
+        assert_eq!(rt; tokens_answer(rt.alloc(), b"", text)?, want);
+    }
+    Ok(())
+}
+
+#[test]
+fn reads_heads(rt: HostRuntime) -> Result<(), Fail> {
+    let rows: [(&[u8], Answer); 16] = [
+        (b"environ begin", Answer::Fine(0)),
+        (b"environ begin \xc8", Answer::Fine(0)),
+        (b"environ theorems SET; begin", Answer::Fine(1)),
+        (
+            b"environ vocabularies A,b; theorems C; begin begin",
+            Answer::Fine(2),
+        ),
+        (b"", Answer::EndsEarly(1, 1)),
+        (b"environ", Answer::EndsEarly(1, 8)),
+        (b"environ theorems A ", Answer::EndsEarly(1, 20)),
+        (b"begin", Answer::Unexpected(1, 1)),
+        (b"environ theorems A,; begin", Answer::Unexpected(1, 20)),
+        (b"environ theorems object; begin", Answer::Unexpected(1, 18)),
+        (b"environ theorems equalities", Answer::Unexpected(1, 18)),
+        (
+            b"environ theorems ABCDEFGHI; begin",
+            Answer::Unexpected(1, 18),
+        ),
+        (b"environ theorems begin", Answer::Unexpected(1, 18)),
+        (b"environ equalities A; begin", Answer::Profile2(1, 9)),
+        (b"foo \x01", Answer::BadByte(1, 5)),
+        (b"environ ::$C1\nbegin", Answer::Pragma(1, 9)),
+    ];
+    for (text, want) in rows {
+        assert_eq!(rt; head_answer(rt.alloc(), text), want, "at {text:?}");
+    }
+    let part = head(rt.alloc(), b"environ vocabularies A,b; theorems C; begin")?;
+    assert_eq!(rt; part.items.len(), 2);
+    assert_eq!(rt; part.items[0].kind, DirectiveKind::Vocabularies);
+    assert_eq!(rt; part.items[0].place, Place { line: 1, column: 9 });
+    assert_eq!(rt; part.items[0].names.items.len(), 2);
+    assert_eq!(rt;
+        part.items[0].names.items[1].name,
+        Name::read(b"B").ok().ok_or("no name")?
+    );
+    assert_eq!(rt;
+        part.items[0].names.items[1].place,
+        Place {
+            line: 1,
+            column: 24
+        }
+    );
+    assert_eq!(rt; part.items[1].kind, DirectiveKind::Theorems);
+    Ok(())
+}
+
+#[test]
+fn joins_vocabularies(rt: HostRuntime) -> Result<(), Fail> {
+    let most = attributes(rt.alloc(), 4_096)?;
+    let both = b"environ vocabularies A, B; begin";
+    let rows: [(&[u8], &[u8], &[u8], Answer); 11] = [
+        (
+            b"O*\nO+ 256",
+            b"",
+            b"environ vocabularies A; begin",
+            Answer::BadPriority(1, 22, 2),
+        ),
+        (b"", b"R=", both, Answer::BadEntry(1, 25, 1)),
+        (b"", b"Rx\nRx", both, Answer::Repeated(1, 25, 2)),
+        (
+            b"",
+            b"",
+            b"environ vocabularies NOVOC; begin",
+            Answer::Absent(1, 22),
+        ),
+        (
+            b"",
+            b"",
+            b"environ vocabularies TARSKI_0; begin",
+            Answer::Absent(1, 22),
+        ),
+        (
+            b"",
+            b"",
+            b"environ vocabularies HIDDEN; theorems C; begin",
+            Answer::Fine(0),
+        ),
+        (b"Rx", b"Ox", both, Answer::TwoKinds(1, 25)),
+        (b"Rx", b"Rx", both, Answer::Fine(0)),
+        (
+            b"Rx\nOy",
+            b"Gz",
+            b"environ vocabularies A, B, A; begin",
+            Answer::Fine(0),
+        ),
+        (most.as_slice(), b"VaaA", both, Answer::Fine(0)),
+        (
+            most.as_slice(),
+            b"Vaaa",
+            both,
+            Answer::TooManySymbols(1, 25),
+        ),
+    ];
+    for (a, b, text, want) in rows {
+        assert_eq!(rt; table_answer(rt.alloc(), a, b, text)?, want);
+    }
+    let joined = table_of(rt.alloc(), b"O+ 10\nR~", b"O+ 20", both)?;
+    let tokens = tokens(rt.alloc(), &joined, b"+ ~")?;
+    assert_eq!(rt; tokens.items.first().ok_or("no token")?.priority, 10);
+    assert_eq!(rt; tokens.items.last().ok_or("no token")?.priority, 0);
+    Ok(())
+}
