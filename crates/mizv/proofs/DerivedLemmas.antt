@@ -1,8 +1,8 @@
 -- Each accepted formula is derivable from nothing.
-use Rattle.std.proofs.Common.{◌≡◌, ℕ, suc, ◌<◌, ◌≤◌, ◌+◌, ◌-◌, List, [], ◌∷◌, ◌++◌, length, map, nat_lt, nat_eq, if◌then◌else◌, sym, ap, ◌∙◌, subst, refl, Bool, true, false, not, ◌||◌, arith}
+use Rattle.std.proofs.Common.{◌≡◌, ℕ, suc, ◌<◌, ◌+◌, ◌-◌, List, [], ◌∷◌, length, map, nat_lt, nat_eq, if◌then◌else◌, sym, ap, ◌∙◌, subst, refl, true, false, not, ◌||◌, arith}
 use Rattle.std.proofs.lemmas.Bool.Decides.{nat_tests}
 use Rattle.std.proofs.lemmas.List.Elements.{All-nil, All-cons, All-head, All-tail}
-use Rattle.std.specs.List.{All, filter, list_any}
+use Rattle.std.specs.List.{All, filter}
 use Rattle.mz_logic.specs.Term.{Term, Bound, Const}
 use Rattle.mz_logic.specs.Formula as formula
 use Rattle.mz_logic.specs.Formula.{Formula}
@@ -12,7 +12,6 @@ use Rattle.mz_logic.specs.Substitution.{put, put_formula, body_at}
 use Rattle.mz_logic.specs.Derivation.{Node, none, more, root}
 use Rattle.mz_logic.specs.Derives.{FollowsBy, IsRight, AreRight, Gives, Derives}
 use Rattle.mz_logic.specs.declared.rule.Rule.TheVariants.{AllIn, Reflexive}
-use Rattle.mizv.specs.declared.fault.Fault.{Fault}
 use Rattle.mizv.specs.declared.theorem.Theorem.{Theorem}
 use Rattle.mizv.specs.FirstForm.{IsTheorem}
 use Rattle.mizv.specs.Outcome.{index_of, quantified, erased, has_same_sides, open_fault, faults_of, judged, first_of, Derived}

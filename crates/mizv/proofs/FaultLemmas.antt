@@ -1,14 +1,12 @@
 -- The variables that a theorem names, and its fault.
 use Rattle.std.proofs.lemmas.Bool.Decides.{nat_tests}
 use Rattle.std.specs.Prelude.{unwrap_or, Some, None}
-use Rattle.std.proofs.Common.{nat_lt, ◌≡◌, ℕ, if◌then◌else◌, ◌<◌, ◌≤◌, ◌+◌, ◌-◌, List, [], ◌∷◌, ◌++◌, length, get_or, map, codes, sym, ap, ◌∙◌, subst, refl, Bool, true, false, not, arith, reverse}
+use Rattle.std.proofs.Common.{nat_lt, ◌≡◌, ℕ, if◌then◌else◌, ◌<◌, ◌≤◌, ◌+◌, ◌-◌, List, [], ◌∷◌, ◌++◌, length, get_or, map, sym, ap, ◌∙◌, refl, Bool, true, false, not, arith, reverse}
 use Rattle.std.proofs.lemmas.List.{length-reverse, get_or-reverse, get_or_default}
 use Rattle.std.proofs.lemmas.List.Sums.{fails_before_first, prefix_len_stops, prefix_len-le-length}
-use Rattle.std.specs.List.{All, Contains, position, position_or_len, filter}
+use Rattle.std.specs.List.{Contains, position, position_or_len, filter}
 use Rattle.std.specs.Str.{bytes_eq}
-use Rattle.mz_logic.specs.Term.{Const}
 use Rattle.mz_by.specs.Decides.{HasSameSides}
-use Rattle.mizv.specs.declared.fault.Fault.{Fault}
 use Rattle.mizv.specs.declared.theorem.Theorem.{Theorem}
 use Rattle.mizv.specs.FirstForm.{IsTheorem}
 use Rattle.mizv.specs.Outcome.{index_of, instance_of, has_same_sides, open_fault, faults_of}
@@ -61,10 +59,6 @@ faults_of-first t ts = elim (has_same_sides t) as (λ b. map open_fault (if not 
 faults_of-same : (t : Theorem) → t.left ≡ t.right → faults_of (t ∷ []) ≡ []
 faults_of-same t e = ap (λ b. map open_fault (if not b then t ∷ [] else [])) (bytes_eq-same t.left t.right e)
 
-faults_of-other : (t : Theorem) → (t.left ≡ t.right → ⊥) → faults_of (t ∷ []) ≡ open_fault t ∷ []
-faults_of-other t h =
-    elim (has_same_sides t) as (λ b. has_same_sides t ≡ b → map open_fault (if not b then t ∷ [] else []) ≡ open_fault t ∷ []) [ true ↦ (λ e. absurd (h (same_spelling t.left t.right e))) | false ↦ (λ e. refl) ] refl
-
 -- the first index at which a test passes, or the length
 pub unwrap_or-position : (p : List ℕ → Bool) (xs : List (List ℕ)) (n : ℕ) → n ≡ length xs → unwrap_or (position p xs) n ≡ position_or_len p xs
 unwrap_or-position p xs n e =
@@ -82,6 +76,3 @@ closed_faults t h e =
     let plus : index_of t.variables t.left + 1 ≡ index_of t.variables t.right + 1 = cc in
     let same : index_of t.variables t.left ≡ index_of t.variables t.right = omega arith in
     faults_of-same t (index_of-inj t.variables t.left t.right h.left h.right same)
-
-pub open_faults : (t : Theorem) → (HasSameSides (instance_of t) → ⊥) → faults_of (t ∷ []) ≡ open_fault t ∷ []
-open_faults t h = faults_of-other t (λ e. h (ap (λ name. Const (index_of t.variables name + 1)) e))

@@ -1,5 +1,5 @@
 -- What the comparison of bytes says.
-use Rattle.std.proofs.Common.{◌≡◌, ℕ, List, Bool, true}
+use Rattle.std.proofs.Common.{◌≡◌, ℕ, List, true}
 use Rattle.std.specs.Str.{bytes_eq}
 use Rattle.std.proofs.lemmas.Slice.Eq.{bytes_eq-Decides}
 

@@ -1,9 +1,9 @@
 -- The words of theorems.
 use Rattle.std.proofs.lemmas.Bool.Decides.{nat_tests}
-use Rattle.std.proofs.Common.{nat_eq, ◌≡◌, ◌≢◌, ℕ, zero, suc, ◌<◌, ◌≤◌, ◌+◌, ◌-◌, List, [], ◌∷◌, ◌++◌, length, take, drop, get_or, map, codes, sym, ap, ◌∙◌, subst, refl, Bool, true, false, not, ◌&&◌, arith, append_assoc, append-nil}
+use Rattle.std.proofs.Common.{nat_eq, ◌≡◌, ◌≢◌, ℕ, ◌<◌, ◌≤◌, ◌+◌, ◌-◌, List, [], ◌∷◌, ◌++◌, length, take, drop, get_or, codes, sym, ap, ◌∙◌, subst, refl, Bool, true, false, not, ◌&&◌, arith, append_assoc, append-nil}
 use Rattle.std.proofs.lemmas.List.{map-append, drop_more, drop_all, drop-drop, take-append-drop, length-append, length-map, nil_from_length}
 use Rattle.std.proofs.lemmas.List.Elements.{All-nil, All-cons, All-head, All-tail, All-contains}
-use Rattle.std.specs.List.{list_all, AllPass, All, Contains}
+use Rattle.std.specs.List.{list_all, AllPass, All}
 use Rattle.std.specs.Str.{bytes_eq}
 use Rattle.mz_base.specs.declared.place.Place.{Place}
 use Rattle.mizv.specs.declared.word.Word.{Word}

@@ -1,10 +1,10 @@
 -- How the words of a theorem are read.
-use Rattle.std.specs.Prelude.{◌≡◌, ℕ, List, [], ◌∷◌, ◌++◌, Bool, true, false, not, ◌&&◌, ◌≤◌, length, Contains, codes}
+use Rattle.std.specs.Prelude.{◌≡◌, ℕ, List, [], ◌∷◌, Bool, false, not, ◌&&◌, ◌≤◌, length, Contains, codes}
 use Rattle.std.specs.Str.{bytes_eq}
 use Rattle.mz_base.specs.declared.place.Place.{Place}
 use Rattle.mizv.specs.declared.word.Word.{Word}
 use Rattle.mizv.specs.declared.theorem.Theorem.{Theorem}
-use Rattle.mizv.specs.FirstForm.{is_identifier, spellings, theorem_words, words_of, IsTheorem}
+use Rattle.mizv.specs.FirstForm.{is_identifier, spellings, words_of, IsTheorem}
 
 -- one or more identifiers with `,` between
 abbrev pub is_identifier_list : List (List ℕ) → Bool

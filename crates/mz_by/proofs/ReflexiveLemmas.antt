@@ -1,5 +1,5 @@
 -- An equation of a constant with itself is derivable.
-use Rattle.std.proofs.Common.{◌≡◌, List, [], refl, true}
+use Rattle.std.proofs.Common.{◌≡◌, List, refl}
 use Rattle.mz_logic.specs.Term.{Term, Bound, Const, App}
 use Rattle.mz_logic.specs.Formula.{Formula, Truth, Eq, Atom, Not, And, All}
 use Rattle.mz_logic.specs.Formulas.{sequent}

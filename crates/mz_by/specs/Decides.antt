@@ -1,5 +1,5 @@
 -- What is decided of an equation of two constants.
-use Rattle.std.specs.Prelude.{◌≡◌, ℕ}
+use Rattle.std.specs.Prelude.{◌≡◌}
 use Rattle.mz_logic.specs.Term.{Term, Bound, Const, App}
 use Rattle.mz_logic.specs.Formula.{Formula}
 use Rattle.mz_logic.specs.Forms.{IfEq}

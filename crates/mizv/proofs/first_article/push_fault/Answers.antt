@@ -1,5 +1,5 @@
-use Rattle.std.proofs.Common.{sym, ap, ◌∙◌, ◌++◌, append-nil}
-use Rattle.mizv.proofs.FaultLemmas.{closed_faults, open_faults}
+use Rattle.std.proofs.Common.{append-nil}
+use Rattle.mizv.proofs.FaultLemmas.{closed_faults}
 use Rattle.mizv.proofs.first_article.push_fault.Goals as goal
 
 pub returns-in-Closed : goal.returns-in-Closed
