@@ -4,3 +4,5 @@
 pub mod check;
 pub mod derivation;
 pub mod node;
+#[cfg(test)]
+mod tests;
