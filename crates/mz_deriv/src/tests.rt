@@ -136,28 +136,44 @@ impl Stack {
         self.trees.push(Derivation::new(rule, sequent, parents))
     }
 
-    fn read(&mut self, alloc: Global, byte: u8) -> Result<(), AllocError> {
+    fn read_term(&mut self, alloc: Global, byte: u8) -> Result<(), AllocError> {
         match byte {
-            b' ' => Ok(()),
             b'0'..=b'9' => self.terms.push(Term::constant((byte - b'0') as u32)),
             b'x'..=b'y' => self.terms.push(Term::bound((byte - b'x') as u32)),
             b'f' => self.apply(alloc, Kind::Functor),
-            b'F' => self.apply(alloc, Kind::LetterFunctor),
+            _ => self.apply(alloc, Kind::LetterFunctor),
+        }
+    }
+
+    fn read_formula(&mut self, alloc: Global, byte: u8) -> Result<(), AllocError> {
+        match byte {
             b'P' => self.atom(alloc, Kind::Predicate),
             b'Q' => self.atom(alloc, Kind::LetterPredicate),
             b'=' => self.equation(),
             b'T' => self.formulas.push(Formula::truth()),
             b'!' => self.negate(alloc),
             b'&' => self.join(alloc),
-            b'A' => self.quantify(alloc),
-            b'd' => {
-                let t = self.term()?;
-                self.define(Kind::LetterFunctor, Body::OfTerm(t))
-            }
-            b'D' => {
-                let f = self.formula()?;
-                self.define(Kind::LetterPredicate, Body::OfFormula(f))
-            }
+            _ => self.quantify(alloc),
+        }
+    }
+
+    fn read_term_body(&mut self) -> Result<(), AllocError> {
+        let t = self.term()?;
+        self.define(Kind::LetterFunctor, Body::OfTerm(t))
+    }
+
+    fn read_formula_body(&mut self) -> Result<(), AllocError> {
+        let f = self.formula()?;
+        self.define(Kind::LetterPredicate, Body::OfFormula(f))
+    }
+
+    fn read(&mut self, alloc: Global, byte: u8) -> Result<(), AllocError> {
+        match byte {
+            b' ' => Ok(()),
+            b'0'..=b'9' | b'x' | b'y' | b'f' | b'F' => self.read_term(alloc, byte),
+            b'P' | b'Q' | b'=' | b'T' | b'!' | b'&' | b'A' => self.read_formula(alloc, byte),
+            b'd' => self.read_term_body(),
+            b'D' => self.read_formula_body(),
             _ => self.node(alloc, byte),
         }
     }
