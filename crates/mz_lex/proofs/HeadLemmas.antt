@@ -27,7 +27,7 @@ use Rattle.mz_lex.specs.declared.head_fault.HeadFault.{HeadFault}
 use Rattle.mz_lex.specs.declared.head_fault.HeadFault.TheVariants as heads
 use Rattle.mz_lex.specs.declared.head_fault.HeadFault.TheVariants.{Unexpected, Profile2}
 use Rattle.mz_lex.specs.BuiltIn.{built_in_lexemes}
-use Rattle.mz_lex.specs.Cut.{IsStopped}
+use Rattle.mz_lex.specs.Cut.{Stop, IsStopped}
 use Rattle.mz_lex.specs.HeadFault.{head_fault_of}
 use Rattle.mz_lex.specs.Sign.{word_sign, sign_with, sign_of}
 use Rattle.mz_lex.specs.Expected.{next_of, is_at_directive, is_later, fault_at, AreRefused}
@@ -535,7 +535,7 @@ pub name_read : (t : Token) → sign_of t ≡ signs.Name → is_name t.spelling 
 unfolding sign_of
 name_read t h = named_with t.kind t.spelling h
 
-pub stopped_head : (bytes : List ℕ) (f : LexFault) → IsStopped built_in_lexemes true bytes f → IsHeadRefused bytes (head_fault_of f)
+pub stopped_head : (bytes : List ℕ) (f : LexFault) → IsStopped built_in_lexemes Stop bytes f → IsHeadRefused bytes (head_fault_of f)
 stopped_head bytes (lex.BadByte p) h = h
 stopped_head bytes (lex.TooManyTokens p) h = h
 stopped_head bytes (lex.Pragma p) h = h

@@ -8,7 +8,7 @@ use Rattle.mz_base.specs.declared.place.Place.{Place}
 use Rattle.mz_base.specs.declared.token.Token.{Token}
 use Rattle.mz_lex.specs.declared.lexeme.Lexeme.{Lexeme}
 use Rattle.mz_lex.specs.Tokens.{is_separator, opens_comment, opens_pragma, opens_token, is_spelling, token_of, is_line_end, EndsLine, IsToken, IsBadByte, IsComment}
-use Rattle.mz_lex.specs.Cut.{End, Whole, AtBadByte, AtPragma, AtTooManyTokens, Cuts, end, separator, comment, pragma, bad_byte, too_many, token, closing, closes, IsCut, OneCut}
+use Rattle.mz_lex.specs.Cut.{End, Whole, AtBadByte, AtPragma, AtTooManyTokens, Mode, Same, Stop, Switch, is_begin, is_border, Cuts, end, separator, comment, pragma, bad_byte, too_many, token, closing, switching, IsCut, OneCut, HeadFirst}
 
 -- what stands at the start of a text
 data Front : Type 0 where
@@ -156,24 +156,29 @@ token_only ls text w bs g k (at_bad t j) = absurd (no_bad ls text w bs j k)
 token_only ls text w bs g k (at_token t v rest j) = one_token ls text v rest w bs j k
 
 -- what a cut is, by what stands at its start
-abbrev MeansWord : List Lexeme → Bool → ℕ → Place → List ℕ → List ℕ → Bool → List Token → End → Type 0
-MeansWord ls h n p w bs true ts e = (ts ≡ token_of ls p w ∷ []) × (e ≡ Whole (end_from p w))
+abbrev MeansBorder : List Lexeme → Mode → ℕ → Place → List ℕ → List ℕ → List Token → End → Type 0
+MeansBorder ls Same n p w bs ts e = ⊥
+MeansBorder ls Stop n p w bs ts e = (ts ≡ token_of ls p w ∷ []) × (e ≡ Whole (end_from p w))
+MeansBorder ls (Switch later) n p w bs ts e = (us : List Token) × (ts ≡ token_of ls p w ∷ us) × Cuts later Same n (end_from p w) bs us e
+
+abbrev MeansWord : List Lexeme → Mode → ℕ → Place → List ℕ → List ℕ → Bool → List Token → End → Type 0
+MeansWord ls h n p w bs true ts e = MeansBorder ls h n p w bs ts e
 MeansWord ls h n p w bs false ts e = (us : List Token) × (ts ≡ token_of ls p w ∷ us) × Cuts ls h n (end_from p w) bs us e
 
-abbrev Means : List Lexeme → Bool → ℕ → Place → Front → List Token → End → Type 0
+abbrev Means : List Lexeme → Mode → ℕ → Place → Front → List Token → End → Type 0
 Means ls h n p nothing ts e = (ts ≡ []) × (e ≡ Whole p)
 Means ls h n p (skip c bs) ts e = Cuts ls h n (end_from p c) bs ts e
 Means ls h n p pragma_here ts e = (ts ≡ []) × (e ≡ AtPragma p)
 Means ls h n p bad ts e = (ts ≡ []) × (e ≡ AtBadByte p)
 Means ls h zero p (word w bs) ts e = (ts ≡ []) × (e ≡ AtTooManyTokens p)
-Means ls h (suc n) p (word w bs) ts e = MeansWord ls h n p w bs (closes h w) ts e
+Means ls h (suc n) p (word w bs) ts e = MeansWord ls h n p w bs (is_border h w) ts e
 
-record Opened (ls : List Lexeme) (h : Bool) (n : ℕ) (p : Place) (text : List ℕ) (ts : List Token) (e : End) : Type 0 where
+record Opened (ls : List Lexeme) (h : Mode) (n : ℕ) (p : Place) (text : List ℕ) (ts : List Token) (e : End) : Type 0 where
   front : Front
   stands : Stands ls text front
   means : Means ls h n p front ts e
 
-opened : (ls : List Lexeme) (h : Bool) (n : ℕ) (p : Place) (text : List ℕ) (ts : List Token) (e : End) → Cuts ls h n p text ts e → Opened ls h n p text ts e
+opened : (ls : List Lexeme) (h : Mode) (n : ℕ) (p : Place) (text : List ℕ) (ts : List Token) (e : End) → Cuts ls h n p text ts e → Opened ls h n p text ts e
 opened ls h n p text ts e end = record { front = nothing; stands = at_end; means = (refl, refl) }
 opened ls h n p text ts e (separator b bs us f s d) = record { front = skip (b ∷ []) bs; stands = at_separator b bs s; means = d }
 opened ls h n p text ts e (comment t c bs us f k d) = record { front = skip c bs; stands = at_comment t c bs k; means = d }
@@ -181,15 +186,16 @@ opened ls h n p text ts e (pragma t k) = record { front = pragma_here; stands = 
 opened ls h n p text ts e (bad_byte t k) = record { front = bad; stands = at_bad t k; means = (refl, refl) }
 opened ls h n p text ts e (too_many t w bs k) = record { front = word w bs; stands = at_token t w bs k; means = (refl, refl) }
 opened ls h n p text ts e (token {n = m} t w bs us f k c d) = record { front = word w bs; stands = at_token t w bs k; means = subst (λ b. MeansWord ls h m p w bs b ts e) (sym c) (us, refl, d) }
-opened ls h n p text ts e (closing {n = m} t w bs k c) = record { front = word w bs; stands = at_token t w bs k; means = subst (λ b. MeansWord ls h m p w bs b ts e) (sym c) (refl, refl) }
+opened ls h n p text ts e (closing {n = m} t w bs k c) = record { front = word w bs; stands = at_token t w bs k; means = subst (λ b. MeansWord ls Stop m p w bs b ts e) (sym c) (refl, refl) }
+opened ls h n p text ts e (switching {later = later} {n = m} t w bs us f k c d) = record { front = word w bs; stands = at_token t w bs k; means = subst (λ b. MeansWord ls (Switch later) m p w bs b ts e) (sym c) (us, refl, d) }
 
 -- what the other cut means where this stands at its start
-at_front : (ls : List Lexeme) (h : Bool) (n : ℕ) (p : Place) (text : List ℕ) (ts : List Token) (e : End) (f : Front) → ((g : Front) → Stands ls text g → g ≡ f) → Cuts ls h n p text ts e → Means ls h n p f ts e
+at_front : (ls : List Lexeme) (h : Mode) (n : ℕ) (p : Place) (text : List ℕ) (ts : List Token) (e : End) (f : Front) → ((g : Front) → Stands ls text g → g ≡ f) → Cuts ls h n p text ts e → Means ls h n p f ts e
 at_front ls h n p text ts e f only d =
     let o = opened ls h n p text ts e d in
     subst (λ g. Means ls h n p g ts e) (only o.front o.stands) o.means
 
-pub one_cut : (ls : List Lexeme) (h : Bool) (n : ℕ) (p : Place) (text : List ℕ) (ts us : List Token) (e f : End) → Cuts ls h n p text ts e → Cuts ls h n p text us f → (ts ≡ us) × (e ≡ f)
+pub one_cut : (ls : List Lexeme) (h : Mode) (n : ℕ) (p : Place) (text : List ℕ) (ts us : List Token) (e f : End) → Cuts ls h n p text ts e → Cuts ls h n p text us f → (ts ≡ us) × (e ≡ f)
 one_cut ls h n p text ts us e f end d2 =
     let m = at_front ls h n p [] us f nothing (end_only ls) d2 in (sym m.0, sym m.1)
 one_cut ls h n p text ts us e f (separator b bs ts' e' s d) d2 =
@@ -210,9 +216,48 @@ one_cut ls h n p text ts us e f (token {n = m} t w bs ts' e' k c d) d2 =
     let rest = one_cut ls h m (end_from p w) bs ts' it.0 e f d it.2 in
     ((λ i. token_of ls p w ∷ rest.0 i) ∙ sym it.1, rest.1)
 one_cut ls h n p text ts us e f (closing {n = m} t w bs k c) d2 =
-    let at = at_front ls h (suc m) p text us f (word w bs) (λ g. token_only ls text w bs g k) d2 in
-    let it = subst (λ b. MeansWord ls h m p w bs b us f) c at in
+    let at = at_front ls Stop (suc m) p text us f (word w bs) (λ g. token_only ls text w bs g k) d2 in
+    let it = subst (λ b. MeansWord ls Stop m p w bs b us f) c at in
     (sym it.0, sym it.1)
+one_cut ls h n p text ts us e f (switching {later = later} {n = m} t w bs ts' e' k c d) d2 =
+    let at = at_front ls (Switch later) (suc m) p text us f (word w bs) (λ g. token_only ls text w bs g k) d2 in
+    let it = subst (λ b. MeansWord ls (Switch later) m p w bs b us f) c at in
+    let rest = one_cut later Same m (end_from p w) bs ts' it.0 e f d it.2 in
+    ((λ i. token_of ls p w ∷ rest.0 i) ∙ sym it.1, rest.1)
 
-pub only_cut : (ls : List Lexeme) (h : Bool) (bytes : List ℕ) → OneCut ls h bytes
+pub only_cut : (ls : List Lexeme) (h : Mode) (bytes : List ℕ) → OneCut ls h bytes
 only_cut ls h bytes ts us e f = one_cut ls h 200000 start bytes ts us e f
+
+-- the tokens up to the first `begin` come first in the cut that goes on behind it
+head_first : (ls later : List Lexeme) (h : Mode) (n : ℕ) (p : Place) (text : List ℕ) (ts us : List Token) (e f : End) → h ≡ Stop → Cuts ls h n p text ts e → Cuts ls (Switch later) n p text us f → (vs : List Token) × (us ≡ ts ++ vs)
+head_first ls later h n p text ts us e f s end d2 = (us, refl)
+head_first ls later h n p text ts us e f s (separator b bs ts' e' o d) d2 =
+    let m = at_front ls (Switch later) n p (b ∷ bs) us f (skip (b ∷ []) bs) (λ g. separator_only ls b bs g o) d2 in
+    head_first ls later h n (after p b) bs ts us e f s d m
+head_first ls later h n p text ts us e f s (comment t c bs ts' e' k d) d2 =
+    let m = at_front ls (Switch later) n p text us f (skip c bs) (λ g. comment_only ls text c bs g k) d2 in
+    head_first ls later h n (end_from p c) bs ts us e f s d m
+head_first ls later h n p text ts us e f s (pragma t k) d2 = (us, refl)
+head_first ls later h n p text ts us e f s (bad_byte t k) d2 = (us, refl)
+head_first ls later h n p text ts us e f s (too_many t w bs k) d2 = (us, refl)
+head_first ls later h n p text ts us e f s (token {n = m} t w bs ts' e' k c d) d2 =
+    let at = at_front ls (Switch later) (suc m) p text us f (word w bs) (λ g. token_only ls text w bs g k) d2 in
+    let goes_on : is_begin w ≡ false = subst (λ x. is_border x w ≡ false) s c in
+    let it = subst (λ b. MeansWord ls (Switch later) m p w bs b us f) goes_on at in
+    let rest = head_first ls later h m (end_from p w) bs ts' it.0 e f s d it.2 in
+    (rest.0, it.1 ∙ (λ i. token_of ls p w ∷ rest.1 i))
+head_first ls later h n p text ts us e f s (closing {n = m} t w bs k c) d2 =
+    let at = at_front ls (Switch later) (suc m) p text us f (word w bs) (λ g. token_only ls text w bs g k) d2 in
+    let it = subst (λ b. MeansWord ls (Switch later) m p w bs b us f) c at in
+    (it.0, it.1)
+head_first ls later h n p text ts us e f s (switching t w bs ts' e' k c d) d2 = absurd (no_stop _ s)
+  where
+    is_stop : Mode → Bool
+    is_stop Same = false
+    is_stop Stop = true
+    is_stop (Switch l) = false
+    no_stop : (l : List Lexeme) → Switch l ≡ Stop → ⊥
+    no_stop l e = let no : false ≡ true = ap is_stop e in cc
+
+pub only_head_first : (ls later : List Lexeme) (bytes : List ℕ) → HeadFirst ls later bytes
+only_head_first ls later bytes ts us e f = head_first ls later Stop 200000 start bytes ts us e f refl

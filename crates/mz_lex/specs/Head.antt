@@ -13,7 +13,7 @@ use Rattle.mz_lex.specs.declared.head_fault.HeadFault.{HeadFault}
 use Rattle.mz_lex.specs.declared.head_fault.HeadFault.TheVariants.{BadByte, TooManyTokens, Pragma, Unexpected, EndsEarly, Profile2, Memory}
 use Rattle.mz_lex.specs.Sign.{sign_of}
 use Rattle.mz_lex.specs.BuiltIn.{built_in_lexemes}
-use Rattle.mz_lex.specs.Cut.{Whole, AtBadByte, AtPragma, AtTooManyTokens, IsCut}
+use Rattle.mz_lex.specs.Cut.{Stop, Whole, AtBadByte, AtPragma, AtTooManyTokens, IsCut}
 
 -- what a token of an environment part has to be
 pub data Pattern : Type 0 where
@@ -104,7 +104,7 @@ pub record BreaksOff (ts : List Token) : Type 0 where
 
 -- the tokens of the environment part alone
 abbrev pub HeadTokens : List ℕ → List Token → Place → Type 0
-HeadTokens bytes ts p = IsCut built_in_lexemes true bytes ts (Whole p)
+HeadTokens bytes ts p = IsCut built_in_lexemes Stop bytes ts (Whole p)
 
 -- the bytes have this environment part
 pub record IsHeadOf (bytes : List ℕ) (ds : List Directive) : Type 0 where
@@ -115,9 +115,9 @@ pub record IsHeadOf (bytes : List ℕ) (ds : List Directive) : Type 0 where
 
 -- the bytes are refused with this fault; want of memory says nothing of them
 abbrev pub IsHeadRefused : List ℕ → HeadFault → Type 0
-IsHeadRefused bytes (BadByte p) = (ts : List Token) × IsCut built_in_lexemes true bytes ts (AtBadByte p)
-IsHeadRefused bytes (TooManyTokens p) = (ts : List Token) × IsCut built_in_lexemes true bytes ts (AtTooManyTokens p)
-IsHeadRefused bytes (Pragma p) = (ts : List Token) × IsCut built_in_lexemes true bytes ts (AtPragma p)
+IsHeadRefused bytes (BadByte p) = (ts : List Token) × IsCut built_in_lexemes Stop bytes ts (AtBadByte p)
+IsHeadRefused bytes (TooManyTokens p) = (ts : List Token) × IsCut built_in_lexemes Stop bytes ts (AtTooManyTokens p)
+IsHeadRefused bytes (Pragma p) = (ts : List Token) × IsCut built_in_lexemes Stop bytes ts (AtPragma p)
 IsHeadRefused bytes (Unexpected p) = (ts : List Token) × (q : Place) × HeadTokens bytes ts q × IsUnexpected ts p
 IsHeadRefused bytes (EndsEarly p) = (ts : List Token) × HeadTokens bytes ts p × BreaksOff ts
 IsHeadRefused bytes (Profile2 p) = (ts : List Token) × (q : Place) × HeadTokens bytes ts q × IsLater ts p

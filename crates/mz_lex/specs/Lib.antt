@@ -4,6 +4,7 @@ pub mod Expected
 pub mod Head
 pub mod HeadFault
 pub mod Longest
+pub mod Part
 pub mod Piece
 pub mod Sign
 pub mod SymbolTable

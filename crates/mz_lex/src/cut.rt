@@ -1,9 +1,12 @@
 //! The cut of a text.
-ghost use Rattle.std.specs.Prelude.{◌≡◌, IfOk, IfErr};
-ghost use Rattle.mz_lex.specs.Cut.{Whole, IsCut, IsStopped, closes};
+ghost use Rattle.std.specs.Prelude.{◌≡◌, ◌<◌, length, IfOk, IfErr};
+ghost use Rattle.mz_lex.specs.Cut.{Whole, IsCut, IsStopped, is_begin};
+ghost use Rattle.mz_lex.specs.Part.{symbols_of, mode_of, ends_at, part_behind};
+ghost use Rattle.mz_lex.specs.Piece.{IsPiece};
 
 use crate::lex_fault::LexFault;
 use crate::longest::Longest;
+use crate::part::Part;
 use crate::piece::{Piece, first_piece};
 use crate::symbol_table::SymbolTable;
 use mz_base::place::Place;
@@ -15,10 +18,50 @@ use std::alloc::{AllocError, Global};
 /// The most tokens that a text has.
 pub const MOST_TOKENS: usize = 200_000;
 
-fn closes(head_alone: bool, spelling: &[u8]) -> bool
-    ensures { result ≡ closes head_alone spelling.now }
+fn is_begin(spelling: &[u8]) -> bool
+    ensures { result ≡ is_begin spelling.now }
 {
-    head_alone && spelling == b"begin".as_slice()
+    spelling == b"begin".as_slice()
+}
+
+/// Whether the cut ends with this spelling.
+fn ends_at(part: Part, spelling: &[u8]) -> bool
+    ensures { result ≡ ends_at part spelling.now }
+{
+    match part {
+        Part::HeadAlone => is_begin(spelling),
+        Part::Head => false,
+        Part::Behind => false,
+    }
+}
+
+/// The part behind this spelling.
+fn part_behind(part: Part, spelling: &[u8]) -> Part
+    ensures { result ≡ part_behind part spelling.now }
+{
+    match part {
+        Part::HeadAlone => Part::HeadAlone,
+        Part::Head => {
+            if is_begin(spelling) {
+                Part::Behind
+            } else {
+                Part::Head
+            }
+        }
+        Part::Behind => Part::Behind,
+    }
+}
+
+/// What stands at the start of the text, in this part.
+fn piece_in(part: Part, built_in: &SymbolTable, later: &SymbolTable, text: &[u8]) -> Piece
+    requires { 0 < length text.now }
+    ensures { IsPiece (symbols_of part built_in.now later.now) text.now result }
+{
+    match part {
+        Part::HeadAlone => first_piece(built_in, text),
+        Part::Head => first_piece(built_in, text),
+        Part::Behind => first_piece(later, text),
+    }
 }
 
 fn token(
@@ -38,24 +81,27 @@ fn token(
     })
 }
 
-/// The tokens of a text, or of its environment part alone, up to and including the first `begin`.
+/// The tokens of a text from this part on: up to and including the first `begin` with the built-in symbols, and behind
+/// it, where the cut doesn't end there, with the later ones.
 ///
 /// # Errors
 /// The first in the text of `BadByte`, `Pragma` and `TooManyTokens`. `Memory` where there wasn't enough memory.
 pub fn cut(
     alloc: Global,
-    table: &SymbolTable,
+    built_in: &SymbolTable,
+    later: &SymbolTable,
     bytes: &[u8],
-    head_alone: bool,
+    part: Part,
 ) -> Result<Tokens, LexFault>
-    ensures cut { IfOk result (λ ts. IsCut table.now head_alone bytes.now ts.items (Whole ts.end)) }
-    ensures stopped { IfErr result (IsStopped table.now head_alone bytes.now) }
+    ensures cut { IfOk result (λ ts. IsCut (symbols_of part built_in.now later.now) (mode_of part later.now) bytes.now ts.items (Whole ts.end)) }
+    ensures stopped { IfErr result (IsStopped (symbols_of part built_in.now later.now) (mode_of part later.now) bytes.now) }
 {
     let mut items = Vec::new(alloc);
     let mut place = Place::start();
     let mut rest = bytes;
+    let mut here = part;
     while !rest.is_empty() {
-        match first_piece(table, rest) {
+        match piece_in(here, built_in, later, rest) {
             Piece::Separator => {
                 let (separator, others) = rest.split_at(1);
                 place = place.after_all(separator);
@@ -74,9 +120,10 @@ pub fn cut(
                 items.push(token(alloc, longest, place, spelling)?)?;
                 place = place.after_all(spelling);
                 rest = others;
-                if closes(head_alone, spelling) {
+                if ends_at(here, spelling) {
                     return Ok(Tokens { items, end: place });
                 }
+                here = part_behind(here, spelling);
             }
             Piece::Pragma => return Err(LexFault::Pragma { place }),
             Piece::BadByte => return Err(LexFault::BadByte { place }),

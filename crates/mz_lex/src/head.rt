@@ -1,7 +1,7 @@
 //! The environment part of an article.
-ghost use Rattle.std.specs.Prelude.{◌≡◌, IfOk, IfErr, true};
+ghost use Rattle.std.specs.Prelude.{◌≡◌, IfOk, IfErr};
 ghost use Rattle.mz_lex.specs.BuiltIn.{built_in_lexemes};
-ghost use Rattle.mz_lex.specs.Cut.{OneCut};
+ghost use Rattle.mz_lex.specs.Cut.{Stop, OneCut};
 ghost use Rattle.mz_lex.specs.Expected.{next_of, is_at_directive, is_later, fault_at, AreRefused};
 ghost use Rattle.mz_lex.specs.Head.{SpellsHead, IsHeadOf, IsHeadRefused};
 
@@ -9,6 +9,7 @@ use crate::built_in::built_in_lexemes;
 use crate::cut::cut;
 use crate::expected::Expected;
 use crate::head_fault::HeadFault;
+use crate::part::Part;
 use crate::sign::{Sign, sign_of};
 use crate::symbol_table::SymbolTable;
 use mz_base::directive::Directive;
@@ -130,9 +131,9 @@ fn read_head(alloc: Global, tokens: &[Token], end: Place) -> Result<Head, HeadFa
 pub fn head(alloc: Global, bytes: &[u8]) -> Result<Head, HeadFault>
     ensures head { IfOk result (IsHeadOf bytes.now) }
     ensures refused { IfErr result (IsHeadRefused bytes.now) }
-    ensures one { OneCut built_in_lexemes true bytes.now }
+    ensures one { OneCut built_in_lexemes Stop bytes.now }
 {
     let table = SymbolTable::new(alloc, built_in_lexemes(alloc)?)?;
-    let tokens = cut(alloc, &table, bytes, true)?;
+    let tokens = cut(alloc, &table, &table, bytes, Part::HeadAlone)?;
     read_head(alloc, tokens.items.as_slice(), tokens.end)
 }

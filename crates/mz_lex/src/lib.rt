@@ -9,6 +9,7 @@ pub mod head_fault;
 pub mod lex_fault;
 pub mod lexeme;
 pub mod longest;
+pub mod part;
 pub mod piece;
 pub mod sign;
 pub mod symbol_table;
