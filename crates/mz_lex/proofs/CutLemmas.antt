@@ -1,16 +1,16 @@
 -- A turn of the loop over a text.
-use Rattle.std.proofs.Common.{◌≡◌, ◌≢◌, ℕ, suc, zero, ◌+◌, ◌-◌, ◌<◌, ◌≤◌, Bool, true, false, if◌then◌else◌, List, [], ◌∷◌, ◌++◌, length, take, drop, refl, sym, ap, subst, ◌∙◌, arith, append_assoc, append-nil, length-append}
-use Rattle.mz_base.specs.Place.{start, after, end_from}
+use Rattle.std.proofs.Common.{◌≡◌, ◌≢◌, ℕ, suc, zero, ◌+◌, Bool, true, false, if◌then◌else◌, List, [], ◌∷◌, ◌++◌, length, take, drop, refl, sym, ap, subst, ◌∙◌, arith, append_assoc, append-nil, length-append}
+use Rattle.mz_base.specs.Place.{start, end_from}
 use Rattle.mz_base.specs.declared.place.Place.{Place}
 use Rattle.mz_base.specs.declared.token.Token.{Token}
 use Rattle.mz_lex.specs.declared.lexeme.Lexeme.{Lexeme}
 use Rattle.mz_lex.specs.declared.longest.Longest.{Longest}
 use Rattle.mz_lex.specs.declared.part.Part.{Part}
 use Rattle.mz_lex.specs.declared.part.Part.TheVariants.{HeadAlone, Head, Behind}
-use Rattle.mz_lex.specs.Tokens.{opens_pragma, token_of, IsToken, IsBadByte}
+use Rattle.mz_lex.specs.Tokens.{opens_pragma, token_of, IsBadByte}
 use Rattle.mz_lex.specs.Piece.{IsTokenPiece, IsCommentPiece, BeginsWithSeparator}
 use Rattle.mz_lex.specs.Part.{symbols_of, mode_of, ends_at, part_behind}
-use Rattle.mz_lex.specs.Cut.{End, Whole, AtBadByte, AtPragma, AtTooManyTokens, Mode, Same, Stop, Switch, is_begin, is_border, Cuts, end, separator, comment, pragma, bad_byte, too_many, token, closing, switching, IsCut, most_tokens}
+use Rattle.mz_lex.specs.Cut.{End, Whole, AtBadByte, AtPragma, AtTooManyTokens, Mode, Same, Stop, Switch, is_begin, Cuts, end, separator, comment, pragma, bad_byte, too_many, token, closing, switching, IsCut, most_tokens}
 
 -- what the loop keeps: what is left to cut, in the mode and with the symbols that are reached, completes what was cut
 pub record SoFar (first : List Lexeme) (begun : Mode) (all : List ℕ) (items : List Token) (p : Place) (ls : List Lexeme) (m : Mode) (rest : List ℕ) : Type 0 where
@@ -76,10 +76,10 @@ pub past_word : (first : List Lexeme) (begun : Mode) (all : List ℕ) (items : L
 past_word first begun all items p HeadAlone built_in later rest so q w others best t items' part' piece few ew eo eq et ei open' eh =
     let goes_on : is_begin (take best.length rest) ≡ false = ap is_begin (sym ew) ∙ sym open' in
     subst (λ h. SoFar first begun all items' q (symbols_of h built_in later) (mode_of h later) others) (sym eh)
-      (past_token first begun all items p built_in Stop rest so built_in Stop q w others best t items' piece few ew eo eq et ei (λ n ts e d. token rest (take best.length rest) (drop best.length rest) ts e piece.token goes_on d))
+    (past_token first begun all items p built_in Stop rest so built_in Stop q w others best t items' piece few ew eo eq et ei (λ n ts e d. token rest (take best.length rest) (drop best.length rest) ts e piece.token goes_on d))
 past_word first begun all items p Behind built_in later rest so q w others best t items' part' piece few ew eo eq et ei open' eh =
     subst (λ h. SoFar first begun all items' q (symbols_of h built_in later) (mode_of h later) others) (sym eh)
-      (past_token first begun all items p later Same rest so later Same q w others best t items' piece few ew eo eq et ei (λ n ts e d. token rest (take best.length rest) (drop best.length rest) ts e piece.token refl d))
+    (past_token first begun all items p later Same rest so later Same q w others best t items' piece few ew eo eq et ei (λ n ts e d. token rest (take best.length rest) (drop best.length rest) ts e piece.token refl d))
 past_word first begun all items p Head built_in later rest so q w others best t items' part' piece few ew eo eq et ei open' eh =
     subst (λ h. SoFar first begun all items' q (symbols_of h built_in later) (mode_of h later) others) (sym eh) (by_word (is_begin w) refl)
   where

@@ -1,5 +1,5 @@
 -- A turn of the loop over the tokens of an environment part.
-use Rattle.std.proofs.Common.{◌≡◌, ◌≢◌, ℕ, suc, zero, ◌+◌, ◌<◌, ◌≤◌, ◌⊎◌, inl, inr, Bool, true, false, ◌&&◌, ◌||◌, cond, List, [], ◌∷◌, ◌++◌, length, get_or, take, drop, Option, Some, None, refl, sym, ap, subst, ◌∙◌, arith, append_assoc, append-nil, length-append, codes}
+use Rattle.std.proofs.Common.{◌≡◌, ℕ, suc, ◌+◌, ◌<◌, Bool, true, false, ◌&&◌, ◌||◌, cond, List, [], ◌∷◌, ◌++◌, length, get_or, take, drop, Option, Some, None, refl, sym, ap, subst, ◌∙◌, arith, append_assoc, append-nil, length-append, codes}
 use Rattle.std.specs.Prelude.{fold, map}
 use Rattle.std.specs.Str.{bytes_eq}
 use Rattle.std.proofs.lemmas.List.{take_more, take-append-drop}
@@ -29,9 +29,9 @@ use Rattle.mz_lex.specs.declared.head_fault.HeadFault.TheVariants.{Unexpected, P
 use Rattle.mz_lex.specs.BuiltIn.{built_in_lexemes}
 use Rattle.mz_lex.specs.Cut.{Stop, IsStopped}
 use Rattle.mz_lex.specs.HeadFault.{head_fault_of}
-use Rattle.mz_lex.specs.Sign.{word_sign, sign_with, sign_of}
+use Rattle.mz_lex.specs.Sign.{sign_with, sign_of}
 use Rattle.mz_lex.specs.Expected.{next_of, is_at_directive, is_later, fault_at, AreRefused}
-use Rattle.mz_lex.specs.Head.{Pattern, AWord, ADirective, AName, Fits, Matches, more_names, names_between, spell_directives, spell_head, EachNamed, SpellsHead, BeginsHead, ExpectsDirective, IsUnexpected, IsLater, BreaksOff, HeadTokens, IsHeadOf, IsHeadRefused}
+use Rattle.mz_lex.specs.Head.{Pattern, AWord, ADirective, AName, Fits, Matches, more_names, names_between, spell_directives, spell_head, EachNamed, SpellsHead, BeginsHead, ExpectsDirective, IsUnexpected, BreaksOff, HeadTokens, IsHeadOf, IsHeadRefused}
 
 -- patterns
 

@@ -1,14 +1,14 @@
 -- There is one cut.
-use Rattle.std.proofs.Common.{◌≡◌, ◌≢◌, ℕ, suc, zero, ◌+◌, ◌<◌, ◌≤◌, ◌⊎◌, inl, inr, Bool, true, false, not, ◌&&◌, ◌||◌, eqb, nat_eq, List, [], ◌∷◌, ◌++◌, length, take, drop, refl, sym, ap, subst, ◌∙◌, arith, length-append}
-use Rattle.std.specs.List.{list_all, starts_with}
+use Rattle.std.proofs.Common.{◌≡◌, ℕ, suc, zero, Bool, true, false, not, ◌&&◌, eqb, List, [], ◌∷◌, ◌++◌, length, take, drop, refl, sym, ap, subst, ◌∙◌, arith}
+use Rattle.std.specs.List.{list_all}
 use Rattle.std.proofs.Math.Seq.{take-append_seam, drop-append_seam}
 use borrow.Author.Tests.{eqb-true}
 use Rattle.mz_base.specs.Place.{start, after, end_from}
 use Rattle.mz_base.specs.declared.place.Place.{Place}
 use Rattle.mz_base.specs.declared.token.Token.{Token}
 use Rattle.mz_lex.specs.declared.lexeme.Lexeme.{Lexeme}
-use Rattle.mz_lex.specs.Tokens.{is_separator, opens_comment, opens_pragma, opens_token, is_spelling, token_of, is_line_end, EndsLine, IsToken, IsBadByte, IsComment}
-use Rattle.mz_lex.specs.Cut.{End, Whole, AtBadByte, AtPragma, AtTooManyTokens, Mode, Same, Stop, Switch, is_begin, is_border, Cuts, end, separator, comment, pragma, bad_byte, too_many, token, closing, switching, IsCut, OneCut, HeadFirst}
+use Rattle.mz_lex.specs.Tokens.{is_separator, opens_comment, opens_pragma, opens_token, token_of, is_line_end, EndsLine, IsToken, IsBadByte, IsComment}
+use Rattle.mz_lex.specs.Cut.{End, Whole, AtBadByte, AtPragma, AtTooManyTokens, Mode, Same, Stop, Switch, is_begin, is_border, Cuts, end, separator, comment, pragma, bad_byte, too_many, token, closing, switching, OneCut, HeadFirst}
 
 -- what stands at the start of a text
 data Front : Type 0 where
@@ -256,6 +256,7 @@ head_first ls later h n p text ts us e f s (switching t w bs ts' e' k c d) d2 = 
     is_stop Same = false
     is_stop Stop = true
     is_stop (Switch l) = false
+
     no_stop : (l : List Lexeme) → Switch l ≡ Stop → ⊥
     no_stop l e = let no : false ≡ true = ap is_stop e in cc
 

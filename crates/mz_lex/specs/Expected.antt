@@ -5,9 +5,9 @@ use Rattle.mz_base.specs.declared.token.Token.{Token}
 use Rattle.mz_lex.specs.declared.expected.Expected.{Expected}
 use Rattle.mz_lex.specs.declared.expected.Expected.TheVariants.{AtEnviron, AtDirective, AtName, AtSign, AtEnd}
 use Rattle.mz_lex.specs.declared.sign.Sign.{Sign}
-use Rattle.mz_lex.specs.declared.sign.Sign.TheVariants.{Environ, Begin, Directive, Later, Name, Comma, Semicolon, Other}
+use Rattle.mz_lex.specs.declared.sign.Sign.TheVariants.{Environ, Begin, Directive, Later, Name, Comma, Semicolon}
 use Rattle.mz_lex.specs.declared.head_fault.HeadFault.{HeadFault}
-use Rattle.mz_lex.specs.declared.head_fault.HeadFault.TheVariants.{BadByte, TooManyTokens, Pragma, Unexpected, EndsEarly, Profile2, Memory}
+use Rattle.mz_lex.specs.declared.head_fault.HeadFault.TheVariants.{Unexpected, EndsEarly, Profile2, Memory}
 use Rattle.mz_lex.specs.Head.{IsUnexpected, IsLater, BreaksOff}
 
 abbrev pub after_directives : Sign → Option Expected

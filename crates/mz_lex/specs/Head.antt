@@ -1,5 +1,5 @@
 -- Environment parts.
-use Rattle.std.specs.Prelude.{◌≡◌, ℕ, ◌<◌, Bool, true, false, List, [], ◌∷◌, ◌++◌, length}
+use Rattle.std.specs.Prelude.{◌≡◌, ℕ, ◌<◌, List, [], ◌∷◌, ◌++◌, length}
 use Rattle.mz_base.specs.Bytes.{raised}
 use Rattle.mz_base.specs.Name.{number_of}
 use Rattle.mz_base.specs.declared.place.Place.{Place}

@@ -1,5 +1,5 @@
 -- The longest lexeme at the start of a text.
-use Rattle.std.specs.Prelude.{ℕ, ◌+◌, Bool, true, false, ◌&&◌, ◌==◌, nat_eq, nat_lt, if◌then◌else◌, List, [], ◌∷◌, length, fold, map}
+use Rattle.std.specs.Prelude.{ℕ, ◌+◌, Bool, false, ◌&&◌, ◌==◌, nat_eq, nat_lt, if◌then◌else◌, List, [], ◌∷◌, length, fold}
 use Rattle.std.specs.List.{starts_with}
 use Rattle.mz_base.specs.declared.token_kind.TokenKind.TheVariants.{Special}
 use Rattle.mz_lex.specs.declared.lexeme.Lexeme.{Lexeme}

@@ -1,5 +1,5 @@
 -- The part of a text that is cut, as the code keeps it.
-use Rattle.std.specs.Prelude.{ℕ, Bool, true, false, if◌then◌else◌, List}
+use Rattle.std.specs.Prelude.{ℕ, Bool, false, if◌then◌else◌, List}
 use Rattle.mz_lex.specs.declared.lexeme.Lexeme.{Lexeme}
 use Rattle.mz_lex.specs.declared.part.Part.{Part}
 use Rattle.mz_lex.specs.declared.part.Part.TheVariants.{HeadAlone, Head, Behind}

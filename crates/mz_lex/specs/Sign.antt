@@ -1,5 +1,5 @@
 -- What a token is for an environment part.
-use Rattle.std.specs.Prelude.{ℕ, Bool, ◌||◌, if◌then◌else◌, List, codes}
+use Rattle.std.specs.Prelude.{ℕ, ◌||◌, if◌then◌else◌, List, codes}
 use Rattle.std.specs.Str.{bytes_eq}
 use Rattle.mz_base.specs.Name.{is_name}
 use Rattle.mz_base.specs.declared.token.Token.{Token}

@@ -1,7 +1,6 @@
 use Rattle.std.proofs.Common.{◌≡◌, ◌+◌, ◌-◌, ◌≤◌, length, drop}
 use Rattle.std.specs.List.{prefix_len}
 use Rattle.mz_base.specs.Words.{is_word_byte}
-use Rattle.mz_lex.specs.Piece.{word_len}
 use Rattle.mz_lex.proofs.piece.word_len.Given as goal
 
 abbrev pub invariant-loop-length : goal.invariant-loop-length

@@ -1,4 +1,4 @@
-use Rattle.std.proofs.Common.{◌≡◌, ℕ, ◌<◌, ◌≤◌, length, get_or, []}
+use Rattle.std.proofs.Common.{◌≡◌, ℕ, ◌<◌, length, get_or, []}
 use Rattle.mz_lex.specs.Longest.{positions_of}
 use Rattle.mz_lex.proofs.symbol_table.index_of.Given as goal
 

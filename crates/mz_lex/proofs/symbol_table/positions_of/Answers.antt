@@ -1,4 +1,4 @@
-use Rattle.std.proofs.Common.{refl, ◌∙◌, sym, append-nil}
+use Rattle.std.proofs.Common.{◌∙◌, sym, append-nil}
 use Rattle.mz_lex.proofs.LongestLemmas.{positions_step}
 use Rattle.mz_lex.proofs.symbol_table.positions_of.Goals as goal
 use Rattle.mz_lex.proofs.symbol_table.positions_of.Goals.{then-begins_with+in_ok-push, else-begins_with}
