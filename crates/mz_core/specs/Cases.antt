@@ -53,11 +53,16 @@ term_meanings (term_definiens.Plain t) = t ∷ []
 term_meanings (term_definiens.Cases cases) = map term_case_meaning cases
 term_meanings (term_definiens.CasesOtherwise cases t) = map term_case_meaning cases ++ t ∷ []
 
--- each formula under its condition; without conditions each stands alone
+-- ci implies fi
+abbrev pub implications : List Formula → List Formula → List Formula
+implications [] fs = []
+implications (c ∷ cs) [] = []
+implications (c ∷ cs) (f ∷ fs) = implies c f ∷ implications cs fs
+
+-- each formula under its condition; without conditions it stands alone
 abbrev pub conditional : List Formula → List Formula → List Formula
 conditional [] fs = fs
-conditional (c ∷ cs) [] = []
-conditional (c ∷ cs) (f ∷ fs) = implies c f ∷ conditional cs fs
+conditional (c ∷ cs) fs = implications (c ∷ cs) fs
 
 -- `ci implies fi` for every case, joined
 abbrev pub each_case : List Formula → List Formula → Formula

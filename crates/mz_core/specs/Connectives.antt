@@ -30,6 +30,11 @@ abbrev pub for_guard : List Formula → Formula → Formula
 for_guard [] f = All f
 for_guard (g ∷ gs) f = All (implies (joined_to g gs) f)
 
+-- f under the antecedent that joins a guard, where that has literals
+abbrev pub where_guard : List Formula → Formula → Formula
+where_guard [] f = f
+where_guard (g ∷ gs) f = implies (joined_to g gs) f
+
 -- the guard of a type, which stands outside a quantifier, at the quantifier's object
 abbrev pub guard_inside : SoftType → List Formula
 guard_inside ty = guard (type_raised 0 1 ty) (Bound 0)

@@ -1,6 +1,6 @@
 -- What a type says of a term.
 use Rattle.std.specs.Prelude.{ℕ, Bool, ◌||◌, if◌then◌else◌, List, [], ◌∷◌, ◌++◌, map}
-use Rattle.mz_logic.specs.declared.kind.Kind.TheVariants.{Mode}
+use Rattle.mz_logic.specs.declared.kind.Kind.TheVariants.{Mode, Predicate}
 use Rattle.mz_logic.specs.declared.sym.Sym.{Sym}
 use Rattle.mz_logic.specs.Sym.{same_sym}
 use Rattle.mz_logic.specs.Term.{Term}
@@ -20,6 +20,10 @@ object_mode = record { article = hidden_number; kind = Mode; number = 1 }
 
 abbrev pub set_mode : Sym
 set_mode = record { article = hidden_number; kind = Mode; number = 2 }
+
+-- HIDDEN's predicate `in`
+abbrev pub in_predicate : Sym
+in_predicate = record { article = hidden_number; kind = Predicate; number = 1 }
 
 -- what has such a radix may be any object
 abbrev pub is_of_any_object : Sym → Bool

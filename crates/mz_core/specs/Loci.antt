@@ -1,5 +1,5 @@
 -- Loci.
-use Rattle.std.specs.Prelude.{ℕ, zero, suc, ◌+◌, List, [], ◌∷◌, length, nat_eq, if◌then◌else◌}
+use Rattle.std.specs.Prelude.{ℕ, zero, suc, ◌+◌, List, [], ◌∷◌, ◌++◌, length, reverse}
 use Rattle.mz_logic.specs.declared.sym.Sym.{Sym}
 use Rattle.mz_logic.specs.Term.{Term, Bound, App, terms_of}
 use Rattle.mz_logic.specs.Formula.{Formula, Atom}
@@ -11,10 +11,14 @@ abbrev pub over : List SoftType → Formula → Formula
 over [] f = f
 over (ty ∷ tys) f = for_type ty (over tys f)
 
--- the innermost `count` variables under `depth` more binders, the outermost first
+-- the innermost `count` variables under `depth` more binders, the innermost first
+abbrev pub inward : ℕ → ℕ → List Term
+inward depth zero = []
+inward depth (suc count) = inward depth count ++ Bound (depth + count) ∷ []
+
+-- the same, the outermost first
 abbrev pub variables : ℕ → ℕ → List Term
-variables depth zero = []
-variables depth (suc count) = Bound (depth + count) ∷ variables depth count
+variables depth count = reverse (inward depth count)
 
 -- a symbol's term on the loci
 abbrev pub term_on : List SoftType → Sym → Term

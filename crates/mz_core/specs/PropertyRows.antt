@@ -1,5 +1,5 @@
 -- The formulas of properties, under the loci. The variables x and y are new, of the loci's type.
-use Rattle.std.specs.Prelude.{ℕ, zero, suc, ◌+◌, List, [], ◌∷◌, length, nat_eq, if◌then◌else◌}
+use Rattle.std.specs.Prelude.{ℕ, zero, suc, ◌+◌, List, [], ◌∷◌, ◌++◌, length, nat_eq, if◌then◌else◌}
 use Rattle.mz_logic.specs.declared.sequent.Sequent.{Sequent}
 use Rattle.mz_logic.specs.declared.sym.Sym.{Sym}
 use Rattle.mz_logic.specs.Formulas.{sequent}
@@ -16,7 +16,7 @@ use Rattle.mz_core.specs.declared.property.Property.{Property}
 use Rattle.mz_core.specs.Raise.{type_raised}
 use Rattle.mz_core.specs.Fill.{filled, literal_filled}
 use Rattle.mz_core.specs.Guard.{guard}
-use Rattle.mz_core.specs.Connectives.{joined, implies, for_type}
+use Rattle.mz_core.specs.Connectives.{implies, where_guard, for_type}
 use Rattle.mz_core.specs.Loci.{over, mode_on}
 use Rattle.mz_core.specs.SetTermRows.{sethood}
 
@@ -26,22 +26,22 @@ abbrev pub value_at : ℕ → ℕ → Term → ℕ → Term → ℕ → Term
 value_at by left t right u index =
     if nat_eq index left then t else (if nat_eq index right then u else Bound (index + by))
 
--- the values of `count` loci from the index `from` on
-abbrev pub values : ℕ → ℕ → Term → ℕ → Term → ℕ → ℕ → List Term
-values by left t right u from zero = []
-values by left t right u from (suc count) = value_at by left t right u from ∷ values by left t right u (suc from) count
+-- the values of `count` loci, that of index 0 first
+abbrev pub values : ℕ → ℕ → Term → ℕ → Term → ℕ → List Term
+values by left t right u zero = []
+values by left t right u (suc count) = values by left t right u count ++ value_at by left t right u count ∷ []
 
 -- R(t,u), under `by` variables
 abbrev pub related : ℕ → ℕ → Relation → Term → Term → Formula
-related count by r t u = literal_filled (values by r.left t r.right u 0 count) r.literal
+related count by r t u = literal_filled (values by r.left t r.right u count) r.literal
 
 -- F(t,u), under `by` variables
 abbrev pub applied : ℕ → ℕ → Operation → Term → Term → Term
-applied count by o t u = filled (values by o.left t o.right u 0 count) o.term
+applied count by o t u = filled (values by o.left t o.right u count) o.term
 
 -- F(t), under one variable
 abbrev pub applied_to : ℕ → UnaryOperation → Term → Term
-applied_to count o t = filled (values 1 o.place t o.place t 0 count) o.term
+applied_to count o t = filled (values 1 o.place t o.place t count) o.term
 
 -- for x,y holds f
 abbrev pub for_both : SoftType → Formula → Formula
@@ -76,11 +76,6 @@ commutativity count o = for_both o.ty (Eq (applied count 2 o (Bound 1) (Bound 0)
 -- for x holds F(x,x) = x
 abbrev pub idempotence : ℕ → Operation → Formula
 idempotence count o = for_type o.ty (Eq (applied count 1 o (Bound 0) (Bound 0)) (Bound 0))
-
--- a further antecedent, where a guard has literals
-abbrev pub where_guard : List Formula → Formula → Formula
-where_guard [] f = f
-where_guard (g ∷ gs) f = implies (joined (g ∷ gs)) f
 
 -- the guard of the locus' type at F(x)
 abbrev pub inner_guard : ℕ → UnaryOperation → List Formula

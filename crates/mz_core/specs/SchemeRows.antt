@@ -18,9 +18,15 @@ letter_types (OfFunctor s places ty ∷ ls) = over places (of_type ty (term_on p
 letter_types (OfPredicate s places ∷ ls) = letter_types ls
 
 -- from the types of the functor letters and the premises, the conclusion
+abbrev pub scheme_sequent : Scheme → Sequent
+scheme_sequent s = sequent (letter_types s.letters ++ map erase s.premises) (erase s.conclusion)
+
 abbrev pub scheme_owes : Scheme → List Sequent
-scheme_owes s = sequent (letter_types s.letters ++ map erase s.premises) (erase s.conclusion) ∷ []
+scheme_owes s = scheme_sequent s ∷ []
 
 -- the premises imply the conclusion
+abbrev pub axiom_scheme_grant : Scheme → Formula
+axiom_scheme_grant s = implies (joined (map erase s.premises)) (erase s.conclusion)
+
 abbrev pub axiom_scheme_grants : Scheme → List Formula
-axiom_scheme_grants s = implies (joined (map erase s.premises)) (erase s.conclusion) ∷ []
+axiom_scheme_grants s = axiom_scheme_grant s ∷ []

@@ -2,7 +2,6 @@
 use Rattle.std.specs.Prelude.{ℕ, ◌+◌, List, [], ◌∷◌}
 use Rattle.mz_logic.specs.declared.sequent.Sequent.{Sequent}
 use Rattle.mz_logic.specs.declared.sym.Sym.{Sym}
-use Rattle.mz_logic.specs.declared.kind.Kind.TheVariants as kind
 use Rattle.mz_logic.specs.Formulas.{sequent}
 use Rattle.mz_logic.specs.Term.{Term, Bound}
 use Rattle.mz_logic.specs.Formula.{Formula, Truth, Eq, Atom, And}
@@ -10,8 +9,8 @@ use Rattle.mz_core.specs.declared.soft_type.SoftType.{SoftType}
 use Rattle.mz_core.specs.declared.set_term.SetTerm.{SetTerm}
 use Rattle.mz_core.specs.declared.set_term.Choice.{Choice}
 use Rattle.mz_core.specs.Raise.{raised, type_raised, formula_raised}
-use Rattle.mz_core.specs.Guard.{guard, object_mode, set_mode, hidden_number}
-use Rattle.mz_core.specs.Connectives.{joined, iff, for_type, ex_type}
+use Rattle.mz_core.specs.Guard.{object_mode, set_mode, in_predicate}
+use Rattle.mz_core.specs.Connectives.{iff, for_type, ex_type}
 use Rattle.mz_core.specs.Erasure.{erase}
 use Rattle.mz_core.specs.DefinitionRows.{of_type}
 use Rattle.mz_core.specs.Loci.{over, term_on}
@@ -25,10 +24,6 @@ object_type = plain_type object_mode
 
 abbrev pub set_type : SoftType
 set_type = plain_type set_mode
-
--- HIDDEN's predicate `in`
-abbrev pub in_predicate : Sym
-in_predicate = record { article = hidden_number; kind = kind.Predicate; number = 1 }
 
 -- t in u
 abbrev pub is_in : Term → Term → Formula
@@ -50,16 +45,25 @@ abbrev pub set_term_owes : SetTerm → List Sequent
 set_term_owes s = sequent [] (over s.loci (set_term_existence s)) ∷ []
 
 -- for z being object holds z in F iff ex x being T st z = t & P
+abbrev pub set_term_grant : SetTerm → Formula
+set_term_grant s = comprehension 0 (raised 0 1 (term_on s.loci s.sym)) s
+
 abbrev pub set_term_grants : SetTerm → List Formula
-set_term_grants s = over s.loci (comprehension 0 (raised 0 1 (term_on s.loci s.sym)) s) ∷ []
+set_term_grants s = over s.loci (set_term_grant s) ∷ []
 
 -- ex y being T st truth
+abbrev pub choice_existence : Choice → Formula
+choice_existence c = ex_type c.ty Truth
+
 abbrev pub choice_owes : Choice → List Sequent
-choice_owes c = sequent [] (over c.loci (ex_type c.ty Truth)) ∷ []
+choice_owes c = sequent [] (over c.loci (choice_existence c)) ∷ []
 
 -- T(C)
+abbrev pub choice_grant : Choice → Formula
+choice_grant c = of_type c.ty (term_on c.loci c.sym)
+
 abbrev pub choice_grants : Choice → List Formula
-choice_grants c = over c.loci (of_type c.ty (term_on c.loci c.sym)) ∷ []
+choice_grants c = over c.loci (choice_grant c) ∷ []
 
 -- ex Z being set st for y being M holds y in Z
 abbrev pub sethood : SoftType → Formula

@@ -11,7 +11,7 @@ use Rattle.mz_core.specs.Fill.{type_filled}
 use Rattle.mz_core.specs.Connectives.{joined, implies, for_type}
 use Rattle.mz_core.specs.DefinitionRows.{of_type}
 use Rattle.mz_core.specs.SetTermRows.{object_type}
-use Rattle.mz_core.specs.Loci.{over, variables}
+use Rattle.mz_core.specs.Loci.{over, inward, variables}
 
 -- S(t), under `by` variables
 abbrev pub structure_atom : ℕ → Structure → Term → Formula
@@ -29,17 +29,22 @@ aggregate by s ts = App s.aggregate (terms_of (variables by (length s.loci) ++ t
 abbrev pub selected : ℕ → Term → Field → Term
 selected by t f = App f.selector (terms_of (map (raised 0 by) f.args ++ t ∷ []))
 
--- T(i) where y has the fields' values ts, given from the last field to the first, and the loci are ls,
--- from the innermost outward
-abbrev pub field_type : List Term → Term → List Term → Field → SoftType
-field_type ts y ls f = type_filled (ts ++ y ∷ ls) f.ty
+-- what stands for the indices of a field's type where the fields have the values ts, given from the last
+-- field to the first, the object is y, and the loci are ls, from the innermost outward
+abbrev pub field_values : List Term → Term → List Term → List Term
+field_values ts y ls = ts ++ y ∷ ls
+
+-- `the sj` is sj(y), y being the only variable
+abbrev pub selected_values : Structure → List Term
+selected_values s = field_values (reverse (map (selected 1 (Bound 0)) s.fields)) (Bound 0) (inward 1 (length s.loci))
+
+-- `the sj` is zj, under `count` variables z, of which a is made
+abbrev pub given_values : Structure → ℕ → Term → List Term
+given_values s count a = field_values (inward 0 count) a (inward count (length s.loci))
 
 -- Ti(si(y)), y being the only variable
-abbrev pub field_fits : Structure → Field → Formula
-field_fits s f =
-    of_type
-    (field_type (reverse (map (selected 1 (Bound 0)) s.fields)) (Bound 0) (reverse (variables 1 (length s.loci))) f)
-    (selected 1 (Bound 0) f)
+abbrev pub field_fits : List Term → Field → Formula
+field_fits values f = of_type (type_filled values f.ty) (selected 1 (Bound 0) f)
 
 -- for y being object holds f
 abbrev pub for_object : Formula → Formula
@@ -54,13 +59,13 @@ grant_of_ancestors s = for_object (implies (structure_atom 1 s (Bound 0)) (joine
 
 -- (2) S(y) implies Ti(si(y)) for each i
 abbrev pub grant_of_fields : Structure → Formula
-grant_of_fields s = for_object (implies (structure_atom 1 s (Bound 0)) (joined (map (field_fits s) s.fields)))
+grant_of_fields s = for_object (implies (structure_atom 1 s (Bound 0)) (joined (map (field_fits (selected_values s)) s.fields)))
 
 -- zi meets Ti, for each i
-abbrev pub fit_each : List Term → Term → List Term → List Field → List Term → List Formula
-fit_each ts y ls [] zs = []
-fit_each ts y ls (f ∷ fs) [] = []
-fit_each ts y ls (f ∷ fs) (z ∷ zs) = of_type (field_type ts y ls f) z ∷ fit_each ts y ls fs zs
+abbrev pub fit_each : List Term → List Field → List Term → List Formula
+fit_each values [] zs = []
+fit_each values (f ∷ fs) [] = []
+fit_each values (f ∷ fs) (z ∷ zs) = of_type (type_filled values f.ty) z ∷ fit_each values fs zs
 
 -- si(a) = zi, for each i, under `by` variables
 abbrev pub select_each : ℕ → Term → List Field → List Term → List Formula
@@ -74,15 +79,20 @@ for_objects zero f = f
 for_objects (suc count) f = for_object (for_objects count f)
 
 -- (3) for z1 to zn, each of which meets its type, with a = the aggregate of these: S(a), strict(a), si(a) = zi
+abbrev pub fitting : Structure → ℕ → List Term → Term → Formula
+fitting s count zs a = joined (fit_each (given_values s count a) s.fields zs)
+
 abbrev pub aggregate_has : Structure → ℕ → List Term → Term → Formula
 aggregate_has s count zs a =
-    implies (joined (fit_each (reverse zs) a (reverse (variables count (length s.loci))) s.fields zs))
-    (joined (structure_atom count s a ∷ strict_atom count s a ∷ select_each count a s.fields zs))
+    joined (structure_atom count s a ∷ strict_atom count s a ∷ select_each count a s.fields zs)
+
+abbrev pub made_of : Structure → ℕ → List Term → Term → Formula
+made_of s count zs a = implies (fitting s count zs a) (aggregate_has s count zs a)
 
 abbrev pub grant_of_aggregate : Structure → Formula
 grant_of_aggregate s =
     for_objects (length s.fields)
-    (aggregate_has s (length s.fields) (variables 0 (length s.fields)) (aggregate (length s.fields) s (variables 0 (length s.fields))))
+    (made_of s (length s.fields) (variables 0 (length s.fields)) (aggregate (length s.fields) s (variables 0 (length s.fields))))
 
 -- (4) S(y) & strict(y) implies that y is the aggregate of s1(y) to sn(y)
 abbrev pub grant_of_strict : Structure → Formula

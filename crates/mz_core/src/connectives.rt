@@ -2,7 +2,7 @@
 ghost use Rattle.std.specs.Prelude.{◌≡◌, IfOk};
 ghost use Rattle.mz_logic.specs.Formula.{Formula};
 ghost use Rattle.mz_logic.specs.Negation.{negated};
-ghost use Rattle.mz_core.specs.Connectives.{joined_to, joined, implies, iff, for_guard, for_type, ex_type};
+ghost use Rattle.mz_core.specs.Connectives.{joined_to, joined, implies, iff, for_guard, where_guard, for_type, ex_type};
 
 use crate::guard::guard_inside;
 use crate::soft_type::SoftType;
@@ -72,6 +72,19 @@ pub fn for_guard(alloc: Global, guard: &Formulas, f: Formula) -> Result<Formula,
             let g = join_to(alloc, g, others)?;
             let f = implies(alloc, g, f)?;
             Formula::all(alloc, f)
+        }
+    }
+}
+
+/// `f` under the antecedent that joins the guard, where that has literals.
+pub fn where_guard(alloc: Global, guard: &Formulas, f: Formula) -> Result<Formula, AllocError>
+    ensures { IfOk result (λ g. g ≡ where_guard guard.now f) }
+{
+    match guard.items.as_slice() {
+        [] => Ok(f),
+        [g, others @ ..] => {
+            let g = join_to(alloc, g, others)?;
+            implies(alloc, g, f)
         }
     }
 }

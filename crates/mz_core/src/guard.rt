@@ -1,7 +1,7 @@
 //! What a type says of a term.
 ghost use Rattle.std.specs.Prelude.{◌≡◌, ◌++◌, ◌∷◌, [], IfOk, map};
 ghost use Rattle.mz_logic.specs.Formula.{Formula};
-ghost use Rattle.mz_core.specs.Guard.{object_mode, set_mode, is_of_any_object, radix_literals, adjective_literal, guard};
+ghost use Rattle.mz_core.specs.Guard.{object_mode, set_mode, in_predicate, is_of_any_object, radix_literals, adjective_literal, guard};
 ghost use Rattle.mz_core.specs.Connectives.{guard_inside};
 
 use crate::adjective::Adjective;
@@ -40,6 +40,17 @@ pub fn set_mode() -> Sym
     }
 }
 
+/// The predicate `in`.
+pub fn in_predicate() -> Sym
+    ensures { result ≡ in_predicate }
+{
+    Sym {
+        article: HIDDEN,
+        kind: Kind::Predicate,
+        number: 1,
+    }
+}
+
 /// Whether a radix of this symbol has no literal.
 pub fn is_of_any_object(s: Sym) -> bool
     ensures { result ≡ is_of_any_object s }
@@ -69,7 +80,8 @@ fn radix_literals(alloc: Global, r: &Radix, t: &Term) -> Result<Formulas, AllocE
     Ok(fs)
 }
 
-fn adjective_literal(alloc: Global, a: &Adjective, t: &Term) -> Result<Formula, AllocError>
+/// The literal of an adjective, which has the term as its last argument.
+pub fn adjective_literal(alloc: Global, a: &Adjective, t: &Term) -> Result<Formula, AllocError>
     ensures { IfOk result (λ f. f ≡ adjective_literal t.now a.now) }
 {
     let args = with_last(alloc, &a.args, t)?;

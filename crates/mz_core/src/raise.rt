@@ -60,7 +60,8 @@ fn raise_adjective(
     })
 }
 
-fn raise_adjectives(
+/// The same of each term of adjectives.
+pub fn raise_adjectives(
     alloc: Global,
     xs: &Adjectives,
     from: u32,
