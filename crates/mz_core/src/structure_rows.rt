@@ -1,0 +1,291 @@
+//! What structures grant, under their loci.
+ghost use Rattle.std.specs.Prelude.{◌≡◌, ◌++◌, ◌∷◌, [], IfOk, OnOk, map, reverse};
+ghost use Rattle.mz_logic.specs.Term.{Bound};
+ghost use Rattle.mz_core.specs.StructureRows.{structure_atom, strict_atom, aggregate, selected, field_values, selected_values, given_values, field_fits, for_object, ancestor_at, grant_of_ancestors, grant_of_fields, fit_each, select_each, for_objects, fitting, aggregate_has, grant_of_aggregate, grant_of_strict};
+
+use crate::connectives::{for_type, implies, join};
+use crate::definition_rows::of_type;
+use crate::field::Field;
+use crate::fields::Fields;
+use crate::fill::fill_type;
+use crate::guard::with_last;
+use crate::loci::{count_of, inward, variables};
+use crate::raise::{raise_terms, raise_type};
+use crate::set_term_rows::object_type;
+use crate::soft_type::SoftType;
+use crate::soft_types::SoftTypes;
+use crate::structure::Structure;
+use mz_logic::formula::Formula;
+use mz_logic::formulas::Formulas;
+use mz_logic::term::{Term, Terms};
+use std::alloc::{AllocError, Global};
+
+fn structure_atom(alloc: Global, by: u32, s: &Structure, t: &Term) -> Result<Formula, AllocError>
+    ensures { IfOk result (λ f. f ≡ structure_atom by s.now t.now) }
+{
+    let loci = variables(alloc, by, s.loci.items.len())?;
+    let args = with_last(alloc, &loci, t)?;
+    Ok(Formula::atom(s.sym, args))
+}
+
+fn strict_atom(alloc: Global, by: u32, s: &Structure, t: &Term) -> Result<Formula, AllocError>
+    ensures { IfOk result (λ f. f ≡ strict_atom by s.now t.now) }
+{
+    let loci = variables(alloc, by, s.loci.items.len())?;
+    let args = with_last(alloc, &loci, t)?;
+    Ok(Formula::atom(s.strict, args))
+}
+
+fn followed(alloc: Global, ts: Terms, us: &Terms) -> Result<Terms, AllocError>
+    ensures { IfOk result (λ vs. vs ≡ ts ++ us.now) }
+{
+    let mut out = ts;
+    for u in &us.items {
+        out.push(u.copy(alloc)?)?;
+    }
+    Ok(out)
+}
+
+fn aggregate(alloc: Global, by: u32, s: &Structure, ts: &Terms) -> Result<Term, AllocError>
+    ensures { IfOk result (λ t. t ≡ aggregate by s.now ts.now) }
+{
+    let loci = variables(alloc, by, s.loci.items.len())?;
+    let args = followed(alloc, loci, ts)?;
+    Ok(Term::apply(s.aggregate, args))
+}
+
+fn selected(alloc: Global, by: u32, t: &Term, f: &Field) -> Result<Term, AllocError>
+    ensures { IfOk result (λ u. u ≡ selected by t.now f.now) }
+{
+    let args = raise_terms(alloc, &f.args, 0, by)?;
+    let args = with_last(alloc, &args, t)?;
+    Ok(Term::apply(f.selector, args))
+}
+
+fn each_selected(alloc: Global, by: u32, t: &Term, xs: &Fields) -> Result<Terms, AllocError>
+    ensures { IfOk result (λ ys. ys ≡ map (selected by t.now) xs.now) }
+{
+    let mut out = Vec::new(alloc);
+    for x in &xs.items {
+        out.push(selected(alloc, by, t, x)?)?;
+    }
+    Ok(Terms { items: out })
+}
+
+fn field_values(alloc: Global, ts: Terms, y: &Term, loci: &Terms) -> Result<Terms, AllocError>
+    ensures { IfOk result (λ vs. vs ≡ field_values ts y.now loci.now) }
+{
+    let mut out = ts;
+    out.push(y.copy(alloc)?)?;
+    followed(alloc, out, loci)
+}
+
+fn selected_values(alloc: Global, s: &Structure) -> Result<Terms, AllocError>
+    ensures { IfOk result (λ vs. vs ≡ selected_values s.now) }
+{
+    let y = Term::bound(0);
+    let mut ts = each_selected(alloc, 1, &y, &s.fields)?;
+    ts.items.reverse();
+    let loci = inward(alloc, 1, s.loci.items.len())?;
+    field_values(alloc, ts, &y, &loci)
+}
+
+fn given_values(alloc: Global, s: &Structure, count: u32, a: &Term) -> Result<Terms, AllocError>
+    ensures { IfOk result (λ vs. vs ≡ given_values s.now count a.now) }
+{
+    let zs = inward(alloc, 0, count as usize)?;
+    let loci = inward(alloc, count, s.loci.items.len())?;
+    field_values(alloc, zs, a, &loci)
+}
+
+fn field_fits(alloc: Global, values: &Terms, f: &Field) -> Result<Formula, AllocError>
+    ensures { IfOk result (λ g. g ≡ field_fits values.now f.now) }
+{
+    let ty = fill_type(alloc, &f.ty, values)?;
+    let t = selected(alloc, 1, &Term::bound(0), f)?;
+    of_type(alloc, &ty, &t)
+}
+
+fn each_field_fits(alloc: Global, values: &Terms, xs: &Fields) -> Result<Formulas, AllocError>
+    ensures { IfOk result (λ ys. ys ≡ map (field_fits values.now) xs.now) }
+{
+    let mut out = Vec::new(alloc);
+    for x in &xs.items {
+        out.push(field_fits(alloc, values, x)?)?;
+    }
+    Ok(Formulas { items: out })
+}
+
+fn for_object(alloc: Global, f: Formula) -> Result<Formula, AllocError>
+    ensures { IfOk result (λ g. g ≡ for_object f) }
+{
+    for_type(alloc, &object_type(alloc), f)
+}
+
+fn ancestor_at(alloc: Global, ty: &SoftType) -> Result<Formula, AllocError>
+    ensures { IfOk result (λ f. f ≡ ancestor_at ty.now) }
+{
+    let ty = raise_type(alloc, ty, 0, 1)?;
+    of_type(alloc, &ty, &Term::bound(0))
+}
+
+fn each_ancestor(alloc: Global, xs: &SoftTypes) -> Result<Formulas, AllocError>
+    ensures { IfOk result (λ ys. ys ≡ map ancestor_at xs.now) }
+{
+    let mut out = Vec::new(alloc);
+    for x in &xs.items {
+        out.push(ancestor_at(alloc, x)?)?;
+    }
+    Ok(Formulas { items: out })
+}
+
+/// An object of the structure is of each ancestor.
+pub fn grant_of_ancestors(alloc: Global, s: &Structure) -> Result<Formula, AllocError>
+    ensures { IfOk result (λ f. f ≡ grant_of_ancestors s.now) }
+{
+    let fs = each_ancestor(alloc, &s.ancestors)?;
+    let f = join(alloc, &fs)?;
+    let g = structure_atom(alloc, 1, s, &Term::bound(0))?;
+    let f = implies(alloc, g, f)?;
+    for_object(alloc, f)
+}
+
+/// Each field of an object of the structure is of its type.
+pub fn grant_of_fields(alloc: Global, s: &Structure) -> Result<Formula, AllocError>
+    ensures { IfOk result (λ f. f ≡ grant_of_fields s.now) }
+{
+    let values = selected_values(alloc, s)?;
+    let fs = each_field_fits(alloc, &values, &s.fields)?;
+    let f = join(alloc, &fs)?;
+    let g = structure_atom(alloc, 1, s, &Term::bound(0))?;
+    let f = implies(alloc, g, f)?;
+    for_object(alloc, f)
+}
+
+fn push_fits(
+    alloc: Global,
+    out: &mut Formulas,
+    values: &Terms,
+    fs: &[Field],
+    zs: &[Term],
+) -> Result<(), AllocError>
+    ensures { OnOk result (out.new ≡ out.old ++ fit_each values.now fs.now zs.now) }
+{
+    match fs {
+        [] => Ok(()),
+        [f, fs @ ..] => match zs {
+            [] => Ok(()),
+            [z, zs @ ..] => {
+                let ty = fill_type(alloc, &f.ty, values)?;
+                out.push(of_type(alloc, &ty, z)?)?;
+                push_fits(alloc, out, values, fs, zs)
+            }
+        },
+    }
+}
+
+fn push_selections(
+    alloc: Global,
+    out: &mut Formulas,
+    by: u32,
+    a: &Term,
+    fs: &[Field],
+    zs: &[Term],
+) -> Result<(), AllocError>
+    ensures { OnOk result (out.new ≡ out.old ++ select_each by a.now fs.now zs.now) }
+{
+    match fs {
+        [] => Ok(()),
+        [f, fs @ ..] => match zs {
+            [] => Ok(()),
+            [z, zs @ ..] => {
+                let t = selected(alloc, by, a, f)?;
+                let z = z.copy(alloc)?;
+                out.push(Formula::equation(t, z))?;
+                push_selections(alloc, out, by, a, fs, zs)
+            }
+        },
+    }
+}
+
+fn fitting(
+    alloc: Global,
+    s: &Structure,
+    count: u32,
+    zs: &Terms,
+    a: &Term,
+) -> Result<Formula, AllocError>
+    ensures { IfOk result (λ f. f ≡ fitting s.now count zs.now a.now) }
+{
+    let values = given_values(alloc, s, count, a)?;
+    let mut fs = Formulas::new(alloc);
+    push_fits(
+        alloc,
+        &mut fs,
+        &values,
+        s.fields.items.as_slice(),
+        zs.items.as_slice(),
+    )?;
+    join(alloc, &fs)
+}
+
+fn aggregate_has(
+    alloc: Global,
+    s: &Structure,
+    count: u32,
+    zs: &Terms,
+    a: &Term,
+) -> Result<Formula, AllocError>
+    ensures { IfOk result (λ f. f ≡ aggregate_has s.now count zs.now a.now) }
+{
+    let mut fs = Formulas::new(alloc);
+    fs.push(structure_atom(alloc, count, s, a)?)?;
+    fs.push(strict_atom(alloc, count, s, a)?)?;
+    push_selections(
+        alloc,
+        &mut fs,
+        count,
+        a,
+        s.fields.items.as_slice(),
+        zs.items.as_slice(),
+    )?;
+    join(alloc, &fs)
+}
+
+fn for_objects(alloc: Global, count: u32, f: Formula) -> Result<Formula, AllocError>
+    ensures { IfOk result (λ g. g ≡ for_objects count f) }
+{
+    let mut out = f;
+    for k in 0..count {
+        out = for_object(alloc, out)?;
+    }
+    Ok(out)
+}
+
+/// Objects of the fields' types make an object of the structure, which is strict and has these fields.
+/// More than 4,294,967,295 fields are as no memory.
+pub fn grant_of_aggregate(alloc: Global, s: &Structure) -> Result<Formula, AllocError>
+    ensures { IfOk result (λ f. f ≡ grant_of_aggregate s.now) }
+{
+    let count = count_of(s.fields.items.len())?;
+    let zs = variables(alloc, 0, s.fields.items.len())?;
+    let a = aggregate(alloc, count, s, &zs)?;
+    let f = fitting(alloc, s, count, &zs, &a)?;
+    let g = aggregate_has(alloc, s, count, &zs, &a)?;
+    let f = implies(alloc, f, g)?;
+    for_objects(alloc, count, f)
+}
+
+/// A strict object of the structure is made of its fields.
+pub fn grant_of_strict(alloc: Global, s: &Structure) -> Result<Formula, AllocError>
+    ensures { IfOk result (λ f. f ≡ grant_of_strict s.now) }
+{
+    let y = Term::bound(0);
+    let f = structure_atom(alloc, 1, s, &y)?;
+    let g = strict_atom(alloc, 1, s, &y)?;
+    let both = Formula::and(alloc, f, g)?;
+    let ts = each_selected(alloc, 1, &y, &s.fields)?;
+    let a = aggregate(alloc, 1, s, &ts)?;
+    let f = implies(alloc, both, Formula::equation(y, a))?;
+    for_object(alloc, f)
+}
