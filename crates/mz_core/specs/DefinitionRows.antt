@@ -8,13 +8,14 @@ use Rattle.mz_core.specs.declared.soft_type.SoftType.{SoftType}
 use Rattle.mz_core.specs.declared.definition.MeansDefinition.{MeansDefinition}
 use Rattle.mz_core.specs.declared.definition.EqualsDefinition.{EqualsDefinition}
 use Rattle.mz_core.specs.declared.definition.AtomDefinition.{AtomDefinition}
+use Rattle.mz_core.specs.declared.definition.AttributeDefinition.{AttributeDefinition}
 use Rattle.mz_core.specs.declared.formula_definiens.FormulaDefiniens.{FormulaDefiniens}
 use Rattle.mz_core.specs.declared.term_definiens.TermDefiniens.{TermDefiniens}
 use Rattle.mz_core.specs.Raise.{raised, type_raised, formula_raised}
 use Rattle.mz_core.specs.Guard.{guard}
 use Rattle.mz_core.specs.Connectives.{joined, implies, iff, guard_inside, for_type, ex_type}
 use Rattle.mz_core.specs.Cases.{formula_conditions, term_conditions, formula_meanings, term_meanings, each_case, formula_cases, term_cases, agreements_in_type, agreements_as_formulas, agreements_as_terms}
-use Rattle.mz_core.specs.Loci.{over, term_on, atom_on, mode_on}
+use Rattle.mz_core.specs.Loci.{over, term_on, atom_on, attribute_on, mode_on}
 
 -- ci implies ex y being T st di(y)
 abbrev pub existence : SoftType → FormulaDefiniens → Formula
@@ -93,12 +94,20 @@ functor_equals_grants d =
     over d.pattern.loci (of_type d.ty (term_on d.pattern.loci d.sym)) ∷
     over d.pattern.loci (functor_equals (term_on d.pattern.loci d.sym) d.definiens) ∷ []
 
--- a predicate or an attribute
+-- a predicate
 abbrev pub atom_owes : AtomDefinition → List Sequent
 atom_owes d = consistency d.pattern.loci (agreements_as_formulas (formula_cases d.definiens))
 
 abbrev pub atom_grants : AtomDefinition → List Formula
 atom_grants d = over d.pattern.loci (atom_means (atom_on d.pattern.loci d.sym) d.definiens) ∷ []
+
+-- an attribute
+abbrev pub attribute_owes : AttributeDefinition → List Sequent
+attribute_owes d = consistency d.pattern.loci (agreements_as_formulas (formula_cases d.definiens))
+
+abbrev pub attribute_grants : AttributeDefinition → List Formula
+attribute_grants d =
+    over d.pattern.loci (atom_means (attribute_on d.pattern.loci d.subject d.sym) d.definiens) ∷ []
 
 -- a mode by `means`
 abbrev pub mode_means_owes : MeansDefinition → List Sequent

@@ -6,7 +6,7 @@ use Rattle.mz_logic.specs.Formula.{Formula}
 use Rattle.mz_core.specs.declared.item.Item.{Item}
 use Rattle.mz_core.specs.declared.item.Item.TheVariants.{Axiom, AxiomScheme, Primitive, Theorem, Scheme, FunctorMeans, FunctorEquals, Predicate, Attribute, ModeMeans, Abbreviation, Notation, RedefinedFunctor, RedefinedMode, RedefinedPredicate, RedefinedAttribute, Property, Existential, Conditional, Functorial, Reduction, Identification, Structure, SetTerm, Choice}
 use Rattle.mz_core.specs.Erasure.{erase}
-use Rattle.mz_core.specs.DefinitionRows.{functor_means_owes, functor_means_grants, functor_equals_owes, functor_equals_grants, atom_owes, atom_grants, mode_means_owes, mode_means_grants}
+use Rattle.mz_core.specs.DefinitionRows.{functor_means_owes, functor_means_grants, functor_equals_owes, functor_equals_grants, atom_owes, atom_grants, attribute_owes, attribute_grants, mode_means_owes, mode_means_grants}
 use Rattle.mz_core.specs.RedefinitionRows.{functor_redefinition_owes, mode_redefinition_owes, atom_redefinition_owes}
 use Rattle.mz_core.specs.PropertyRows.{property_owes}
 use Rattle.mz_core.specs.RegistrationRows.{existential_owes, conditional_owes, functorial_owes, reduction_owes, identification_owes}
@@ -24,7 +24,7 @@ owes (Scheme s) = scheme_owes s
 owes (FunctorMeans d) = functor_means_owes d
 owes (FunctorEquals d) = functor_equals_owes d
 owes (Predicate d) = atom_owes d
-owes (Attribute d) = atom_owes d
+owes (Attribute d) = attribute_owes d
 owes (ModeMeans d) = mode_means_owes d
 owes (Abbreviation p) = []
 owes (Notation p) = []
@@ -52,7 +52,7 @@ grants (Scheme s) = []
 grants (FunctorMeans d) = functor_means_grants d
 grants (FunctorEquals d) = functor_equals_grants d
 grants (Predicate d) = atom_grants d
-grants (Attribute d) = atom_grants d
+grants (Attribute d) = attribute_grants d
 grants (ModeMeans d) = mode_means_grants d
 grants (Abbreviation p) = []
 grants (Notation p) = []

@@ -1,5 +1,5 @@
 -- Loci.
-use Rattle.std.specs.Prelude.{ℕ, zero, suc, ◌+◌, List, [], ◌∷◌, ◌++◌, length, reverse}
+use Rattle.std.specs.Prelude.{ℕ, zero, suc, ◌+◌, List, [], ◌∷◌, ◌++◌, length, reverse, remove, take, drop}
 use Rattle.mz_logic.specs.declared.sym.Sym.{Sym}
 use Rattle.mz_logic.specs.Term.{Term, Bound, App, terms_of}
 use Rattle.mz_logic.specs.Formula.{Formula, Atom}
@@ -27,6 +27,14 @@ term_on loci s = App s (terms_of (variables 0 (length loci)))
 -- a symbol's atom on the loci
 abbrev pub atom_on : List SoftType → Sym → Formula
 atom_on loci s = Atom s (variables 0 (length loci))
+
+-- the terms without the one at the subject's place, and then that one; the terms where there is none
+abbrev pub subject_last : ℕ → List Term → List Term
+subject_last subject ts = remove ts subject ++ take 1 (drop subject ts)
+
+-- an attribute's atom on the loci without the subject, and then the subject
+abbrev pub attribute_on : List SoftType → ℕ → Sym → Formula
+attribute_on loci subject s = Atom s (subject_last subject (variables 0 (length loci)))
 
 -- a mode on the loci, as a type
 abbrev pub mode_on : List SoftType → Sym → SoftType

@@ -6,7 +6,7 @@ use Rattle.mz_logic.specs.Formula.{Formula, Eq, Atom, And}
 use Rattle.mz_core.specs.declared.soft_type.SoftType.{SoftType}
 use Rattle.mz_core.specs.declared.field.Field.{Field}
 use Rattle.mz_core.specs.declared.structure.Structure.{Structure}
-use Rattle.mz_core.specs.Raise.{raised, type_raised}
+use Rattle.mz_core.specs.Raise.{type_raised}
 use Rattle.mz_core.specs.Fill.{type_filled}
 use Rattle.mz_core.specs.Connectives.{joined, implies, for_type}
 use Rattle.mz_core.specs.DefinitionRows.{of_type}
@@ -25,9 +25,9 @@ strict_atom by s t = Atom s.strict (variables by (length s.loci) ++ t ∷ [])
 abbrev pub aggregate : ℕ → Structure → List Term → Term
 aggregate by s ts = App s.aggregate (terms_of (variables by (length s.loci) ++ ts))
 
--- si(t), under `by` variables
-abbrev pub selected : ℕ → Term → Field → Term
-selected by t f = App f.selector (terms_of (map (raised 0 by) f.args ++ t ∷ []))
+-- si(t)
+abbrev pub selected : Term → Field → Term
+selected t f = App f.selector (terms_of (t ∷ []))
 
 -- what stands for the indices of a field's type where the fields have the values ts, given from the last
 -- field to the first, the object is y, and the loci are ls, from the innermost outward
@@ -36,7 +36,7 @@ field_values ts y ls = ts ++ y ∷ ls
 
 -- `the sj` is sj(y), y being the only variable
 abbrev pub selected_values : Structure → List Term
-selected_values s = field_values (reverse (map (selected 1 (Bound 0)) s.fields)) (Bound 0) (inward 1 (length s.loci))
+selected_values s = field_values (reverse (map (selected (Bound 0)) s.fields)) (Bound 0) (inward 1 (length s.loci))
 
 -- `the sj` is zj, under `count` variables z, of which a is made
 abbrev pub given_values : Structure → ℕ → Term → List Term
@@ -44,7 +44,7 @@ given_values s count a = field_values (inward 0 count) a (inward count (length s
 
 -- Ti(si(y)), y being the only variable
 abbrev pub field_fits : List Term → Field → Formula
-field_fits values f = of_type (type_filled values f.ty) (selected 1 (Bound 0) f)
+field_fits values f = of_type (type_filled values f.ty) (selected (Bound 0) f)
 
 -- for y being object holds f
 abbrev pub for_object : Formula → Formula
@@ -67,11 +67,11 @@ fit_each values [] zs = []
 fit_each values (f ∷ fs) [] = []
 fit_each values (f ∷ fs) (z ∷ zs) = of_type (type_filled values f.ty) z ∷ fit_each values fs zs
 
--- si(a) = zi, for each i, under `by` variables
-abbrev pub select_each : ℕ → Term → List Field → List Term → List Formula
-select_each by a [] zs = []
-select_each by a (f ∷ fs) [] = []
-select_each by a (f ∷ fs) (z ∷ zs) = Eq (selected by a f) z ∷ select_each by a fs zs
+-- si(a) = zi, for each i
+abbrev pub select_each : Term → List Field → List Term → List Formula
+select_each a [] zs = []
+select_each a (f ∷ fs) [] = []
+select_each a (f ∷ fs) (z ∷ zs) = Eq (selected a f) z ∷ select_each a fs zs
 
 -- for z1,..,zn being object holds f
 abbrev pub for_objects : ℕ → Formula → Formula
@@ -84,7 +84,7 @@ fitting s count zs a = joined (fit_each (given_values s count a) s.fields zs)
 
 abbrev pub aggregate_has : Structure → ℕ → List Term → Term → Formula
 aggregate_has s count zs a =
-    joined (structure_atom count s a ∷ strict_atom count s a ∷ select_each count a s.fields zs)
+    joined (structure_atom count s a ∷ strict_atom count s a ∷ select_each a s.fields zs)
 
 abbrev pub made_of : Structure → ℕ → List Term → Term → Formula
 made_of s count zs a = implies (fitting s count zs a) (aggregate_has s count zs a)
@@ -99,7 +99,7 @@ abbrev pub grant_of_strict : Structure → Formula
 grant_of_strict s =
     for_object
     (implies (And (structure_atom 1 s (Bound 0)) (strict_atom 1 s (Bound 0)))
-    (Eq (Bound 0) (aggregate 1 s (map (selected 1 (Bound 0)) s.fields))))
+    (Eq (Bound 0) (aggregate 1 s (map (selected (Bound 0)) s.fields))))
 
 abbrev pub structure_grants : Structure → List Formula
 structure_grants s =

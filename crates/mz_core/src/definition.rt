@@ -1,5 +1,5 @@
-//! Definitions. All parts stand under the loci of the pattern; after `means`, with a type, the
-//! definiens stands under one more binder, that of `it`.
+//! Definitions. All parts stand under the loci of the pattern; after `means` of a functor
+//! or a mode the definiens stands under one more binder, that of `it`.
 use crate::formula_definiens::FormulaDefiniens;
 use crate::pattern::Pattern;
 use crate::soft_type::SoftType;
@@ -24,10 +24,21 @@ pub struct EqualsDefinition {
     pub definiens: TermDefiniens,
 }
 
-/// A predicate, or an attribute, whose subject is the last locus: its symbol and definiens.
+/// A predicate: its symbol, whose arguments are all loci in their order, and definiens.
 #[derive(Drop)]
 pub struct AtomDefinition {
     pub pattern: Pattern,
+    pub sym: Sym,
+    pub definiens: FormulaDefiniens,
+}
+
+/// An attribute: the place of its subject among the loci, from 0, its symbol, whose arguments are the other
+/// loci in their order and then the subject, and definiens. Where there is no locus at that place, the
+/// arguments are all loci in their order.
+#[derive(Drop)]
+pub struct AttributeDefinition {
+    pub pattern: Pattern,
+    pub subject: u32,
     pub sym: Sym,
     pub definiens: FormulaDefiniens,
 }

@@ -3,16 +3,16 @@ ghost use Rattle.std.specs.Prelude.{◌≡◌, ◌++◌, ◌∷◌, [], IfOk};
 ghost use Rattle.mz_logic.specs.Formula.{Formula};
 ghost use Rattle.mz_core.specs.Loci.{over};
 ghost use Rattle.mz_core.specs.Items.{grants};
-ghost use Rattle.mz_core.specs.DefinitionRows.{functor_means_grants, functor_equals_grants, atom_grants, mode_means_grants};
+ghost use Rattle.mz_core.specs.DefinitionRows.{functor_means_grants, functor_equals_grants, atom_grants, attribute_grants, mode_means_grants};
 ghost use Rattle.mz_core.specs.StructureRows.{structure_grants};
 
-use crate::definition::{AtomDefinition, EqualsDefinition, MeansDefinition};
+use crate::definition::{AtomDefinition, AttributeDefinition, EqualsDefinition, MeansDefinition};
 use crate::definition_rows::{
     atom_means, functor_equals, functor_means, mode_means, mode_type, of_type,
 };
 use crate::erasure::erase;
 use crate::item::Item;
-use crate::loci::{atom_on, mode_on, term_on};
+use crate::loci::{atom_on, attribute_on, mode_on, term_on};
 use crate::scheme_rows::axiom_scheme_grant;
 use crate::sequents::grant;
 use crate::set_term_rows::{choice_grant, set_term_grant};
@@ -54,6 +54,14 @@ fn atom_grants(alloc: Global, d: &AtomDefinition) -> Result<Formulas, AllocError
 {
     let r = atom_on(alloc, &d.pattern.loci, d.sym)?;
     let f = atom_means(alloc, &r, &d.definiens)?;
+    one_over(alloc, &d.pattern.loci, f)
+}
+
+fn attribute_grants(alloc: Global, d: &AttributeDefinition) -> Result<Formulas, AllocError>
+    ensures { IfOk result (λ fs. fs ≡ attribute_grants d.now) }
+{
+    let v = attribute_on(alloc, &d.pattern.loci, d.subject, d.sym)?;
+    let f = atom_means(alloc, &v, &d.definiens)?;
     one_over(alloc, &d.pattern.loci, f)
 }
 
@@ -117,7 +125,7 @@ pub fn grants(alloc: Global, item: &Item) -> Result<Formulas, AllocError>
         Item::FunctorMeans(d) => functor_means_grants(alloc, d),
         Item::FunctorEquals(d) => functor_equals_grants(alloc, d),
         Item::Predicate(d) => atom_grants(alloc, d),
-        Item::Attribute(d) => atom_grants(alloc, d),
+        Item::Attribute(d) => attribute_grants(alloc, d),
         Item::ModeMeans(d) => mode_means_grants(alloc, d),
         Item::Structure(s) => structure_grants(alloc, s),
         Item::SetTerm(s) => {

@@ -1,5 +1,5 @@
 //! The items of an article.
-use crate::definition::{AtomDefinition, EqualsDefinition, MeansDefinition};
+use crate::definition::{AtomDefinition, AttributeDefinition, EqualsDefinition, MeansDefinition};
 use crate::pattern::Pattern;
 use crate::property::Property;
 use crate::redefinition::{AtomRedefinition, FunctorRedefinition, ModeRedefinition};
@@ -11,8 +11,8 @@ use crate::set_term::{Choice, SetTerm};
 use crate::statement::Statement;
 use crate::structure::Structure;
 
-/// An item of an article. It has no constant and no loose index. `Axiom`, `AxiomScheme` and `Primitive`
-/// are those of the built-in articles, which owe nothing.
+/// An item of an article. An item of a checked article has no constant and no loose index. `Axiom`,
+/// `AxiomScheme` and `Primitive` are those of the built-in articles, which owe nothing.
 #[derive(Drop)]
 pub enum Item {
     Axiom(Statement),
@@ -23,7 +23,7 @@ pub enum Item {
     FunctorMeans(MeansDefinition),
     FunctorEquals(EqualsDefinition),
     Predicate(AtomDefinition),
-    Attribute(AtomDefinition),
+    Attribute(AttributeDefinition),
     ModeMeans(MeansDefinition),
     Abbreviation(Pattern),
     Notation(Pattern),

@@ -1,7 +1,7 @@
 //! Formulas and terms over loci.
 ghost use Rattle.std.specs.Prelude.{◌≡◌, [], IfOk};
 ghost use Rattle.mz_logic.specs.Formula.{Formula};
-ghost use Rattle.mz_core.specs.Loci.{over, inward, variables, term_on, atom_on, mode_on};
+ghost use Rattle.mz_core.specs.Loci.{over, inward, variables, term_on, atom_on, subject_last, attribute_on, mode_on};
 
 use crate::adjectives::Adjectives;
 use crate::connectives::for_type;
@@ -77,6 +77,32 @@ pub fn atom_on(alloc: Global, loci: &SoftTypes, s: Sym) -> Result<Formula, Alloc
     ensures { IfOk result (λ f. f ≡ atom_on loci.now s) }
 {
     let args = variables(alloc, 0, loci.items.len())?;
+    Ok(Formula::atom(s, args))
+}
+
+fn subject_last(ts: Terms, subject: u32) -> Result<Terms, AllocError>
+    ensures { IfOk result (λ us. us ≡ subject_last subject ts) }
+{
+    let mut out = ts;
+    let place = subject as usize;
+    if place < out.items.len() {
+        let t = out.items.remove(place);
+        out.items.push(t)?;
+    }
+    Ok(out)
+}
+
+/// An attribute's atom on the loci without the subject, and then the subject.
+pub fn attribute_on(
+    alloc: Global,
+    loci: &SoftTypes,
+    subject: u32,
+    s: Sym,
+) -> Result<Formula, AllocError>
+    ensures { IfOk result (λ f. f ≡ attribute_on loci.now subject s) }
+{
+    let args = variables(alloc, 0, loci.items.len())?;
+    let args = subject_last(args, subject)?;
     Ok(Formula::atom(s, args))
 }
 

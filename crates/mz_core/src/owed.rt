@@ -4,11 +4,11 @@ ghost use Rattle.mz_logic.specs.Formula.{Eq};
 ghost use Rattle.mz_logic.specs.Formulas.{sequent};
 ghost use Rattle.mz_core.specs.Loci.{over};
 ghost use Rattle.mz_core.specs.Items.{owes};
-ghost use Rattle.mz_core.specs.DefinitionRows.{consistency, functor_means_owes, functor_equals_owes, atom_owes, mode_means_owes};
+ghost use Rattle.mz_core.specs.DefinitionRows.{consistency, functor_means_owes, functor_equals_owes, atom_owes, attribute_owes, mode_means_owes};
 
 use crate::agreements::{agreements_as_formulas, agreements_as_terms, agreements_in_type};
 use crate::connectives::join;
-use crate::definition::{AtomDefinition, EqualsDefinition, MeansDefinition};
+use crate::definition::{AtomDefinition, AttributeDefinition, EqualsDefinition, MeansDefinition};
 use crate::definition_rows::{coherence, existence, uniqueness};
 use crate::erasure::erase;
 use crate::item::Item;
@@ -67,6 +67,15 @@ fn functor_equals_owes(alloc: Global, d: &EqualsDefinition) -> Result<Sequents, 
 
 fn atom_owes(alloc: Global, d: &AtomDefinition) -> Result<Sequents, AllocError>
     ensures { IfOk result (λ ss. ss ≡ atom_owes d.now) }
+{
+    let mut out = Sequents::new(alloc);
+    let fs = agreements_as_formulas(alloc, &d.definiens)?;
+    consistency(alloc, &mut out, &d.pattern.loci, fs)?;
+    Ok(out)
+}
+
+fn attribute_owes(alloc: Global, d: &AttributeDefinition) -> Result<Sequents, AllocError>
+    ensures { IfOk result (λ ss. ss ≡ attribute_owes d.now) }
 {
     let mut out = Sequents::new(alloc);
     let fs = agreements_as_formulas(alloc, &d.definiens)?;
@@ -136,7 +145,7 @@ pub fn owes(alloc: Global, item: &Item) -> Result<Sequents, AllocError>
         Item::FunctorMeans(d) => functor_means_owes(alloc, d),
         Item::FunctorEquals(d) => functor_equals_owes(alloc, d),
         Item::Predicate(d) => atom_owes(alloc, d),
-        Item::Attribute(d) => atom_owes(alloc, d),
+        Item::Attribute(d) => attribute_owes(alloc, d),
         Item::ModeMeans(d) => mode_means_owes(alloc, d),
         Item::Abbreviation(_) => Ok(Sequents::new(alloc)),
         Item::Notation(_) => Ok(Sequents::new(alloc)),

@@ -7,8 +7,8 @@ use mz_logic::kind::Kind;
 use mz_logic::literal::Literal;
 use mz_logic::term::Term;
 
-/// What a pattern reads to, under its loci. For a mode it is the type, for an attribute the literal,
-/// whose subject is the last locus.
+/// What a pattern reads to, under its loci: for a mode the type, for a predicate or an attribute the
+/// literal. The last argument of an attribute's literal is the subject.
 #[derive(Drop)]
 pub enum Meaning {
     OfTerm(Term),
@@ -18,7 +18,8 @@ pub enum Meaning {
 
 /// A notation: a symbol (of brackets the left one, with the right one as `closing`, which is empty
 /// elsewhere), what it makes, the types of its loci, each under those before it, the places of the
-/// visible loci before and after the symbol, from 0, and what it reads to.
+/// visible loci before and after the symbol, from 0, and what it reads to. For an attribute the subject is
+/// the one visible locus before `is`; it need not be the last locus.
 #[derive(Drop)]
 pub struct Pattern {
     pub symbol: Text,

@@ -10,7 +10,7 @@ use crate::fields::Fields;
 use crate::fill::fill_type;
 use crate::guard::with_last;
 use crate::loci::{count_of, inward, variables};
-use crate::raise::{raise_terms, raise_type};
+use crate::raise::raise_type;
 use crate::set_term_rows::object_type;
 use crate::soft_type::SoftType;
 use crate::soft_types::SoftTypes;
@@ -54,20 +54,20 @@ fn aggregate(alloc: Global, by: u32, s: &Structure, ts: &Terms) -> Result<Term, 
     Ok(Term::apply(s.aggregate, args))
 }
 
-fn selected(alloc: Global, by: u32, t: &Term, f: &Field) -> Result<Term, AllocError>
-    ensures { IfOk result (λ u. u ≡ selected by t.now f.now) }
+fn selected(alloc: Global, t: &Term, f: &Field) -> Result<Term, AllocError>
+    ensures { IfOk result (λ u. u ≡ selected t.now f.now) }
 {
-    let args = raise_terms(alloc, &f.args, 0, by)?;
-    let args = with_last(alloc, &args, t)?;
+    let mut args = Terms::new(alloc);
+    args.push(t.copy(alloc)?)?;
     Ok(Term::apply(f.selector, args))
 }
 
-fn each_selected(alloc: Global, by: u32, t: &Term, xs: &Fields) -> Result<Terms, AllocError>
-    ensures { IfOk result (λ ys. ys ≡ map (selected by t.now) xs.now) }
+fn each_selected(alloc: Global, t: &Term, xs: &Fields) -> Result<Terms, AllocError>
+    ensures { IfOk result (λ ys. ys ≡ map (selected t.now) xs.now) }
 {
     let mut out = Vec::new(alloc);
     for x in &xs.items {
-        out.push(selected(alloc, by, t, x)?)?;
+        out.push(selected(alloc, t, x)?)?;
     }
     Ok(Terms { items: out })
 }
@@ -84,7 +84,7 @@ fn selected_values(alloc: Global, s: &Structure) -> Result<Terms, AllocError>
     ensures { IfOk result (λ vs. vs ≡ selected_values s.now) }
 {
     let y = Term::bound(0);
-    let mut ts = each_selected(alloc, 1, &y, &s.fields)?;
+    let mut ts = each_selected(alloc, &y, &s.fields)?;
     ts.items.reverse();
     let loci = inward(alloc, 1, s.loci.items.len())?;
     field_values(alloc, ts, &y, &loci)
@@ -102,7 +102,7 @@ fn field_fits(alloc: Global, values: &Terms, f: &Field) -> Result<Formula, Alloc
     ensures { IfOk result (λ g. g ≡ field_fits values.now f.now) }
 {
     let ty = fill_type(alloc, &f.ty, values)?;
-    let t = selected(alloc, 1, &Term::bound(0), f)?;
+    let t = selected(alloc, &Term::bound(0), f)?;
     of_type(alloc, &ty, &t)
 }
 
@@ -187,22 +187,21 @@ fn push_fits(
 fn push_selections(
     alloc: Global,
     out: &mut Formulas,
-    by: u32,
     a: &Term,
     fs: &[Field],
     zs: &[Term],
 ) -> Result<(), AllocError>
-    ensures { OnOk result (out.new ≡ out.old ++ select_each by a.now fs.now zs.now) }
+    ensures { OnOk result (out.new ≡ out.old ++ select_each a.now fs.now zs.now) }
 {
     match fs {
         [] => Ok(()),
         [f, fs @ ..] => match zs {
             [] => Ok(()),
             [z, zs @ ..] => {
-                let t = selected(alloc, by, a, f)?;
+                let t = selected(alloc, a, f)?;
                 let z = z.copy(alloc)?;
                 out.push(Formula::equation(t, z))?;
-                push_selections(alloc, out, by, a, fs, zs)
+                push_selections(alloc, out, a, fs, zs)
             }
         },
     }
@@ -244,7 +243,6 @@ fn aggregate_has(
     push_selections(
         alloc,
         &mut fs,
-        count,
         a,
         s.fields.items.as_slice(),
         zs.items.as_slice(),
@@ -284,7 +282,7 @@ pub fn grant_of_strict(alloc: Global, s: &Structure) -> Result<Formula, AllocErr
     let f = structure_atom(alloc, 1, s, &y)?;
     let g = strict_atom(alloc, 1, s, &y)?;
     let both = Formula::and(alloc, f, g)?;
-    let ts = each_selected(alloc, 1, &y, &s.fields)?;
+    let ts = each_selected(alloc, &y, &s.fields)?;
     let a = aggregate(alloc, 1, s, &ts)?;
     let f = implies(alloc, both, Formula::equation(y, a))?;
     for_object(alloc, f)

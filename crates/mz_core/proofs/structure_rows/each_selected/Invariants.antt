@@ -3,4 +3,4 @@ use Rattle.mz_core.specs.StructureRows.{selected}
 use Rattle.mz_core.proofs.structure_rows.each_selected.Given as goal
 
 abbrev pub invariant-loop-x : goal.invariant-loop-x
-invariant-loop-x l = l.out.items ≡ map (selected l.by l.t) (take l.x-index l.x-items)
+invariant-loop-x l = l.out.items ≡ map (selected l.t) (take l.x-index l.x-items)
