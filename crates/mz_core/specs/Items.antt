@@ -1,9 +1,11 @@
 -- What the items of an article owe and grant.
-use Rattle.std.specs.Prelude.{List, [], ◌∷◌}
+use Rattle.std.specs.Prelude.{◌≡◌, List, [], ◌∷◌, ◌++◌, flat_map}
 use Rattle.mz_logic.specs.declared.sequent.Sequent.{Sequent}
 use Rattle.mz_logic.specs.Formulas.{sequent}
 use Rattle.mz_logic.specs.Formula.{Formula}
+use Rattle.mz_core.specs.declared.export.Export.{Export}
 use Rattle.mz_core.specs.declared.item.Item.{Item}
+use Rattle.mz_core.specs.declared.pattern.Pattern.{Pattern}
 use Rattle.mz_core.specs.declared.item.Item.TheVariants.{Axiom, AxiomScheme, Primitive, Theorem, Scheme, FunctorMeans, FunctorEquals, Predicate, Attribute, ModeMeans, Abbreviation, Notation, RedefinedFunctor, RedefinedMode, RedefinedPredicate, RedefinedAttribute, Property, Existential, Conditional, Functorial, Reduction, Identification, Structure, SetTerm, Choice}
 use Rattle.mz_core.specs.Erasure.{erase}
 use Rattle.mz_core.specs.DefinitionRows.{functor_means_owes, functor_means_grants, functor_equals_owes, functor_equals_grants, atom_owes, atom_grants, attribute_owes, attribute_grants, mode_means_owes, mode_means_grants}
@@ -69,3 +71,51 @@ grants (Identification r) = []
 grants (Structure s) = structure_grants s
 grants (SetTerm s) = set_term_grants s
 grants (Choice c) = choice_grants c
+
+-- the conclusion of a sequent, if it has no premises
+abbrev pub without_premises : List Formula → Formula → List Formula
+without_premises [] f = f ∷ []
+without_premises (p ∷ ps) f = []
+
+abbrev pub conclusion_alone : Sequent → List Formula
+conclusion_alone s = without_premises s.premises s.conclusion
+
+-- what an item grants, and what it owes without premises
+abbrev pub said_by : Item → List Formula
+said_by item = grants item ++ flat_map conclusion_alone (owes item)
+
+-- what the items of an article grant and owe without premises, in the items' order
+abbrev pub said : Export → List Formula
+said e = flat_map said_by e.items
+
+-- the patterns of an item
+abbrev pub patterns : Item → List Pattern
+patterns (Axiom s) = []
+patterns (AxiomScheme s) = []
+patterns (Primitive p) = p ∷ []
+patterns (Theorem s) = []
+patterns (Scheme s) = []
+patterns (FunctorMeans d) = d.pattern ∷ []
+patterns (FunctorEquals d) = d.pattern ∷ []
+patterns (Predicate d) = d.pattern ∷ []
+patterns (Attribute d) = d.pattern ∷ []
+patterns (ModeMeans d) = d.pattern ∷ []
+patterns (Abbreviation p) = p ∷ []
+patterns (Notation p) = p ∷ []
+patterns (RedefinedFunctor d) = d.pattern ∷ []
+patterns (RedefinedMode d) = d.pattern ∷ []
+patterns (RedefinedPredicate d) = d.pattern ∷ []
+patterns (RedefinedAttribute d) = d.pattern ∷ []
+patterns (Property p) = []
+patterns (Existential r) = []
+patterns (Conditional r) = []
+patterns (Functorial r) = []
+patterns (Reduction r) = []
+patterns (Identification r) = []
+patterns (Structure s) = s.patterns
+patterns (SetTerm s) = []
+patterns (Choice c) = []
+
+-- the notations of an article are the patterns of its items, in the items' order
+abbrev pub HasPatternsOfItems : Export → Type 0
+HasPatternsOfItems e = e.notations ≡ flat_map patterns e.items

@@ -11,7 +11,7 @@ pub struct Fault {
     pub number: Option<u64>,
 }
 
-/// Faults in the order of the text.
+/// Faults. Those of a checked article are in the order of the text.
 #[derive(Drop)]
 pub struct Faults {
     pub items: Vec<Fault>,

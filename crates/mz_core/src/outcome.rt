@@ -2,7 +2,8 @@
 use crate::export::Export;
 use crate::fault::Faults;
 
-/// The outcome of an article: what it gives to others, or its faults, of which there is at least one.
+/// The outcome of an article: what it gives to others, or its faults. A checked article that is
+/// rejected has at least one.
 #[derive(Drop)]
 pub enum Outcome {
     Accepted(Export),

@@ -3,7 +3,12 @@ ghost use Rattle.std.specs.Prelude.{◌≡◌, ◌++◌, ◌∷◌, [], IfOk, On
 ghost use Rattle.mz_logic.specs.Formula.{Eq};
 ghost use Rattle.mz_logic.specs.Formulas.{sequent};
 ghost use Rattle.mz_core.specs.Loci.{over};
+ghost use Rattle.mz_core.specs.Erasure.{erase};
 ghost use Rattle.mz_core.specs.Items.{owes};
+ghost use Rattle.mz_core.specs.PropertyRows.{property_owes};
+ghost use Rattle.mz_core.specs.RegistrationRows.{existential_owes, conditional_owes, functorial_owes};
+ghost use Rattle.mz_core.specs.SchemeRows.{scheme_owes};
+ghost use Rattle.mz_core.specs.SetTermRows.{set_term_owes, choice_owes};
 ghost use Rattle.mz_core.specs.DefinitionRows.{consistency, functor_means_owes, functor_equals_owes, atom_owes, attribute_owes, mode_means_owes};
 
 use crate::agreements::{agreements_as_formulas, agreements_as_terms, agreements_in_type};
@@ -12,13 +17,20 @@ use crate::definition::{AtomDefinition, AttributeDefinition, EqualsDefinition, M
 use crate::definition_rows::{coherence, existence, uniqueness};
 use crate::erasure::erase;
 use crate::item::Item;
+use crate::property::Property;
 use crate::property_rows::property_formula;
 use crate::redefinition_rows::{atom_redefinition, functor_redefinition, mode_redefinition};
+use crate::registration::{
+    ConditionalRegistration, EquationRegistration, ExistentialRegistration, FunctorialRegistration,
+};
 use crate::registration_rows::{conditional, existential, functorial};
+use crate::scheme::Scheme;
 use crate::scheme_rows::scheme_sequent;
 use crate::sequents::owe;
+use crate::set_term::{Choice, SetTerm};
 use crate::set_term_rows::{choice_existence, set_term_existence};
 use crate::soft_types::SoftTypes;
+use crate::statement::Statement;
 use mz_logic::formula::Formula;
 use mz_logic::formulas::Formulas;
 use mz_logic::sequent::Sequent;
@@ -118,6 +130,76 @@ fn equation(alloc: Global, t: &Term, u: &Term) -> Result<Formula, AllocError>
     Ok(Formula::equation(t, u))
 }
 
+fn theorem_owes(alloc: Global, s: &Statement) -> Result<Sequents, AllocError>
+    ensures { IfOk result (λ ss. ss ≡ sequent [] (erase s.now) ∷ []) }
+{
+    let conclusion = erase(alloc, s)?;
+    let premises = Formulas::new(alloc);
+    one(
+        alloc,
+        Sequent {
+            premises,
+            conclusion,
+        },
+    )
+}
+
+fn scheme_owes(alloc: Global, s: &Scheme) -> Result<Sequents, AllocError>
+    ensures { IfOk result (λ ss. ss ≡ scheme_owes s.now) }
+{
+    let s = scheme_sequent(alloc, s)?;
+    one(alloc, s)
+}
+
+fn property_owes(alloc: Global, p: &Property) -> Result<Sequents, AllocError>
+    ensures { IfOk result (λ ss. ss ≡ property_owes p.now) }
+{
+    let f = property_formula(alloc, &p.loci, &p.form)?;
+    one_over(alloc, &p.loci, f)
+}
+
+fn existential_owes(alloc: Global, r: &ExistentialRegistration) -> Result<Sequents, AllocError>
+    ensures { IfOk result (λ ss. ss ≡ existential_owes r.now) }
+{
+    let f = existential(alloc, r)?;
+    one_over(alloc, &r.loci, f)
+}
+
+fn conditional_owes(alloc: Global, r: &ConditionalRegistration) -> Result<Sequents, AllocError>
+    ensures { IfOk result (λ ss. ss ≡ conditional_owes r.now) }
+{
+    let f = conditional(alloc, r)?;
+    one_over(alloc, &r.loci, f)
+}
+
+fn functorial_owes(alloc: Global, r: &FunctorialRegistration) -> Result<Sequents, AllocError>
+    ensures { IfOk result (λ ss. ss ≡ functorial_owes r.now) }
+{
+    let f = functorial(alloc, r)?;
+    one_over(alloc, &r.loci, f)
+}
+
+fn equation_owes(alloc: Global, r: &EquationRegistration) -> Result<Sequents, AllocError>
+    ensures { IfOk result (λ ss. ss ≡ sequent [] (over r.now.loci (Eq r.now.left r.now.right)) ∷ []) }
+{
+    let f = equation(alloc, &r.left, &r.right)?;
+    one_over(alloc, &r.loci, f)
+}
+
+fn set_term_owes(alloc: Global, s: &SetTerm) -> Result<Sequents, AllocError>
+    ensures { IfOk result (λ ss. ss ≡ set_term_owes s.now) }
+{
+    let f = set_term_existence(alloc, s)?;
+    one_over(alloc, &s.loci, f)
+}
+
+fn choice_owes(alloc: Global, c: &Choice) -> Result<Sequents, AllocError>
+    ensures { IfOk result (λ ss. ss ≡ choice_owes c.now) }
+{
+    let f = choice_existence(alloc, c)?;
+    one_over(alloc, &c.loci, f)
+}
+
 /// The sequents that an item owes, by the table in `docs/PROOFS.md`, in the order of the conditions'
 /// numbers. Indices, depths or numbers of loci above 4,294,967,295 are as no memory.
 pub fn owes(alloc: Global, item: &Item) -> Result<Sequents, AllocError>
@@ -127,21 +209,8 @@ pub fn owes(alloc: Global, item: &Item) -> Result<Sequents, AllocError>
         Item::Axiom(_) => Ok(Sequents::new(alloc)),
         Item::AxiomScheme(_) => Ok(Sequents::new(alloc)),
         Item::Primitive(_) => Ok(Sequents::new(alloc)),
-        Item::Theorem(s) => {
-            let conclusion = erase(alloc, s)?;
-            let premises = Formulas::new(alloc);
-            one(
-                alloc,
-                Sequent {
-                    premises,
-                    conclusion,
-                },
-            )
-        }
-        Item::Scheme(s) => {
-            let s = scheme_sequent(alloc, s)?;
-            one(alloc, s)
-        }
+        Item::Theorem(s) => theorem_owes(alloc, s),
+        Item::Scheme(s) => scheme_owes(alloc, s),
         Item::FunctorMeans(d) => functor_means_owes(alloc, d),
         Item::FunctorEquals(d) => functor_equals_owes(alloc, d),
         Item::Predicate(d) => atom_owes(alloc, d),
@@ -153,38 +222,14 @@ pub fn owes(alloc: Global, item: &Item) -> Result<Sequents, AllocError>
         Item::RedefinedMode(d) => mode_redefinition(alloc, d),
         Item::RedefinedPredicate(d) => atom_redefinition(alloc, d),
         Item::RedefinedAttribute(d) => atom_redefinition(alloc, d),
-        Item::Property(p) => {
-            let f = property_formula(alloc, &p.loci, &p.form)?;
-            one_over(alloc, &p.loci, f)
-        }
-        Item::Existential(r) => {
-            let f = existential(alloc, r)?;
-            one_over(alloc, &r.loci, f)
-        }
-        Item::Conditional(r) => {
-            let f = conditional(alloc, r)?;
-            one_over(alloc, &r.loci, f)
-        }
-        Item::Functorial(r) => {
-            let f = functorial(alloc, r)?;
-            one_over(alloc, &r.loci, f)
-        }
-        Item::Reduction(r) => {
-            let f = equation(alloc, &r.left, &r.right)?;
-            one_over(alloc, &r.loci, f)
-        }
-        Item::Identification(r) => {
-            let f = equation(alloc, &r.left, &r.right)?;
-            one_over(alloc, &r.loci, f)
-        }
+        Item::Property(p) => property_owes(alloc, p),
+        Item::Existential(r) => existential_owes(alloc, r),
+        Item::Conditional(r) => conditional_owes(alloc, r),
+        Item::Functorial(r) => functorial_owes(alloc, r),
+        Item::Reduction(r) => equation_owes(alloc, r),
+        Item::Identification(r) => equation_owes(alloc, r),
         Item::Structure(_) => Ok(Sequents::new(alloc)),
-        Item::SetTerm(s) => {
-            let f = set_term_existence(alloc, s)?;
-            one_over(alloc, &s.loci, f)
-        }
-        Item::Choice(c) => {
-            let f = choice_existence(alloc, c)?;
-            one_over(alloc, &c.loci, f)
-        }
+        Item::SetTerm(s) => set_term_owes(alloc, s),
+        Item::Choice(c) => choice_owes(alloc, c),
     }
 }
