@@ -1,0 +1,6 @@
+use Rattle.std.proofs.Common.{◌≡◌, ◌++◌, take, map}
+use Rattle.mz_nf.specs.Disjunct.{joined, pairs}
+use Rattle.mz_nf.proofs.product.both.Given as goal
+
+abbrev pub invariant-loop-e : goal.invariant-loop-e
+invariant-loop-e l = l.out ≡ l.fn.ds ++ take l.e-index l.e-items

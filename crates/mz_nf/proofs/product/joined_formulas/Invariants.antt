@@ -1,0 +1,6 @@
+use Rattle.std.proofs.Common.{◌≡◌, ◌++◌, take, map}
+use Rattle.mz_nf.specs.Disjunct.{joined, pairs}
+use Rattle.mz_nf.proofs.product.joined_formulas.Given as goal
+
+abbrev pub invariant-loop-g : goal.invariant-loop-g
+invariant-loop-g l = l.out ≡ l.fs ++ take l.g-index l.g-items

@@ -1,0 +1,6 @@
+use Rattle.std.proofs.Common.{◌≡◌, ◌++◌, take, map}
+use Rattle.mz_nf.specs.Disjunct.{joined, pairs}
+use Rattle.mz_nf.proofs.product.joined_literals.Given as goal
+
+abbrev pub invariant-loop-m : goal.invariant-loop-m
+invariant-loop-m l = l.out ≡ l.ls ++ take l.m-index l.m-items

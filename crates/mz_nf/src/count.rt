@@ -1,0 +1,81 @@
+// How many disjuncts a problem has.
+ghost use Rattle.std.specs.Prelude.{◌≡◌, ◌↔◌, ◌+◌, ◌*◌, true, IsTrue};
+ghost use Rattle.mz_nf.specs.Count.{count, count_all, held, count_of};
+
+use crate::problem::Problem;
+use mz_logic::formula::{Formula, FormulaNode};
+use mz_logic::formulas::Formulas;
+
+/// The number at which a count is held.
+const MOST: u64 = 1_000_000_000;
+
+/// How many disjuncts a problem has, equal ones included, held at 1,000,000,000.
+#[tactic(auto, using(crate::proofs::CountLemmas::problem_rules))]
+pub fn count_of(p: &Problem) -> u64
+    ensures { result ≡ count_of p.now }
+{
+    product(count_all(&p.premises), count(false, &p.conclusion))
+}
+
+/// How many disjuncts the formulas have as one conjunction, held at 1,000,000,000.
+#[tactic(auto, using(crate::proofs::CountLemmas::list_rules))]
+fn count_all(fs: &Formulas) -> u64
+    ensures { result ≡ held (count_all fs.now) }
+{
+    let mut total = 1;
+    for f in &fs.items {
+        total = product(total, count(true, f));
+    }
+    total
+}
+
+/// How many disjuncts the formula has, or where `positive` is false its negation, held at 1,000,000,000.
+#[tactic(auto, using(crate::proofs::CountLemmas::count_rules))]
+pub fn count(positive: bool, f: &Formula) -> u64
+    ensures { result ≡ held (count positive f.now) }
+{
+    match &f.node {
+        FormulaNode::Truth => { if positive { 1 } else { 0 } }
+        FormulaNode::Eq(_, _) => 1,
+        FormulaNode::Atom(_, _) => 1,
+        FormulaNode::Not(g) => {
+            if positive {
+                count(false, g)
+            } else {
+                count(true, g)
+            }
+        }
+        FormulaNode::And(g, h) => {
+            if positive {
+                product(count(true, g), count(true, h))
+            } else {
+                sum(count(false, g), count(false, h))
+            }
+        }
+        FormulaNode::All(b) => { if positive { 1 } else { count(false, b) } }
+    }
+}
+
+/// Whether the conjunction of the formulas has no disjuncts.
+#[tactic(auto, using(crate::proofs::CountLemmas::pair_rules))]
+pub fn has_no_pair(g: &Formula, h: &Formula) -> bool
+    ensures { IsTrue result ↔ (count true g.now * count true h.now ≡ 0) }
+{
+    product(count(true, g), count(true, h)) == 0
+}
+
+/// The sum of two counts, held at 1,000,000,000.
+#[tactic(auto, unfolding(crate::specs::Count::held))]
+fn sum(m: u64, n: u64) -> u64
+    ensures { result ≡ held (m + n) }
+{
+    m.saturating_add(n).min(MOST)
+}
+
+/// The product of two counts, held at 1,000,000,000.
+#[tactic(auto, unfolding(crate::specs::Count::held))]
+fn product(m: u64, n: u64) -> u64
+    ensures { result ≡ held (m * n) }
+{
+    m.saturating_mul(n).min(MOST)
+}
