@@ -1,17 +1,22 @@
 -- A turn of the loop over the lines of a vocabulary.
-use Rattle.std.proofs.Common.{◌≡◌, ℕ, ◌+◌, false, ◌⊎◌, inl, inr, ⊎_elim, List, [], ◌∷◌, ◌++◌, length, Some, None, refl, sym, ap, subst, ◌∙◌, arith, append_assoc, append-nil, length-append}
+use Rattle.std.proofs.Common.{◌≡◌, ℕ, ◌+◌, Bool, true, false, cond, ◌||◌, ◌⊎◌, inl, inr, ⊎_elim, List, [], ◌∷◌, ◌++◌, length, Some, None, refl, sym, ap, subst, ◌∙◌, arith, append_assoc, append-nil, length-append}
+use Rattle.std.specs.Option.{is_some}
+use Rattle.std.specs.Str.{bytes_eq}
+use Rattle.std.proofs.lemmas.List.Folds.{list_any-append}
 use Rattle.mz_voc.specs.declared.entry.Entry.{Entry}
 use Rattle.mz_voc.specs.declared.line.Line.{Line}
 use Rattle.mz_voc.specs.declared.line.Line.TheVariants.{Blank, Good}
+use Rattle.mz_voc.specs.declared.spelled.Spelled.{Spelled}
 use Rattle.mz_voc.specs.declared.voc_fault.VocFault.{VocFault}
+use Rattle.mz_voc.specs.Spelled.{value_of}
 use Rattle.mz_voc.specs.Lines.{lines_of, without_return}
-use Rattle.mz_voc.specs.Vocabulary.{line_of, is_spelled, entries_on, entries_of, fault_on, fault_below, AreRight, IsFirstFault, IsVocabulary}
+use Rattle.mz_voc.specs.Vocabulary.{line_of, is_spelled, entries_on, entries_of, fault_on, fault_below, AreRight, IsFirstFault, IsVocabulary, AreDistinct}
 
 abbrev Texts : Type 0
 Texts = List (List ℕ)
 
--- where a line of `front` and one more stands
-snoc_cases : (front : Texts) (l : List ℕ) (above : Texts) (m : List ℕ) (below : Texts) → front ++ l ∷ [] ≡ above ++ m ∷ below → ((front ≡ above) × (l ≡ m)) ⊎ ((r : Texts) × (front ≡ above ++ m ∷ r))
+-- where an item of `front` and one more stands
+snoc_cases : {X : Type 0} (front : List X) (l : X) (above : List X) (m : X) (below : List X) → front ++ l ∷ [] ≡ above ++ m ∷ below → ((front ≡ above) × (l ≡ m)) ⊎ ((r : List X) × (front ≡ above ++ m ∷ r))
 snoc_cases [] l [] m below e = inl (refl, cc)
 snoc_cases [] l (x ∷ []) m below e = cc
 snoc_cases [] l (x ∷ y ∷ above) m below e = cc
@@ -28,6 +33,20 @@ AreRight-more front l right fine above m below e =
 AreRight-none : AreRight []
 AreRight-none [] m below e = cc
 AreRight-none (x ∷ above) m below e = cc
+
+pub AreDistinct-none : (entries : List Entry) → entries ≡ [] → AreDistinct entries
+AreDistinct-none entries e = subst AreDistinct (sym e) none
+  where
+    none : AreDistinct []
+    none [] entry below e = cc
+    none (x ∷ above) entry below e = cc
+
+pub AreDistinct-more : (entries entries' : List Entry) (entry : Entry) → AreDistinct entries → false ≡ is_spelled entries entry.spelling → entries' ≡ entries ++ entry ∷ [] → AreDistinct entries'
+AreDistinct-more entries entries' entry so new e = subst AreDistinct (sym e) more
+  where
+    more : AreDistinct (entries ++ entry ∷ [])
+    more above last below s =
+        ⊎_elim (λ p. subst (λ a. is_spelled a last.spelling ≡ false) p.0 (subst (λ k. is_spelled entries k.spelling ≡ false) p.1 (sym new))) (λ p. so above last p.0 p.1) (snoc_cases entries entry above last below s)
 
 entries_of-append : (xs ys : Texts) → entries_of (xs ++ ys) ≡ entries_of xs ++ entries_of ys
 unfolding entries_of
@@ -95,3 +114,20 @@ all_lines all [] entries n so h =
     let e : lines_of all ≡ so.front = so.split ∙ append-nil so.front in
     record { right = subst AreRight (sym e) so.right; in_order = so.these ∙ ap entries_of (sym e) }
 all_lines all (b ∷ rest) entries n so h = absurd (omega arith)
+
+-- which spellings stood above
+
+pub lines_none : (lines : Spelled ℕ) (entries : List Entry) → entries ≡ [] → ((spelling : List ℕ) → value_of lines spelling ≡ None) → (spelling : List ℕ) → is_some (value_of lines spelling) ≡ is_spelled entries spelling
+lines_none lines entries e empty spelling = rw (empty spelling, e) refl
+
+pub lines_more : (old new : Spelled ℕ) (entries entries' : List Entry) (entry : Entry) (written : List ℕ) (n : ℕ) → ((spelling : List ℕ) → is_some (value_of old spelling) ≡ is_spelled entries spelling) → written ≡ entry.spelling →
+    ((spelling : List ℕ) → value_of new spelling ≡ cond (bytes_eq written spelling) (Some n) (value_of old spelling)) → entries' ≡ entries ++ entry ∷ [] → (spelling : List ℕ) → is_some (value_of new spelling) ≡ is_spelled entries' spelling
+lines_more old new entries entries' entry written n so is put e spelling =
+    ap is_some (put spelling) ∙ ap (λ w. is_some (cond (bytes_eq w spelling) (Some n) (value_of old spelling))) is ∙ either (bytes_eq entry.spelling spelling) (is_spelled entries spelling) (so spelling)
+    ∙ sym (ap (λ es. is_spelled es spelling) e ∙ list_any-append (λ a. bytes_eq a.spelling spelling) entries (entry ∷ []))
+  where
+    either : (t u : Bool) → is_some (value_of old spelling) ≡ u → is_some (cond t (Some n) (value_of old spelling)) ≡ (u || (t || false))
+    either true true h = refl
+    either true false h = refl
+    either false true h = h
+    either false false h = h

@@ -1,5 +1,5 @@
 -- The entries of a vocabulary, line by line.
-use Rattle.std.specs.Prelude.{◌≡◌, ℕ, ◌+◌, Bool, if◌then◌else◌, List, [], ◌∷◌, ◌++◌, length, take, drop, Option, Some, None, position}
+use Rattle.std.specs.Prelude.{◌≡◌, ℕ, ◌+◌, Bool, false, if◌then◌else◌, List, [], ◌∷◌, ◌++◌, length, take, drop, Option, Some, None, position}
 use Rattle.std.specs.List.{list_any}
 use Rattle.std.specs.Str.{bytes_eq}
 use Rattle.mz_base.specs.declared.symbol_kind.SymbolKind.{SymbolKind}
@@ -79,6 +79,10 @@ pub record IsFirstFault (lines : List (List ℕ)) (fault : VocFault) : Type 0 wh
 pub record IsVocabulary (bytes : List ℕ) (entries : List Entry) : Type 0 where
   pub right : AreRight (lines_of bytes)
   pub in_order : entries ≡ entries_of (lines_of bytes)
+
+-- no two entries have one spelling
+abbrev pub AreDistinct : List Entry → Type 0
+AreDistinct entries = (above : List Entry) (entry : Entry) (below : List Entry) → entries ≡ above ++ entry ∷ below → is_spelled above entry.spelling ≡ false
 
 -- the bytes are refused with this fault; want of memory says nothing of them
 abbrev pub IsRefused : List ℕ → VocFault → Type 0

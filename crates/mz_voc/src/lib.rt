@@ -4,6 +4,7 @@
 pub mod entry;
 pub mod line;
 pub mod read;
+pub mod spelled;
 pub mod symbol;
 pub mod voc_fault;
 pub mod vocabulary;

@@ -1,19 +1,29 @@
 //! Reading a vocabulary.
-ghost use Rattle.std.specs.Prelude.{◌≡◌, IfOk, IfErr};
-ghost use Rattle.mz_voc.specs.Vocabulary.{is_spelled, IsVocabulary, IsRefused};
+ghost use Rattle.std.specs.Prelude.{◌≡◌, ◌++◌, ◌∷◌, [], IfOk, IfErr, OnOk};
+ghost use Rattle.std.specs.Option.{is_some};
+ghost use Rattle.mz_voc.specs.Spelled.{value_of};
+ghost use Rattle.mz_voc.specs.Vocabulary.{IsVocabulary, IsRefused, AreDistinct};
 
 use crate::entry::Entry;
 use crate::line::{Line, first_line, read_line, without_return};
+use crate::spelled::Spelled;
 use crate::voc_fault::VocFault;
 use crate::vocabulary::Vocabulary;
-use std::alloc::Global;
+use std::alloc::{AllocError, Global};
 
-fn is_spelled(entries: &[Entry], spelling: &[u8]) -> bool
-    ensures { result ≡ is_spelled entries.now spelling.now }
+/// Whether the entry's symbol stood on one of the lines.
+fn stood_above(lines: &Spelled<u64>, entry: &Entry) -> bool
+    ensures { result ≡ is_some (value_of lines.now entry.now.spelling) }
 {
-    entries
-        .iter()
-        .any(|entry| entry.spelling.as_slice() == spelling)
+    lines.get(entry.spelling.as_slice()).is_some()
+}
+
+/// Adds an entry behind the others.
+fn add(items: &mut Vec<Entry>, entry: Entry) -> Result<(), AllocError>
+    ensures { OnOk result (items.new.items ≡ items.old.items ++ entry ∷ []) }
+{
+    items.push(entry)?;
+    Ok(())
 }
 
 /// The entries of a vocabulary, one a line; an empty line is skipped (`docs/LANGUAGE.md`).
@@ -23,9 +33,11 @@ fn is_spelled(entries: &[Entry], spelling: &[u8]) -> bool
 /// `Memory` where there wasn't enough memory.
 pub fn read_voc(alloc: Global, bytes: &[u8]) -> Result<Vocabulary, VocFault>
     ensures entries { IfOk result (IsVocabulary bytes.now) }
+    ensures distinct { IfOk result AreDistinct }
     ensures refused { IfErr result (IsRefused bytes.now) }
 {
     let mut items = Vec::new(alloc);
+    let mut lines = Spelled::new(alloc);
     let mut line = 0;
     let mut rest = bytes;
     while !rest.is_empty() {
@@ -34,10 +46,11 @@ pub fn read_voc(alloc: Global, bytes: &[u8]) -> Result<Vocabulary, VocFault>
         match read_line(alloc, without_return(first))? {
             Line::Blank => {}
             Line::Good(entry) => {
-                if is_spelled(&items, entry.spelling.as_slice()) {
+                if stood_above(&lines, &entry) {
                     return Err(VocFault::Repeated { line });
                 }
-                items.push(entry)?;
+                lines.insert(alloc, entry.spelling.as_slice(), line)?;
+                add(&mut items, entry)?;
             }
             Line::NoEntry => return Err(VocFault::BadEntry { line }),
             Line::NoPriority => return Err(VocFault::BadPriority { line }),
