@@ -1,151 +1,108 @@
--- The longest lexeme at the start of a text.
-use Rattle.std.proofs.Common.{◌≡◌, ℕ, suc, zero, ◌+◌, ◌-◌, ◌<◌, ◌≤◌, Bool, true, false, cond, ◌&&◌, eqb, nat_eq, nat_lt, List, [], ◌∷◌, ◌++◌, length, get_or, take, None, refl, sym, ap, subst, ◌∙◌, arith, add-one, add-zero}
-use Rattle.std.specs.Prelude.{fold, filter, slice_get}
-use Rattle.std.specs.List.{starts_with}
-use Rattle.std.proofs.lemmas.List.{take_all}
-use Rattle.std.proofs.lemmas.List.Sums.{fold_more}
-use borrow.Author.Tests.{ltb-true, eqb-true, eqb-false}
+-- Finding the longest lexeme at the start of a text.
+use Rattle.std.proofs.Common.{◌≡◌, ℕ, suc, zero, ◌+◌, ◌-◌, ◌<◌, ◌≤◌, ◌⊎◌, inl, inr, ⊎_elim, Bool, true, false, cond, ◌||◌, nat_lt, List, [], ◌∷◌, ◌++◌, length, get_or, take, drop, Some, None, refl, sym, ap, subst, ◌∙◌, arith, length-append}
+use Rattle.std.specs.Prelude.{find, min}
+use Rattle.std.specs.List.{slice_get, list_any}
+use Rattle.std.specs.Str.{bytes_eq}
+use Rattle.std.proofs.lemmas.List.{take_more, length-take-le, drop_all}
+use Rattle.std.proofs.Math.Seq.{drop-cons, take-append_seam}
+use Rattle.std.proofs.lemmas.List.Folds.{list_any-append}
+use Rattle.std.proofs.lemmas.Slice.Eq.{bytes_eq-Decides}
+use borrow.Author.Tests.{ltb-true, ltb-false}
+use Rattle.mz_voc.specs.declared.spelled.Spelled.{Spelled}
+use Rattle.mz_voc.specs.Spelled.{value_of}
 use Rattle.mz_lex.specs.declared.lexeme.Lexeme.{Lexeme}
 use Rattle.mz_lex.specs.declared.longest.Longest.{Longest}
-use Rattle.mz_lex.specs.Longest.{no_lexeme, longer, longest_of, begins_with, positions_from, positions_of}
+use Rattle.mz_lex.specs.Tokens.{is_spelled, lexeme_of, is_lexeme}
+use Rattle.mz_lex.specs.Longest.{IsLongestLexeme}
+use Rattle.mz_lex.specs.SymbolTable.{lexeme_at, FindsFirst, NoneLonger}
 
-abbrev pub is_first : ℕ → Lexeme → Bool
-is_first b l = begins_with b l.spelling
+or_one : (t u : Bool) → (t || u) ≡ true → (t ≡ true) ⊎ (u ≡ true)
+or_one true u h = inl refl
+or_one false u h = inr h
 
--- what positions, from k on, name: these lexemes
-pub record Names (k : ℕ) (ls : List Lexeme) (ps : List ℕ) (fs : List Lexeme) : Type 0 where
-  pub same : length ps ≡ length fs
-  pub low : (i : ℕ) → i < length ps → k ≤ get_or ps i 0
-  pub high : (i : ℕ) → i < length ps → get_or ps i 0 < k + length ls
-  pub at : (i : ℕ) (d : Lexeme) → i < length ps → get_or ls (get_or ps i 0 - k) d ≡ get_or fs i d
+-- the index
 
-shifted : (k n : ℕ) (l : Lexeme) (ls : List Lexeme) (d : Lexeme) → k + 1 ≤ n → get_or (l ∷ ls) (n - k) d ≡ get_or ls (n - (k + 1)) d
-shifted k n l ls d h =
-    let e : n - k ≡ suc (n - (k + 1)) = omega arith in
-    rw e refl
+got : (ls : List Lexeme) (n : ℕ) (l : Lexeme) → n < length ls → l ≡ get_or ls n l → slice_get ls n ≡ Some l
+got [] n l lt e = absurd (omega arith)
+got (x ∷ ls) zero l lt e = ap Some (sym e)
+got (x ∷ ls) (suc n) l lt e = got ls n l (omega arith) e
 
-same_place : (k : ℕ) (l : Lexeme) (ls : List Lexeme) (d : Lexeme) → get_or (l ∷ ls) (k - k) d ≡ l
-same_place k l ls d =
-    let e : k - k ≡ 0 = omega arith in
-    rw e refl
+-- no lexeme yet
+pub finds_none : (lexemes : List Lexeme) (positions : Spelled ℕ) (n : ℕ) → n ≡ length lexemes → ((spelling : List ℕ) → value_of positions spelling ≡ None) → FindsFirst lexemes positions (drop n lexemes)
+finds_none lexemes positions n e empty spelling =
+    let over : drop n lexemes ≡ [] = drop_all n lexemes (omega arith) in
+    rw (empty spelling, over) refl
 
-module _ (k : ℕ) (l : Lexeme) (ls : List Lexeme) (ps : List ℕ) (fs : List Lexeme) (h : Names (k + 1) ls ps fs) where
-  taken_low : (i : ℕ) → i < length (k ∷ ps) → k ≤ get_or (k ∷ ps) i 0
-  taken_low zero lt = omega arith
-  taken_low (suc i) lt = omega (arith, h.low i (omega arith))
+-- one more lexeme in front
+pub finds_more : (lexemes : List Lexeme) (old new : Spelled ℕ) (p n : ℕ) (l : Lexeme) (written : List ℕ) → 0 < p → p ≤ length lexemes → n ≡ p - 1 → l ≡ get_or lexemes n l → FindsFirst lexemes old (drop p lexemes) → written ≡ l.spelling →
+    ((spelling : List ℕ) → value_of new spelling ≡ cond (bytes_eq written spelling) (Some n) (value_of old spelling)) → FindsFirst lexemes new (drop n lexemes)
+finds_more lexemes old new p n l written some le en at so ew put spelling =
+    let lt : n < length lexemes = omega arith in
+    let next : p ≡ suc n = omega arith in
+    let cut : drop n lexemes ≡ l ∷ drop (suc n) lexemes = drop-cons lexemes n l lt ∙ ap (λ z. z ∷ drop (suc n) lexemes) (sym at) in
+    let read : value_of new spelling ≡ cond (bytes_eq l.spelling spelling) (Some n) (value_of old spelling) = put spelling ∙ ap (λ w. cond (bytes_eq w spelling) (Some n) (value_of old spelling)) ew in
+    let rest : lexeme_at lexemes (value_of old spelling) ≡ lexeme_of (drop (suc n) lexemes) spelling = so spelling ∙ ap (λ k. lexeme_of (drop k lexemes) spelling) next in
+    ap (lexeme_at lexemes) read ∙ chosen rest (got lexemes n l lt at) (bytes_eq l.spelling spelling) ∙ ap (λ ls. lexeme_of ls spelling) (sym cut)
+  where
+    chosen : lexeme_at lexemes (value_of old spelling) ≡ lexeme_of (drop (suc n) lexemes) spelling → slice_get lexemes n ≡ Some l → (t : Bool) → lexeme_at lexemes (cond t (Some n) (value_of old spelling)) ≡ cond t (Some l) (lexeme_of (drop (suc n) lexemes) spelling)
+    chosen rest here true = here
+    chosen rest here false = rest
 
-  taken_high : (i : ℕ) → i < length (k ∷ ps) → get_or (k ∷ ps) i 0 < k + length (l ∷ ls)
-  taken_high zero lt = omega arith
-  taken_high (suc i) lt = omega (arith, h.high i (omega arith))
+-- the most bytes
 
-  taken_at : (i : ℕ) (d : Lexeme) → i < length (k ∷ ps) → get_or (l ∷ ls) (get_or (k ∷ ps) i 0 - k) d ≡ get_or (l ∷ fs) i d
-  taken_at zero d lt = same_place k l ls d
-  taken_at (suc i) d lt = shifted k (get_or ps i 0) l ls d (h.low i (omega arith)) ∙ h.at i d (omega arith)
+either_spelled : (seen : List Lexeme) (l : Lexeme) (other : List ℕ) → is_lexeme (seen ++ l ∷ []) other ≡ true → (is_lexeme seen other ≡ true) ⊎ (l.spelling ≡ other)
+either_spelled seen l other h =
+    let split = list_any-append (λ k. is_spelled k other) seen (l ∷ []) in
+    ⊎_elim inl (λ e. ⊎_elim (λ s. inr ((bytes_eq-Decides l.spelling other).0 s)) (λ s. cc) (or_one (is_spelled l other) false e)) (or_one (is_lexeme seen other) (is_spelled l other || false) (rw split at h))
 
-  names_step : (t : Bool) → Names k (l ∷ ls) (cond t (k ∷ ps) ps) (cond t (l ∷ fs) fs)
-  names_step true = record { same = omega (arith, h.same); low = taken_low; high = taken_high; at = taken_at }
-  names_step false = record {
-    same = h.same;
-    low = λ i lt. omega (arith, h.low i lt);
-    high = λ i lt. omega (arith, h.high i lt);
-    at = λ i d lt. shifted k (get_or ps i 0) l ls d (h.low i lt) ∙ h.at i d lt;
-  }
+pub longer_more : (ls : List Lexeme) (i : ℕ) (l : Lexeme) (most most' : ℕ) → i < length ls → l ≡ get_or ls i l → NoneLonger (take i ls) most → most ≤ most' → length l.spelling ≤ most' → NoneLonger (take (i + 1) ls) most'
+longer_more ls i l most most' lt at so le here spelling h =
+    let cut : take (i + 1) ls ≡ take i ls ++ l ∷ [] = take_more ls i l lt ∙ ap (λ z. take i ls ++ z ∷ []) (sym at) in
+    ⊎_elim (λ s. omega (arith, so spelling s)) (λ s. omega (arith, ap length s)) (either_spelled (take i ls) l spelling (rw cut at h))
 
-names_from : (b k : ℕ) (ls : List Lexeme) → Names k ls (positions_from b k ls) (filter (is_first b) ls)
-names_from b k [] = record { same = refl; low = λ i h. absurd (omega arith); high = λ i h. absurd (omega arith); at = λ i d h. absurd (omega arith) }
-names_from b k (l ∷ ls) = names_step k l ls (positions_from b (k + 1) ls) (filter (is_first b) ls) (names_from b (k + 1) ls) (is_first b l)
+-- the search, from the most bytes down
 
--- the positions of the lexemes that begin with a byte name these lexemes
-pub names_of : (b : ℕ) (ls : List Lexeme) (ps : List ℕ) → ps ≡ positions_of ls b → Names 0 ls ps (filter (is_first b) ls)
-names_of b ls ps e = subst (λ qs. Names 0 ls qs (filter (is_first b) ls)) (sym e) (names_from b 0 ls)
+-- no lexeme of more bytes begins the text
+pub record NoneAbove (lexemes : List Lexeme) (text : List ℕ) (n : ℕ) : Type 0 where
+  pub within : n ≤ length text
+  pub longest : (other more : List ℕ) → text ≡ other ++ more → is_lexeme lexemes other ≡ true → length other ≤ n
 
-never : (t u : Bool) → (t ≡ true → ⊥) → (t && u) ≡ false
-never true u h = absurd (h refl)
-never false u h = refl
+pub none_above : (lexemes : List Lexeme) (text : List ℕ) (most n : ℕ) → NoneLonger lexemes most → n ≡ min most (length text) → NoneAbove lexemes text n
+none_above lexemes text most n so e =
+    record {
+      within = omega arith;
+      longest = λ other more s h. omega (arith, so other h, ap length s, length-append other more);
+    }
 
-otherwise : (t u v : Bool) → (u ≡ true → ⊥) → (t && (u && v)) ≡ false
-otherwise true u v h = never u v h
-otherwise false u v h = refl
+missed : (q : Lexeme → Bool) (ls : List Lexeme) → find q ls ≡ None → list_any q ls ≡ true → ⊥
+missed q [] e h = cc
+missed q (l ∷ ls) e h = past (q l) (list_any q ls) e h (missed q ls)
+  where
+    past : (t u : Bool) → cond t (Some l) (find q ls) ≡ None → (t || u) ≡ true → (find q ls ≡ None → u ≡ true → ⊥) → ⊥
+    past true u e h ih = cc
+    past false u e h ih = ih e h
 
--- a lexeme that begins with another byte isn't longer
-starts_otherwise : (b : ℕ) (bs : List ℕ) (n : ℕ) (s : List ℕ) → begins_with b s ≡ false → (nat_lt n (length s) && starts_with nat_eq (b ∷ bs) s) ≡ false
-starts_otherwise b bs n [] h = never (nat_lt n 0) _ (λ e. absurd (omega (arith, ltb-true n 0 e)))
-starts_otherwise b bs n (c ∷ cs) h = otherwise (nat_lt n (suc (length cs))) (eqb c b) _ (λ e. let same : c ≡ b = eqb-true c b e in eqb-false b c h (sym same))
+pub none_at : (lexemes : List Lexeme) (text : List ℕ) (n : ℕ) → NoneAbove lexemes text n → 0 < n → None ≡ lexeme_of lexemes (take n text) → NoneAbove lexemes text (n - 1)
+none_at lexemes text n so some none =
+    record {
+      within = omega (arith, so.within);
+      longest = λ other more s h. below other more s h (nat_lt (n - 1) (length other)) refl;
+    }
+  where
+    below : (other more : List ℕ) → text ≡ other ++ more → is_lexeme lexemes other ≡ true → (t : Bool) → nat_lt (n - 1) (length other) ≡ t → length other ≤ n - 1
+    below other more s h false e = ltb-false (n - 1) (length other) e
+    below other more s h true e =
+        let same : n ≡ length other = omega (arith, so.longest other more s h, ltb-true (n - 1) (length other) e) in
+        let front : take n text ≡ other = ap (take n) s ∙ ap (λ k. take k (other ++ more)) same ∙ take-append_seam other more in
+        absurd (missed (λ l. is_spelled l other) lexemes (ap (lexeme_of lexemes) (sym front) ∙ sym none) h)
 
-other_first : (b : ℕ) (bs : List ℕ) (best : Longest) (l : Lexeme) → is_first b l ≡ false → longer (b ∷ bs) best l ≡ best
-other_first b bs best l h = rw (starts_otherwise b bs best.length l.spelling h) refl
+pub found_at : (lexemes : List Lexeme) (text : List ℕ) (n : ℕ) (l : Lexeme) → NoneAbove lexemes text n → Some l ≡ lexeme_of lexemes (take n text) → IsLongestLexeme lexemes text (record { length = n; kind = l.kind; priority = l.priority })
+found_at lexemes text n l so found = record { within = so.within; held = λ h. (l, sym found, refl, refl); longest = so.longest }
 
-filter_step : (b : ℕ) (bs : List ℕ) (l : Lexeme) (ls : List Lexeme) (best : Longest) (t : Bool) → is_first b l ≡ t →
-    ((now : Longest) → fold (longer (b ∷ bs)) now (filter (is_first b) ls) ≡ fold (longer (b ∷ bs)) now ls) →
-    fold (longer (b ∷ bs)) best (cond t (l ∷ filter (is_first b) ls) (filter (is_first b) ls)) ≡ fold (longer (b ∷ bs)) (longer (b ∷ bs) best l) ls
-filter_step b bs l ls best true h ih = ih (longer (b ∷ bs) best l)
-filter_step b bs l ls best false h ih = rw (other_first b bs best l h) (ih best)
-
--- so they are all that count
-fold-filter : (b : ℕ) (bs : List ℕ) (ls : List Lexeme) (best : Longest) → fold (longer (b ∷ bs)) best (filter (is_first b) ls) ≡ fold (longer (b ∷ bs)) best ls
-fold-filter b bs [] best = refl
-fold-filter b bs (l ∷ ls) best = filter_step b bs l ls best (is_first b l) refl (fold-filter b bs ls)
-
-starts_nowhere : (n : ℕ) (s : List ℕ) → (nat_lt n (length s) && starts_with nat_eq [] s) ≡ false
-starts_nowhere n [] = never (nat_lt n 0) _ (λ e. absurd (omega (arith, ltb-true n 0 e)))
-starts_nowhere n (c ∷ cs) = otherwise (nat_lt n (suc (length cs))) false false (λ e. cc)
-
-none_longer : (ls : List Lexeme) → fold (longer []) no_lexeme ls ≡ no_lexeme
-none_longer [] = refl
-none_longer (l ∷ ls) = rw (starts_nowhere 0 l.spelling) (none_longer ls)
-
-all_read : (b i c : ℕ) (cs : List ℕ) (ls : List Lexeme) (ps : List ℕ) (best : Longest) →
-    ps ≡ positions_of ls b → c ≡ b → best ≡ fold (longer (c ∷ cs)) no_lexeme (take i (filter (is_first b) ls)) → length ps ≤ i → best ≡ longest_of (c ∷ cs) ls
-unfolding longest_of
-all_read b i c cs ls ps best e h so le =
-    let all = take_all i (filter (is_first b) ls) (omega (arith, (names_of b ls ps e).same)) in
-    so ∙ ap (fold (longer (c ∷ cs)) no_lexeme) all ∙ rw h (fold-filter b cs ls no_lexeme)
-
-longest_of-nothing : (ls : List Lexeme) → longest_of [] ls ≡ no_lexeme
-unfolding longest_of
-longest_of-nothing ls = none_longer ls
-
-pub longest_of-no_text : (text : List ℕ) (ls : List Lexeme) → None ≡ slice_get text 0 → no_lexeme ≡ longest_of text ls
-longest_of-no_text [] ls h = sym (longest_of-nothing ls)
-longest_of-no_text (b ∷ bs) ls h = cc
-
-spread : (t : Bool) (k : ℕ) (a c : List ℕ) → cond t (k ∷ (a ++ c)) (a ++ c) ≡ cond t (k ∷ a) a ++ c
-spread true k a c = refl
-spread false k a c = refl
-
--- the positions in one more lexeme
-positions_from-more : (b k i : ℕ) (ls : List Lexeme) (d : Lexeme) → i < length ls → positions_from b k (take (suc i) ls) ≡ positions_from b k (take i ls) ++ cond (is_first b (get_or ls i d)) ((k + i) ∷ []) []
-positions_from-more b k i [] d h = absurd (omega arith)
-positions_from-more b k zero (l ∷ ls) d h = rw add-zero refl
-positions_from-more b k (suc i) (l ∷ ls) d h =
-    let e : k + suc i ≡ k + 1 + i = omega arith in
-    let ih : positions_from b (k + 1) (take (suc i) ls) ≡ positions_from b (k + 1) (take i ls) ++ cond (is_first b (get_or ls i d)) ((k + 1 + i) ∷ []) [] = positions_from-more b (k + 1) i ls d (omega arith) in
-    rw (ih, e) (spread (is_first b l) k (positions_from b (k + 1) (take i ls)) _)
-
-pub positions_step : (b i : ℕ) (ls : List Lexeme) (item : Lexeme) (t : Bool) (s ps ps' : List ℕ) →
-    ps ≡ positions_from b 0 (take i ls) → i < length ls → item ≡ get_or ls i item → s ≡ item.spelling → t ≡ begins_with b s → ps' ≡ ps ++ cond t (i ∷ []) [] → ps' ≡ positions_from b 0 (take (i + 1) ls)
-positions_step b i ls item t s ps ps' e h at es et e' =
-    let z : 0 + i ≡ i = omega arith in
-    let more = positions_from-more b 0 i ls item h in
-    rw (e', e, et, es, add-one, more, z, ← at) refl
-
--- one more position is read
-pub longest_step : (b i n : ℕ) (text : List ℕ) (ls : List Lexeme) (ps : List ℕ) (item : Lexeme) (best best' : Longest) →
-    ps ≡ positions_of ls b → best ≡ fold (longer text) no_lexeme (take i (filter (is_first b) ls)) → i < length ps → n ≡ get_or ps i 0 → item ≡ get_or ls n item → best' ≡ longer text best item →
-    best' ≡ fold (longer text) no_lexeme (take (i + 1) (filter (is_first b) ls))
-longest_step b i n text ls ps item best best' e so lt en at e' =
-    let named = names_of b ls ps e in
-    let z : get_or ps i 0 - 0 ≡ get_or ps i 0 = omega arith in
-    let here : get_or ls (get_or ps i 0) item ≡ get_or (filter (is_first b) ls) i item = rw z at (named.at i item lt) in
-    let it : item ≡ get_or (filter (is_first b) ls) i item = at ∙ ap (λ k. get_or ls k item) en ∙ here in
-    let more = fold_more (longer text) no_lexeme (filter (is_first b) ls) i item (omega (arith, named.same)) in
-    e' ∙ (λ j. longer text (so j) (it j)) ∙ sym more
-
-pub position_within : (b i : ℕ) (ls : List Lexeme) (ps : List ℕ) → ps ≡ positions_of ls b → i < length ps → get_or ps i 0 < length ls
-position_within b i ls ps e lt = omega (arith, (names_of b ls ps e).high i lt)
-
--- all positions are read
-pub longest_read : (b i : ℕ) (text : List ℕ) (ls : List Lexeme) (ps : List ℕ) (best : Longest) →
-    ps ≡ positions_of ls b → begins_with b text ≡ true → best ≡ fold (longer text) no_lexeme (take i (filter (is_first b) ls)) → length ps ≤ i → best ≡ longest_of text ls
-longest_read b i [] ls ps best e h so le = cc
-longest_read b i (c ∷ cs) ls ps best e h so le = all_read b i c cs ls ps best e (sym (eqb-true b c h)) so le
+pub none_found : (lexemes : List Lexeme) (text : List ℕ) (n : ℕ) (best : Longest) → NoneAbove lexemes text n → n ≡ 0 → best.length ≡ 0 → IsLongestLexeme lexemes text best
+none_found lexemes text n best so e zero' =
+    record {
+      within = omega arith;
+      held = λ h. absurd (omega arith);
+      longest = λ other more s h. omega (arith, so.longest other more s h);
+    }

@@ -12,7 +12,7 @@ use Rattle.mz_base.specs.Words.{is_word_byte}
 use Rattle.mz_base.specs.declared.token_kind.TokenKind.{TokenKind}
 use Rattle.mz_lex.specs.declared.lexeme.Lexeme.{Lexeme}
 use Rattle.mz_lex.specs.declared.longest.Longest.{Longest}
-use Rattle.mz_lex.specs.Longest.{no_lexeme, longer, longest_of}
+use Rattle.mz_lex.specs.Longest.{IsLongestLexeme}
 use Rattle.mz_lex.specs.Tokens.{is_separator, opens_comment, opens_pragma, opens_token, is_spelled, lexeme_of, is_lexeme, is_spelling, word_kind, is_line_end, EndsLine, IsBadByte}
 use Rattle.mz_lex.specs.Piece.{comment_len, word_len, IsLongestToken, IsTokenPiece, IsCommentPiece}
 
@@ -85,77 +85,6 @@ list_any-found q ls l h = found_in (list_any q ls) refl
     found_in true e = refl
     found_in false e = let none = find-none q ls e in cc
 
--- what the longest lexeme so far is
-pub record Best (text : List ℕ) (seen : List Lexeme) (best : Longest) : Type 0 where
-  pub within : best.length ≤ length text
-  pub held : 0 < best.length → (l : Lexeme) × (lexeme_of seen (take best.length text) ≡ Some l) × (l.kind ≡ best.kind) × (l.priority ≡ best.priority)
-  pub longest : (other more : List ℕ) → text ≡ other ++ more → is_lexeme seen other ≡ true → length other ≤ best.length
-
-Best-none : (text : List ℕ) → Best text [] no_lexeme
-Best-none text = record { within = omega arith; held = λ h. absurd (omega arith); longest = λ other more e h. cc }
-
-begins : (text p : List ℕ) → starts_with nat_eq text p ≡ true → text ≡ p ++ drop (length p) text
-begins text p h = (starts_is Decides-eqb text p (starts_with nat_eq text p) refl).0 h
-
-begins_so : (text p rest : List ℕ) → text ≡ p ++ rest → starts_with nat_eq text p ≡ true
-begins_so text p rest e = (starts_is Decides-eqb text p (starts_with nat_eq text p) refl).1 rest e
-
-either_spelled : (seen : List Lexeme) (l : Lexeme) (other : List ℕ) → is_lexeme (seen ++ l ∷ []) other ≡ true → (is_lexeme seen other ≡ true) ⊎ (l.spelling ≡ other)
-either_spelled seen l other h =
-    let split = list_any-append (λ k. is_spelled k other) seen (l ∷ []) in
-    ⊎_elim inl (λ e. ⊎_elim (λ s. inr ((bytes_eq-Decides l.spelling other).0 s)) (λ s. cc) (or_one (is_spelled l other) false e)) (or_one (is_lexeme seen other) (is_spelled l other || false) (rw split at h))
-
-module _ (text : List ℕ) (seen : List Lexeme) (l : Lexeme) (best : Longest) (so : Best text seen best) where
-  abbrev new : Longest
-  new = record { length = length l.spelling; kind = l.kind; priority = l.priority }
-
-  Best-new : nat_lt best.length (length l.spelling) ≡ true → starts_with nat_eq text l.spelling ≡ true → Best text (seen ++ l ∷ []) new
-  Best-new lt starts =
-      let more : best.length < length l.spelling = ltb-true best.length (length l.spelling) lt in
-      let split : text ≡ l.spelling ++ drop (length l.spelling) text = begins text l.spelling starts in
-      let taken : take (length l.spelling) text ≡ l.spelling = ap (take (length l.spelling)) split ∙ take-append_seam l.spelling (drop (length l.spelling) text) in
-      let unseen : is_lexeme seen l.spelling ≡ false = not_true (is_lexeme seen l.spelling) (λ h. absurd (omega (arith, so.longest l.spelling (drop (length l.spelling) text) split h))) in
-      let none : lexeme_of seen l.spelling ≡ None = find-none (λ k. is_spelled k l.spelling) seen unseen in
-      let self : is_spelled l l.spelling ≡ true = (bytes_eq-Decides l.spelling l.spelling).1 refl in
-      let here : lexeme_of (seen ++ l ∷ []) l.spelling ≡ Some l = rw (find-append (λ k. is_spelled k l.spelling) seen (l ∷ []), none, self) refl in
-      record {
-        within = omega (arith, ap length split, length-append l.spelling (drop (length l.spelling) text));
-        held = λ h. (l, rw taken here, refl, refl);
-        longest = λ other rest e h. ⊎_elim (λ s. omega (arith, so.longest other rest e s)) (λ s. omega (arith, ap length s)) (either_spelled seen l other h);
-      }
-
-  Best-old : (nat_lt best.length (length l.spelling) && starts_with nat_eq text l.spelling) ≡ false → Best text (seen ++ l ∷ []) best
-  Best-old stays =
-      record {
-        within = so.within;
-        held = λ h. let kept = so.held h in (kept.0, rw (find-append (λ k. is_spelled k (take best.length text)) seen (l ∷ []), kept.1) refl, kept.2, kept.3);
-        longest = λ other rest e h. ⊎_elim (so.longest other rest e) (λ s. no_longer other rest e s) (either_spelled seen l other h);
-      }
-    where
-      no_longer : (other rest : List ℕ) → text ≡ other ++ rest → l.spelling ≡ other → length other ≤ best.length
-      no_longer other rest e s =
-          let starts : starts_with nat_eq text l.spelling ≡ true = begins_so text l.spelling rest (e ∙ ap (λ o. o ++ rest) (sym s)) in
-          let short : nat_lt best.length (length l.spelling) ≡ false = and_false (nat_lt best.length (length l.spelling)) (starts_with nat_eq text l.spelling) stays starts in
-          omega (arith, ap length s, ltb-false best.length (length l.spelling) short)
-
-  Best-more : Best text (seen ++ l ∷ []) (longer text best l)
-  Best-more = longer_cases (nat_lt best.length (length l.spelling)) (starts_with nat_eq text l.spelling) refl refl
-    where
-      longer_cases : (t u : Bool) → nat_lt best.length (length l.spelling) ≡ t → starts_with nat_eq text l.spelling ≡ u → Best text (seen ++ l ∷ []) (cond (t && u) new best)
-      longer_cases true true e f = Best-new e f
-      longer_cases true false e f = Best-old (rw (e, f) refl)
-      longer_cases false u e f = Best-old (rw e refl)
-
-Best-fold : (text : List ℕ) (seen ls : List Lexeme) (best : Longest) → Best text seen best → Best text (seen ++ ls) (fold (longer text) best ls)
-Best-fold text seen [] best so = rw append-nil so
-Best-fold text seen (l ∷ ls) best so =
-    let more : Best text ((seen ++ l ∷ []) ++ ls) (fold (longer text) (longer text best l) ls) = Best-fold text (seen ++ l ∷ []) ls (longer text best l) (Best-more text seen l best so) in
-    subst (λ all. Best text all (fold (longer text) (longer text best l) ls)) (append_assoc seen (l ∷ []) ls) more
-
-longest_of-Best : (text : List ℕ) (ls : List Lexeme) (best : Longest) → best ≡ longest_of text ls → Best text ls best
-unfolding longest_of
-longest_of-Best text ls best e = subst (Best text ls) (sym e) (Best-fold text [] ls no_lexeme (Best-none text))
-
 -- a spelling is a lexeme's or a word, and has a byte
 spelling_cases : (ls : List Lexeme) (w : List ℕ) → is_spelling ls w ≡ true → (is_lexeme ls w ≡ true) ⊎ (list_all is_word_byte w ≡ true)
 spelling_cases ls w h = or_one (is_lexeme ls w) (list_all is_word_byte w) (and_both (nat_lt 0 (length w)) (is_lexeme ls w || list_all is_word_byte w) h).1
@@ -166,16 +95,15 @@ is_spelling-so ls w some h =
     rw t h
 
 -- no spelling is longer than the longest lexeme and the word
-no_longer_spelling : (ls : List Lexeme) (text : List ℕ) (best : Longest) (n : ℕ) → Best text ls best → best.length ≤ n → word_len text ≤ n → (other more : List ℕ) → text ≡ other ++ more → is_spelling ls other ≡ true → length other ≤ n
+no_longer_spelling : (ls : List Lexeme) (text : List ℕ) (best : Longest) (n : ℕ) → IsLongestLexeme ls text best → best.length ≤ n → word_len text ≤ n → (other more : List ℕ) → text ≡ other ++ more → is_spelling ls other ≡ true → length other ≤ n
 no_longer_spelling ls text best n so le words other more e h =
     ⊎_elim (λ l. omega (arith, so.longest other more e l))
     (λ w. let at_least : length other ≤ word_len text = subst (λ t. length other ≤ word_len t) (sym e) (prefix_len-at_least is_word_byte other more w) in omega arith)
     (spelling_cases ls other h)
 
 -- the lexeme is at least as long as the word
-pub lexeme_longest : (ls : List Lexeme) (text : List ℕ) (best : Longest) (n : ℕ) → best ≡ longest_of text ls → n ≡ word_len text → n ≤ best.length → IsLongestToken ls text best
-lexeme_longest ls text best n e en le =
-    let so = longest_of-Best text ls best e in
+pub lexeme_longest : (ls : List Lexeme) (text : List ℕ) (best : Longest) (n : ℕ) → IsLongestLexeme ls text best → n ≡ word_len text → n ≤ best.length → IsLongestToken ls text best
+lexeme_longest ls text best n so en le =
     let w : List ℕ = take best.length text in
     let size : length w ≡ best.length = length-take-le best.length text so.within in
     record {
@@ -187,9 +115,8 @@ lexeme_longest ls text best n e en le =
     }
 
 -- the word is longer
-pub word_longest : (ls : List Lexeme) (text : List ℕ) (best : Longest) (n : ℕ) (kind : TokenKind) → best ≡ longest_of text ls → n ≡ word_len text → best.length < n → kind ≡ word_kind (take n text) → IsLongestToken ls text (record { length = n; kind = kind; priority = 0 })
-word_longest ls text best n kind e en lt ek =
-    let so = longest_of-Best text ls best e in
+pub word_longest : (ls : List Lexeme) (text : List ℕ) (best : Longest) (n : ℕ) (kind : TokenKind) → IsLongestLexeme ls text best → n ≡ word_len text → best.length < n → kind ≡ word_kind (take n text) → IsLongestToken ls text (record { length = n; kind = kind; priority = 0 })
+word_longest ls text best n kind so en lt ek =
     let w : List ℕ = take n text in
     let within : n ≤ length text = omega (arith, prefix_len-le is_word_byte text) in
     let size : length w ≡ n = length-take-le n text within in

@@ -3,6 +3,7 @@ pub mod Cut
 pub mod Expected
 pub mod Head
 pub mod HeadFault
+pub mod Known
 pub mod Longest
 pub mod Part
 pub mod Piece

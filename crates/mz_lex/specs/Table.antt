@@ -36,6 +36,22 @@ abbrev pub vocabulary_names : List Directive → List PlacedName
 vocabulary_names [] = []
 vocabulary_names (d ∷ ds) = names_under d ++ vocabulary_names ds
 
+abbrev pub is_among : List PlacedName → PlacedName → Bool
+is_among above n = list_any (λ a. a.name.number == n.name.number) above
+
+-- the names that don't stand above or among these names further up
+abbrev pub firsts : List PlacedName → List PlacedName → List PlacedName
+firsts above [] = []
+firsts above (n ∷ ns) = (if is_among above n then [] else n ∷ []) ++ firsts (above ++ n ∷ []) ns
+
+-- each name once, where it stands first
+abbrev pub each_once : List PlacedName → List PlacedName
+each_once ns = firsts [] ns
+
+-- the vocabularies that an environment part names, in the order of the text
+abbrev pub named_vocabularies : List Directive → List PlacedName
+named_vocabularies ds = each_once (vocabulary_names ds)
+
 -- HIDDEN's vocabulary is built in
 abbrev pub is_hidden : PlacedName → Bool
 is_hidden n = n.name.number == number_of (codes "HIDDEN")
@@ -118,9 +134,9 @@ symbol_lexeme e = record { spelling = e.spelling; kind = Symbol e.kind; priority
 -- the lexemes of the environment part: the built-in ones, and the symbols that it names
 pub record IsTableOf (vs : List NamedText) (ds : List Directive) (lexemes : List Lexeme) : Type 0 where
   pub symbols : List Entry
-  pub adds : AddsAll vs [] (vocabulary_names ds) symbols
+  pub adds : AddsAll vs [] (named_vocabularies ds) symbols
   pub all : lexemes ≡ built_in_lexemes ++ map symbol_lexeme symbols
 
 abbrev pub IsTableFault : List NamedText → List Directive → TableFault → Type 0
 IsTableFault vs ds (Memory _) = Unit {0}
-IsTableFault vs ds fault = IsTableRefused vs (vocabulary_names ds) fault
+IsTableFault vs ds fault = IsTableRefused vs (named_vocabularies ds) fault

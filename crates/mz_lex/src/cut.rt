@@ -1,6 +1,7 @@
 //! The cut of a text.
-ghost use Rattle.std.specs.Prelude.{◌≡◌, ◌<◌, length, IfOk, IfErr};
-ghost use Rattle.mz_lex.specs.Cut.{Whole, IsCut, IsStopped, is_begin};
+ghost use Rattle.std.specs.Prelude.{◌≡◌, ◌==◌, ◌+◌, ◌^◌, ◌<◌, ◌≤◌, length, IfOk, IfErr};
+ghost use Rattle.mz_base.specs.Place.{start, end_from};
+ghost use Rattle.mz_lex.specs.Cut.{Whole, IsCut, IsStopped, is_begin, most_tokens};
 ghost use Rattle.mz_lex.specs.Part.{symbols_of, mode_of, ends_at, part_behind};
 ghost use Rattle.mz_lex.specs.Piece.{IsPiece};
 
@@ -17,6 +18,31 @@ use std::alloc::{AllocError, Global};
 
 /// The most tokens that a text has.
 pub const MOST_TOKENS: usize = 200_000;
+
+/// Where a text begins.
+fn first_place() -> Place
+    ensures { result ≡ start }
+{
+    Place::start()
+}
+
+/// Where the text goes on behind a piece that stands at the place.
+fn place_behind(place: Place, piece: &[u8]) -> Place
+    requires line { place.line + length piece.now < 2 ^ 64 }
+    requires column { place.column + length piece.now < 2 ^ 64 }
+    ensures value { result ≡ end_from place piece.now }
+    ensures line { result.line ≤ place.line + length piece.now }
+    ensures column { result.column ≤ place.column + length piece.now }
+{
+    place.after_all(piece)
+}
+
+/// Whether no token may follow these.
+fn is_full(tokens: &Vec<Token>) -> bool
+    ensures { result ≡ (length tokens.now.items == most_tokens) }
+{
+    tokens.len() == MOST_TOKENS
+}
 
 fn is_begin(spelling: &[u8]) -> bool
     ensures { result ≡ is_begin spelling.now }
@@ -97,28 +123,28 @@ pub fn cut(
     ensures stopped { IfErr result (IsStopped (symbols_of part built_in.now later.now) (mode_of part later.now) bytes.now) }
 {
     let mut items = Vec::new(alloc);
-    let mut place = Place::start();
+    let mut place = first_place();
     let mut rest = bytes;
     let mut here = part;
     while !rest.is_empty() {
         match piece_in(here, built_in, later, rest) {
             Piece::Separator => {
                 let (separator, others) = rest.split_at(1);
-                place = place.after_all(separator);
+                place = place_behind(place, separator);
                 rest = others;
             }
             Piece::Comment(length) => {
                 let (comment, others) = rest.split_at(length);
-                place = place.after_all(comment);
+                place = place_behind(place, comment);
                 rest = others;
             }
             Piece::Token(longest) => {
-                if items.len() == MOST_TOKENS {
+                if is_full(&items) {
                     return Err(LexFault::TooManyTokens { place });
                 }
                 let (spelling, others) = rest.split_at(longest.length);
                 items.push(token(alloc, longest, place, spelling)?)?;
-                place = place.after_all(spelling);
+                place = place_behind(place, spelling);
                 rest = others;
                 if ends_at(here, spelling) {
                     return Ok(Tokens { items, end: place });

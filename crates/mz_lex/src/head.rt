@@ -1,5 +1,5 @@
 //! The environment part of an article.
-ghost use Rattle.std.specs.Prelude.{◌≡◌, IfOk, IfErr};
+ghost use Rattle.std.specs.Prelude.{◌≡◌, ◌++◌, ◌∷◌, [], IfOk, IfErr, OnOk};
 ghost use Rattle.mz_lex.specs.BuiltIn.{built_in_lexemes};
 ghost use Rattle.mz_lex.specs.Cut.{Stop, OneCut};
 ghost use Rattle.mz_lex.specs.Expected.{next_of, is_at_directive, is_later, fault_at, AreRefused};
@@ -20,7 +20,7 @@ use mz_base::place::Place;
 use mz_base::placed_name::PlacedName;
 use mz_base::placed_names::PlacedNames;
 use mz_base::token::Token;
-use std::alloc::Global;
+use std::alloc::{AllocError, Global};
 use std::mem;
 
 /// What may come behind the sign, where that may come.
@@ -72,6 +72,20 @@ fn fault_at(expected: Expected, sign: Sign, place: Place) -> HeadFault
     }
 }
 
+/// Adds a directive behind the others.
+fn add_directive(
+    items: &mut Vec<Directive>,
+    kind: DirectiveKind,
+    place: Place,
+    names: Vec<PlacedName>,
+) -> Result<(), AllocError>
+    ensures { OnOk result (items.new.items ≡ items.old.items ++ record { kind = kind; place = place; names = names.items } ∷ []) }
+{
+    let names = PlacedNames { items: names };
+    items.push(Directive { kind, place, names })?;
+    Ok(())
+}
+
 /// The environment part that the tokens spell, the text ending just before `end`.
 fn read_head(alloc: Global, tokens: &[Token], end: Place) -> Result<Head, HeadFault>
     ensures head { IfOk result (λ head. SpellsHead head tokens.now) }
@@ -106,10 +120,8 @@ fn read_head(alloc: Global, tokens: &[Token], end: Place) -> Result<Head, HeadFa
             },
             Sign::Comma => {}
             Sign::Semicolon => {
-                let names = PlacedNames {
-                    items: mem::replace(&mut names, Vec::new(alloc)),
-                };
-                items.push(Directive { kind, place, names })?;
+                let all = mem::replace(&mut names, Vec::new(alloc));
+                add_directive(&mut items, kind, place, all)?;
             }
             Sign::Other => {}
         }

@@ -6,6 +6,7 @@ pub mod cut;
 pub mod expected;
 pub mod head;
 pub mod head_fault;
+pub mod known;
 pub mod lex_fault;
 pub mod lexeme;
 pub mod longest;

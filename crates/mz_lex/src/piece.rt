@@ -1,5 +1,5 @@
 //! What stands at the start of a text.
-ghost use Rattle.std.specs.Prelude.{◌≡◌, ◌<◌, ◌≤◌, length, position, take, not, true, false};
+ghost use Rattle.std.specs.Prelude.{◌≡◌, ◌<◌, ◌≤◌, nat_lt, length, position, take, not, true, false};
 ghost use Rattle.std.specs.List.{list_all, prefix_len};
 ghost use Rattle.mz_base.specs.Bytes.{is_digit};
 ghost use Rattle.mz_base.specs.Words.{is_word_byte};
@@ -48,6 +48,18 @@ fn comment_len(bytes: &[u8]) -> usize
     }
 }
 
+fn opens_comment(text: &[u8]) -> bool
+    ensures { result ≡ opens_comment text.now }
+{
+    text.starts_with(b"::")
+}
+
+fn opens_pragma(text: &[u8]) -> bool
+    ensures { result ≡ opens_pragma text.now }
+{
+    text.starts_with(b"::$C")
+}
+
 /// How many bytes at the front are in the word there.
 fn word_len(bytes: &[u8]) -> usize
     ensures { result ≡ word_len bytes.now }
@@ -69,20 +81,27 @@ fn word_kind(word: &[u8]) -> TokenKind
     }
 }
 
+/// Whether the word of so many bytes is longer than the lexeme.
+fn is_shorter(lexeme: Longest, word: usize) -> bool
+    ensures { result ≡ nat_lt lexeme.length word }
+{
+    lexeme.length < word
+}
+
 /// The longest token at the start of the text, of length 0 where there is none.
 fn longest_token(table: &SymbolTable, text: &[u8]) -> Longest
     ensures { IsLongestToken table.now text.now result }
 {
     let lexeme = table.longest(text);
     let length = word_len(text);
-    if lexeme.length >= length {
-        return lexeme;
+    if is_shorter(lexeme, length) {
+        return Longest {
+            length,
+            kind: word_kind(&text[..length]),
+            priority: 0,
+        };
     }
-    Longest {
-        length,
-        kind: word_kind(&text[..length]),
-        priority: 0,
-    }
+    lexeme
 }
 
 /// What stands at the start of the text.
@@ -93,10 +112,10 @@ pub fn first_piece(table: &SymbolTable, text: &[u8]) -> Piece
     if is_separator(text[0]) {
         return Piece::Separator;
     }
-    if text.starts_with(b"::$C") {
+    if opens_pragma(text) {
         return Piece::Pragma;
     }
-    if text.starts_with(b"::") {
+    if opens_comment(text) {
         return Piece::Comment(comment_len(text));
     }
     let token = longest_token(table, text);

@@ -1,23 +1,27 @@
 //! Tables of lexemes.
-ghost use Rattle.std.specs.Prelude.{◌≡◌, ◌∷◌, ◌++◌, [], true, ◌<◌, length, IfOk, OnOk, slice_index_or};
-ghost use Rattle.mz_lex.specs.SymbolTable.{IsIndexed};
-ghost use Rattle.mz_lex.specs.Longest.{longer, longest_of, positions_of, begins_with};
+ghost use Rattle.std.specs.Prelude.{◌≡◌, ◌<◌, length, min, take, IfOk, slice_index_or};
+ghost use Rattle.std.specs.Option.{option_copied};
+ghost use Rattle.mz_lex.specs.SymbolTable.{FindsFirst, NoneLonger};
+ghost use Rattle.mz_lex.specs.Longest.{IsLongestLexeme};
+ghost use Rattle.mz_lex.specs.Tokens.{lexeme_of};
 
 use crate::lexeme::Lexeme;
 use crate::longest::Longest;
-use mz_base::numbers::Numbers;
 use mz_base::token_kind::TokenKind;
+use mz_voc::spelled::Spelled;
 use std::alloc::{AllocError, Global};
 use std::marker::Model;
 
 /// The lexemes that a text is cut into besides words: reserved words, special symbols and the symbols of an environment.
 ///
-/// They are found by their first byte. The first lexeme of a spelling counts.
+/// They are found by their spelling. The first lexeme of a spelling counts.
 #[derive(Drop)]
 pub struct SymbolTable {
     lexemes: Vec<Lexeme>,
-    /// For each byte the positions of the lexemes that begin with it.
-    index: Vec<Numbers>,
+    /// The position of the first lexeme of each spelling.
+    positions: Spelled<usize>,
+    /// How many bytes a lexeme has at most.
+    most: usize,
 }
 
 impl Model for SymbolTable {
@@ -29,7 +33,7 @@ impl Model for SymbolTable {
 
     ghost view = { λ t. t.lexemes.items };
 
-    ghost invariant = { λ t. IsIndexed t.lexemes.items t.index.items };
+    ghost invariant = { λ t. IsIndexed t.lexemes.items t.positions t.most };
 }
 
 const NO_LEXEME: Longest = Longest {
@@ -38,73 +42,36 @@ const NO_LEXEME: Longest = Longest {
     priority: 0,
 };
 
-/// The longer of the longest so far and the lexeme, where the text begins with that.
-fn longer(text: &[u8], best: Longest, lexeme: &Lexeme) -> Longest
-    ensures { result ≡ longer text.now best lexeme.now }
+/// The position of the first lexeme of each spelling.
+fn positions_of(alloc: Global, lexemes: &[Lexeme]) -> Result<Spelled<usize>, AllocError>
+    ensures { IfOk result (λ positions. FindsFirst lexemes.now positions lexemes.now) }
 {
-    let spelling = lexeme.spelling.as_slice();
-    if best.length < spelling.len() && text.starts_with(spelling) {
-        Longest {
-            length: spelling.len(),
-            kind: lexeme.kind,
-            priority: lexeme.priority,
-        }
-    } else {
-        best
-    }
-}
-
-fn lexeme_at(lexemes: &[Lexeme], position: usize) -> &Lexeme
-    requires { position < length lexemes.now }
-    ensures { result.now ≡ slice_index_or lexemes.now position result.now }
-{
-    &lexemes[position]
-}
-
-/// The longest lexeme with which the text begins, the first of several. The text begins with `first`.
-fn longest_among(lexemes: &[Lexeme], positions: &[u64], first: u8, text: &[u8]) -> Longest
-    requires positions { positions.now ≡ positions_of lexemes.now first }
-    requires text { begins_with first text.now ≡ true }
-    ensures { result ≡ longest_of text.now lexemes.now }
-{
-    let mut best = NO_LEXEME;
-    for position in positions {
-        best = longer(text, best, lexeme_at(lexemes, *position as usize));
-    }
-    best
-}
-
-fn begins_with(byte: u8, bytes: &[u8]) -> bool
-    ensures { result ≡ begins_with byte bytes.now }
-{
-    match bytes.first() {
-        Some(first) => byte == *first,
-        None => false,
-    }
-}
-
-/// The positions of the lexemes that begin with the byte.
-fn positions_of(alloc: Global, lexemes: &[Lexeme], byte: u8) -> Result<Numbers, AllocError>
-    ensures { IfOk result (λ ps. ps ≡ positions_of lexemes.now byte) }
-{
-    let mut positions = Numbers::new(alloc);
-    for (position, lexeme) in lexemes.iter().enumerate() {
-        if begins_with(byte, lexeme.spelling.as_slice()) {
-            positions.push(position as u64)?;
-        }
+    let mut positions = Spelled::new(alloc);
+    let mut position = lexemes.len();
+    while position > 0 {
+        position -= 1;
+        let lexeme = &lexemes[position];
+        positions.insert(alloc, lexeme.spelling.as_slice(), position)?;
     }
     Ok(positions)
 }
 
-/// For each byte the positions of the lexemes that begin with it.
-fn index_of(alloc: Global, lexemes: &[Lexeme]) -> Result<Vec<Numbers>, AllocError>
-    ensures { IfOk result (λ index. IsIndexed lexemes.now index.items) }
+/// How many bytes a lexeme has at most.
+fn most_bytes(lexemes: &[Lexeme]) -> usize
+    ensures { NoneLonger lexemes.now result }
 {
-    let mut index = Vec::with_capacity(alloc, 256)?;
-    for byte in 0..=255u8 {
-        index.push(positions_of(alloc, lexemes, byte)?)?;
+    let mut most = 0;
+    for lexeme in lexemes {
+        most = most.max(lexeme.spelling.len());
     }
-    Ok(index)
+    most
+}
+
+/// How many bytes a lexeme at the start of the text may have.
+fn most_here(most: usize, text: &[u8]) -> usize
+    ensures { result ≡ min most (length text.now) }
+{
+    most.min(text.len())
 }
 
 impl SymbolTable {
@@ -115,20 +82,40 @@ impl SymbolTable {
     pub fn new(alloc: Global, lexemes: Vec<Lexeme>) -> Result<SymbolTable, AllocError>
         ensures { IfOk result (λ t. t ≡ lexemes.items) }
     {
-        let index = index_of(alloc, lexemes.as_slice())?;
-        Ok(SymbolTable { lexemes, index })
+        let positions = positions_of(alloc, lexemes.as_slice())?;
+        let most = most_bytes(lexemes.as_slice());
+        Ok(SymbolTable {
+            lexemes,
+            positions,
+            most,
+        })
+    }
+
+    /// The first lexeme of the spelling.
+    fn lexeme(&self, spelling: &[u8]) -> Option<&Lexeme>
+        ensures { option_copied result ≡ lexeme_of self.now spelling.now }
+    {
+        match self.positions.get(spelling) {
+            Some(position) => self.lexemes.get(*position),
+            None => None,
+        }
     }
 
     /// The longest lexeme with which the text begins, the first of several.
     pub fn longest(&self, text: &[u8]) -> Longest
-        ensures { result ≡ longest_of text.now self.now }
+        ensures { IsLongestLexeme self.now text.now result }
     {
-        match text.first() {
-            Some(first) => {
-                let positions = self.index[*first as usize].as_slice();
-                longest_among(self.lexemes.as_slice(), positions, *first, text)
+        let mut length = most_here(self.most, text);
+        while length > 0 {
+            if let Some(lexeme) = self.lexeme(&text[..length]) {
+                return Longest {
+                    length,
+                    kind: lexeme.kind,
+                    priority: lexeme.priority,
+                };
             }
-            None => NO_LEXEME,
+            length -= 1;
         }
+        NO_LEXEME
     }
 }

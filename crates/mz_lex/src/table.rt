@@ -1,12 +1,14 @@
 //! The symbols that an environment part names.
-ghost use Rattle.std.specs.Prelude.{◌≡◌, ◌==◌, ◌++◌, ◌∷◌, [], IfOk, IfErr, OnOk, map, filter, find, Some, MatchResult, IsTrue};
+ghost use Rattle.std.specs.Prelude.{◌≡◌, ◌==◌, ◌++◌, ◌∷◌, [], ℕ, not, true, nat_eq, nat_lt, if◌then◌else◌, length, IfOk, IfErr, OnOk, map, find, Some, MatchResult, IsTrue};
 ghost use Rattle.std.specs.List.{list_any};
 ghost use Rattle.std.specs.Option.{option_copied};
-ghost use Rattle.mz_voc.specs.Vocabulary.{is_spelled, IsVocabulary, IsRefused};
+ghost use Rattle.std.specs.HashSet.{contains};
+ghost use Rattle.mz_voc.specs.Vocabulary.{IsVocabulary, IsRefused, AreDistinct};
 ghost use Rattle.mz_lex.specs.BuiltIn.{built_in_lexemes};
-ghost use Rattle.mz_lex.specs.Table.{is_vocabularies, names_under, vocabulary_names, is_hidden, text_in, text_named, letter_of, same_kind, clashes_with, clashes, any_clash, is_new, joined, Adds, AddsAll, IsFaultOf, symbol_priority, symbol_lexeme, IsTableOf, IsTableFault, IsTableRefused};
+ghost use Rattle.mz_lex.specs.Table.{is_vocabularies, names_under, vocabulary_names, each_once, is_hidden, text_in, text_named, clashes, any_clash, is_new, joined, most_symbols, Adds, AddsAll, IsFaultOf, symbol_priority, symbol_lexeme, IsTableOf, IsTableFault, IsTableRefused};
 
 use crate::built_in::built_in_lexemes;
+use crate::known::Known;
 use crate::lexeme::Lexeme;
 use crate::symbol_table::SymbolTable;
 use crate::table_fault::TableFault;
@@ -24,6 +26,7 @@ use mz_voc::entry::Entry;
 use mz_voc::read::read_voc;
 use mz_voc::voc_fault::VocFault;
 use std::alloc::{AllocError, Global};
+use std::collections::HashSet;
 
 /// The most symbols of an environment, the built-in ones not among them.
 pub const MOST_SYMBOLS: usize = 4_096;
@@ -56,6 +59,29 @@ fn vocabulary_names(alloc: Global, directives: &[Directive]) -> Result<Vec<Place
     Ok(names)
 }
 
+/// Notes the name, and tells whether it is noted for the first time.
+fn note(seen: &mut HashSet<u64>, name: &PlacedName) -> Result<bool, AllocError>
+    ensures first { IfOk result (λ first. first ≡ not (contains nat_eq seen.old name.now.name.number)) }
+    ensures noted { OnOk result ((number : ℕ) → contains nat_eq seen.new number ≡ if nat_eq name.now.name.number number then true else contains nat_eq seen.old number) }
+{
+    Ok(seen.insert(name.name.number())?)
+}
+
+/// Each name once, where it stands first.
+fn each_once(alloc: Global, names: &[PlacedName]) -> Result<Vec<PlacedName>, AllocError>
+    ensures { IfOk result (λ ns. ns.items ≡ each_once names.now) }
+{
+    let mut seen = HashSet::new(alloc);
+    let mut found = Vec::new(alloc);
+    for name in names {
+        let first = note(&mut seen, name)?;
+        if first {
+            found.push(*name)?;
+        }
+    }
+    Ok(found)
+}
+
 fn is_hidden(name: &PlacedName) -> bool
     ensures { result ≡ is_hidden name.now }
 {
@@ -83,51 +109,23 @@ fn text_named<'a>(vocabularies: &'a [VocabularyText], name: &PlacedName) -> Opti
     }
 }
 
-/// The letter of the kind.
-fn letter_of(kind: SymbolKind) -> u8
-    ensures { result ≡ letter_of kind }
-{
-    match kind {
-        SymbolKind::Structure => b'G',
-        SymbolKind::LeftBracket => b'K',
-        SymbolKind::RightBracket => b'L',
-        SymbolKind::Mode => b'M',
-        SymbolKind::Functor => b'O',
-        SymbolKind::Predicate => b'R',
-        SymbolKind::Selector => b'U',
-        SymbolKind::Attribute => b'V',
-    }
-}
-
-fn clashes_with(entry: &Entry, known: &Entry) -> bool
-    ensures { result ≡ clashes_with entry.now known.now }
-{
-    known.spelling.as_slice() == entry.spelling.as_slice()
-        && letter_of(known.kind) != letter_of(entry.kind)
-}
-
-fn clashes(known: &[Entry], entry: &Entry) -> bool
-    ensures { result ≡ clashes known.now entry.now }
-{
-    known.iter().any(|k| clashes_with(entry, k))
-}
-
-fn any_clash(known: &[Entry], entries: &[Entry]) -> bool
+fn any_clash(known: &Known, entries: &[Entry]) -> bool
     ensures { result ≡ any_clash known.now entries.now }
 {
-    entries.iter().any(|entry| clashes(known, entry))
+    entries.iter().any(|entry| known.clashes(entry))
 }
 
-fn is_spelled(known: &[Entry], spelling: &[u8]) -> bool
-    ensures { result ≡ is_spelled known.now spelling.now }
-{
-    known.iter().any(|k| k.spelling.as_slice() == spelling)
-}
-
-fn is_new(known: &[Entry], entry: &Entry) -> bool
+fn is_new(known: &Known, entry: &Entry) -> bool
     ensures { result ≡ is_new known.now entry.now }
 {
-    !is_spelled(known, entry.spelling.as_slice())
+    !known.is_spelled(entry.spelling.as_slice())
+}
+
+/// Whether there are more symbols than an environment may have.
+fn are_too_many(known: &Known) -> bool
+    ensures { result ≡ nat_lt most_symbols (length known.now) }
+{
+    known.len() > MOST_SYMBOLS
 }
 
 fn copy_of(alloc: Global, entry: &Entry) -> Result<Entry, AllocError>
@@ -140,17 +138,18 @@ fn copy_of(alloc: Global, entry: &Entry) -> Result<Entry, AllocError>
     })
 }
 
-/// The entries that aren't known yet.
-fn new_entries(alloc: Global, known: &[Entry], entries: &[Entry]) -> Result<Vec<Entry>, AllocError>
-    ensures { IfOk result (λ es. es.items ≡ filter (is_new known.now) entries.now) }
+/// The known symbols, and behind them the entries that aren't known.
+fn joined(alloc: Global, known: Known, entries: &[Entry]) -> Result<Known, AllocError>
+    requires { AreDistinct entries.now }
+    ensures { IfOk result (λ all. all ≡ joined known entries.now) }
 {
-    let mut found = Vec::new(alloc);
+    let mut all = known;
     for entry in entries {
-        if is_new(known, entry) {
-            found.push(copy_of(alloc, entry)?)?;
+        if is_new(&all, entry) {
+            all = all.with(alloc, copy_of(alloc, entry)?)?;
         }
     }
-    Ok(found)
+    Ok(all)
 }
 
 /// The known symbols with those that the name adds.
@@ -158,10 +157,10 @@ fn add(
     alloc: Global,
     vocabularies: &[VocabularyText],
     name: &PlacedName,
-    mut known: Vec<Entry>,
-) -> Result<Vec<Entry>, TableFault>
-    ensures adds { IfOk result (λ next. Adds vocabularies.now known.items name.now next.items) }
-    ensures refused { IfErr result (IsFaultOf vocabularies.now known.items name.now) }
+    known: Known,
+) -> Result<Known, TableFault>
+    ensures adds { IfOk result (λ next. Adds vocabularies.now known name.now next) }
+    ensures refused { IfErr result (IsFaultOf vocabularies.now known name.now) }
 {
     if is_hidden(name) {
         return Ok(known);
@@ -173,15 +172,14 @@ fn add(
     match read_voc(alloc, text.as_slice()) {
         Ok(vocabulary) => {
             let entries = vocabulary.items.as_slice();
-            if any_clash(known.as_slice(), entries) {
+            if any_clash(&known, entries) {
                 return Err(TableFault::TwoKinds { place });
             }
-            let mut found = new_entries(alloc, known.as_slice(), entries)?;
-            known.append(&mut found)?;
-            if known.len() > MOST_SYMBOLS {
+            let all = joined(alloc, known, entries)?;
+            if are_too_many(&all) {
                 return Err(TableFault::TooManySymbols { place });
             }
-            Ok(known)
+            Ok(all)
         }
         Err(VocFault::Memory(fault)) => Err(TableFault::Memory(fault)),
         Err(VocFault::BadEntry { line }) => Err(TableFault::Bad {
@@ -204,11 +202,11 @@ fn add_all(
     alloc: Global,
     vocabularies: &[VocabularyText],
     names: &[PlacedName],
-) -> Result<Vec<Entry>, TableFault>
-    ensures adds { IfOk result (λ all. AddsAll vocabularies.now [] names.now all.items) }
+) -> Result<Known, TableFault>
+    ensures adds { IfOk result (λ all. AddsAll vocabularies.now [] names.now all) }
     ensures refused { IfErr result (IsTableRefused vocabularies.now names.now) }
 {
-    let mut known = Vec::new(alloc);
+    let mut known = Known::new(alloc);
     for name in names {
         known = match add(alloc, vocabularies, name, known) {
             Ok(next) => next,
@@ -262,7 +260,8 @@ pub fn table(
     ensures table { IfOk result (IsTableOf vocabularies.now head.now) }
     ensures refused { IfErr result (IsTableFault vocabularies.now head.now) }
 {
-    let names = vocabulary_names(alloc, head.items.as_slice())?;
+    let written = vocabulary_names(alloc, head.items.as_slice())?;
+    let names = each_once(alloc, written.as_slice())?;
     let symbols = match add_all(alloc, vocabularies.items.as_slice(), names.as_slice()) {
         Ok(symbols) => symbols,
         Err(fault) => return Err(fault),

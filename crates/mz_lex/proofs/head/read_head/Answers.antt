@@ -4,7 +4,7 @@ use Rattle.std.proofs.lemmas.List.{take_all}
 use Rattle.mz_lex.specs.Head.{BreaksOff}
 use Rattle.mz_lex.proofs.HeadLemmas.{turned, past_environ, past_begin, past_directive, past_name, past_comma, past_semicolon, past_later, past_other, breaks_off, token_refused, split_at_token, name_read}
 use Rattle.mz_lex.proofs.head.read_head.Goals as goal
-use Rattle.mz_lex.proofs.head.read_head.Goals.{in-Environ, in-Begin, in-Directive, in-Later, in-Name+in-Ok+in_ok-push-in-Ok, in-Comma, in-Semicolon+in_ok-push-in-Semicolon, in-Other}
+use Rattle.mz_lex.proofs.head.read_head.Goals.{in-Environ, in-Begin, in-Directive, in-Later, in-Name+in-Ok+in_ok-push-in-Ok, in-Comma, in-Semicolon+in_ok-add_directive-in-Semicolon, in-Other}
 
 pub returns-in_default-clause-refused : goal.returns-in_default-clause-refused
 returns-in_default-clause-refused c =
@@ -19,7 +19,7 @@ loop-token-preserved c =
       | in-Later w ↦ absurd (past_later _ _ _ _ _ _ _ _ _ c.loop-token.invariant c.sign_of-sign.ensures c.in-Some.ensures w.in-Later.is)
       | in-Name+in-Ok+in_ok-push-in-Ok w ↦ turned _ _ _ _ _ _ _ _ _ _ _ _ c.loop-token-test.true c.token-item.is (past_name _ _ _ _ _ _ _ _ _ c.loop-token.invariant c.sign_of-sign.ensures c.in-Some.ensures _ _ w.in-Name.is (rw w.as_slice.ensures at w.in-Ok.ensures.number) refl w.in_ok-push-in-Ok.ensures.items) (ap (λ v. v.items) w.items-is) w.kind-is w.place-is (ap (λ v. v.items) w.names-is)
       | in-Comma w ↦ turned _ _ _ _ _ _ _ _ _ _ _ _ c.loop-token-test.true c.token-item.is (past_comma _ _ _ _ _ _ _ _ _ c.loop-token.invariant c.sign_of-sign.ensures c.in-Some.ensures w.in-Comma.is) (ap (λ v. v.items) w.items-is) w.kind-is w.place-is (ap (λ v. v.items) w.names-is)
-      | in-Semicolon+in_ok-push-in-Semicolon w ↦ turned _ _ _ _ _ _ _ _ _ _ _ _ c.loop-token-test.true c.token-item.is (past_semicolon _ _ _ _ _ _ _ _ _ c.loop-token.invariant c.sign_of-sign.ensures c.in-Some.ensures _ _ _ w.in-Semicolon.is (ap (λ v. record { kind = c.loop-token.kind; place = c.loop-token.place; names = v.items }) w.replace.ensures.value) w.in_ok-push-in-Semicolon.ensures.items) (ap (λ v. v.items) w.items-is) w.kind-is w.place-is (ap (λ v. v.items) w.names-is)
+      | in-Semicolon+in_ok-add_directive-in-Semicolon w ↦ turned _ _ _ _ _ _ _ _ _ _ _ _ c.loop-token-test.true c.token-item.is (past_semicolon _ _ _ _ _ _ _ _ _ c.loop-token.invariant c.sign_of-sign.ensures c.in-Some.ensures _ _ _ w.in-Semicolon.is (ap (λ v. record { kind = c.loop-token.kind; place = c.loop-token.place; names = v.items }) w.replace-all.ensures.value) w.in_ok-add_directive-in-Semicolon.ensures) (ap (λ v. v.items) w.items-is) w.kind-is w.place-is (ap (λ v. v.items) w.names-is)
       | in-Other w ↦ absurd (past_other _ _ _ _ _ _ _ _ _ c.loop-token.invariant c.sign_of-sign.ensures c.in-Some.ensures w.in-Other.is)
     ]
 

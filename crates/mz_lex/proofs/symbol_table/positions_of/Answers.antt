@@ -1,11 +1,9 @@
-use Rattle.std.proofs.Common.{◌∙◌, sym, append-nil}
-use Rattle.mz_lex.proofs.LongestLemmas.{positions_step}
+use Rattle.std.proofs.Common.{refl, arith}
+use Rattle.mz_lex.proofs.LongestLemmas.{finds_more}
 use Rattle.mz_lex.proofs.symbol_table.positions_of.Goals as goal
-use Rattle.mz_lex.proofs.symbol_table.positions_of.Goals.{then-begins_with+in_ok-push, else-begins_with}
 
 pub loop-position-preserved : goal.loop-position-preserved
-loop-position-preserved c =
-    elim c.if-begins_with.branch [
-      | then-begins_with+in_ok-push w ↦ positions_step _ _ _ _ _ _ _ _ c.loop-position.invariant c.loop-position-test.true c.index-lexemes-position.is c.as_slice.ensures w.if-begins_with.ensures (w.positions-is ∙ w.in_ok-push.ensures.ok)
-      | else-begins_with w ↦ positions_step _ _ _ _ _ _ _ _ c.loop-position.invariant c.loop-position-test.true c.index-lexemes-position.is c.as_slice.ensures w.if-begins_with.ensures (w.positions-is ∙ sym (append-nil _))
-    ]
+loop-position-preserved c = record {
+  within = omega arith;
+  first = finds_more _ c.loop-position.positions c.insert.new.self _ _ _ _ c.loop-position-test.true c.loop-position.invariant.within refl c.index-lexemes-position.is c.loop-position.invariant.first c.as_slice.ensures c.in_ok-insert.ensures;
+}

@@ -1,6 +1,12 @@
-use Rattle.std.proofs.Common.{◌≡◌, take}
-use Rattle.mz_lex.specs.Longest.{positions_from}
+use Rattle.std.proofs.Common.{◌≤◌, length, drop}
+use Rattle.mz_lex.specs.SymbolTable.{FindsFirst}
 use Rattle.mz_lex.proofs.symbol_table.positions_of.Given as goal
 
 abbrev pub invariant-loop-position : goal.invariant-loop-position
-invariant-loop-position l = l.positions ≡ positions_from l.byte 0 (take l.position l.lexemes)
+invariant-loop-position l = record {
+  within : l.position ≤ length l.lexemes;
+  first : FindsFirst l.lexemes l.positions (drop l.position l.lexemes);
+}
+
+abbrev pub decreases-loop-position : goal.decreases-loop-position
+decreases-loop-position l = l.position

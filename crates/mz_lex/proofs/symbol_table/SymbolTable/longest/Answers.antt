@@ -1,5 +1,5 @@
-use Rattle.mz_lex.proofs.LongestLemmas.{longest_of-no_text}
+use Rattle.mz_lex.proofs.LongestLemmas.{none_at}
 use Rattle.mz_lex.proofs.symbol_table.SymbolTable.longest.Goals as goal
 
-pub returns-in-None : goal.returns-in-None
-returns-in-None c = longest_of-no_text _ _ c.in-None.ensures.value
+pub loop-length-preserved : goal.loop-length-preserved
+loop-length-preserved c = none_at _ _ _ c.loop-length.invariant c.loop-length-test.true c.in_default.ensures
