@@ -1,7 +1,6 @@
 -- Known symbols, and the symbols that a vocabulary adds to them.
 use Rattle.std.proofs.Common.{◌≡◌, ℕ, suc, ◌+◌, ◌<◌, Bool, true, false, not, cond, ◌&&◌, ◌||◌, List, [], ◌∷◌, ◌++◌, length, get_or, take, drop, Some, None, refl, sym, ap, subst, ◌∙◌, append_assoc, append-nil}
 use Rattle.std.specs.Prelude.{find, filter, Option}
-use Rattle.std.specs.List.{list_any}
 use Rattle.std.specs.Option.{option_map, option_or, is_some}
 use Rattle.std.specs.Str.{bytes_eq}
 use Rattle.std.proofs.lemmas.List.{take_more, take-append-drop}

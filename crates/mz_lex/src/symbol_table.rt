@@ -1,5 +1,5 @@
 //! Tables of lexemes.
-ghost use Rattle.std.specs.Prelude.{◌≡◌, ◌<◌, length, min, take, IfOk, slice_index_or};
+ghost use Rattle.std.specs.Prelude.{◌≡◌, length, min, IfOk};
 ghost use Rattle.std.specs.Option.{option_copied};
 ghost use Rattle.mz_lex.specs.SymbolTable.{FindsFirst, NoneLonger};
 ghost use Rattle.mz_lex.specs.Longest.{IsLongestLexeme};
