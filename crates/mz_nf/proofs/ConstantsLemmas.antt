@@ -1,5 +1,5 @@
 -- How the constants of terms and formulas come into a set.
-use Rattle.std.proofs.Common.{◌≡◌, ◌<◌, ◌≤◌, ℕ, suc, ◌+◌, List, [], ◌∷◌, ◌++◌, length, take, get_or, refl, ap, sym, ◌∙◌, add-one, Bool, true, false, arith}
+use Rattle.std.proofs.Common.{◌≡◌, ◌<◌, ◌≤◌, ℕ, ◌+◌, List, [], ◌∷◌, length, take, get_or, refl, ap, sym, ◌∙◌, add-one, Bool, true, false}
 use Rattle.std.specs.Prelude.{◌||◌, nat_eq, cond}
 use Rattle.std.specs.List.{list_any}
 use Rattle.std.specs.HashSet.{HashSet, Updates, IsEmpty}
@@ -9,7 +9,7 @@ use Rattle.std.proofs.lemmas.List.Folds.{list_any-append}
 use Rattle.mz_logic.specs.declared.sym.Sym.{Sym}
 use Rattle.mz_logic.specs.Term.{Term, Bound, Const, App, terms_of}
 use Rattle.mz_logic.specs.Formula.{Formula, Truth, Eq, Atom, Not, And, All}
-use Rattle.mz_logic.specs.Constants.{mentions, args_mention, formula_mentions}
+use Rattle.mz_logic.specs.Constants.{mentions, formula_mentions}
 use Rattle.mz_logic.proofs.ConstantLemmas.{args_mention-terms_of}
 use Rattle.mz_nf.specs.declared.problem.Problem.{Problem}
 use Rattle.mz_nf.specs.Problem.{has_constant}

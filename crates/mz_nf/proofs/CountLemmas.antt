@@ -1,15 +1,14 @@
 -- Counts that are held at each step, and counts as lengths.
-use Rattle.std.proofs.Common.{◌≡◌, ◌<◌, ◌≤◌, ℕ, zero, suc, ◌+◌, ◌*◌, min, List, [], ◌∷◌, ◌++◌, map, length, take, get_or, refl, ap, sym, ◌∙◌, arith, Bool, true, false, add-one}
+use Rattle.std.proofs.Common.{◌≡◌, ◌<◌, ◌≤◌, ℕ, zero, suc, ◌+◌, ◌*◌, min, List, [], ◌∷◌, ◌++◌, length, take, get_or, refl, ap, sym, ◌∙◌, arith, Bool, true, false, add-one}
 use Rattle.std.specs.Prelude.{nat_lt}
-use Rattle.std.proofs.Math.Nat.{mul_assoc, mul_comm, mul-one, mul-zero, zero-min, suc-mul, mul-le-mul, mul-le-mul_left}
+use Rattle.std.proofs.Math.Nat.{mul_assoc, mul_comm, mul-one, mul-zero, zero-min, mul-le-mul, mul-le-mul_left}
 use Rattle.std.proofs.Math.Seq.{take-suc}
-use Rattle.std.proofs.lemmas.List.{take_all, length-append, length-map}
+use Rattle.std.proofs.lemmas.List.{take_all}
 use Rattle.std.proofs.lemmas.Bool.{ltb-true, ltb-false}
 use Rattle.mz_logic.specs.Term.{Term}
 use Rattle.mz_logic.specs.Formula.{Formula, Truth, Eq, Atom, Not, And, All}
 use Rattle.mz_logic.specs.Substitution.{put_formula}
 use Rattle.mz_nf.specs.declared.problem.Problem.{Problem}
-use Rattle.mz_nf.specs.Problem.{parts_of}
 use Rattle.mz_nf.specs.Count.{count, count_all, held, count_of}
 
 -- a product of held numbers

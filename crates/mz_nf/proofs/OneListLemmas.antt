@@ -1,11 +1,11 @@
 -- There is one list of disjuncts, and its length is the count.
-use Rattle.std.proofs.Common.{◌≡◌, ◌<◌, ◌≤◌, ℕ, zero, suc, ◌+◌, ◌*◌, List, [], ◌∷◌, ◌++◌, map, length, refl, ap, sym, ◌∙◌, subst, arith, Bool, true, false, max}
+use Rattle.std.proofs.Common.{◌≡◌, ◌<◌, ◌≤◌, ℕ, suc, ◌+◌, ◌*◌, List, [], ◌∷◌, ◌++◌, length, refl, ap, sym, ◌∙◌, subst, arith, Bool, true, false, max}
 use Rattle.std.specs.Prelude.{nat_lt, ◌||◌}
 use Rattle.std.specs.List.{list_any}
 use Rattle.std.proofs.lemmas.Bool.{ltb-true, ltb-false}
 use Rattle.std.proofs.lemmas.List.{length-append}
-use Rattle.mz_logic.specs.Term.{Term, Const}
-use Rattle.mz_logic.specs.Formula.{Formula, Truth, Eq, Atom, Not, And, All}
+use Rattle.mz_logic.specs.Term.{Const}
+use Rattle.mz_logic.specs.Formula.{Formula}
 use Rattle.mz_logic.specs.Substitution.{body_at}
 use Rattle.mz_logic.specs.Constants.{formula_mentions}
 use Rattle.mz_logic.proofs.Fresh.{formula_greatest, all_greatest, formula_mentions-above, all_mention-above}

@@ -1,11 +1,11 @@
 -- Where each disjunct gives falsity, so does what was split.
-use Rattle.std.proofs.Common.{get_or, ◌≡◌, ◌<◌, ◌≤◌, ◌⊎◌, inl, inr, ℕ, zero, suc, List, [], ◌∷◌, ◌++◌, map, length, refl, arith, ap, sym, ◌∙◌, subst, Bool, true, false}
+use Rattle.std.proofs.Common.{get_or, ◌≡◌, ◌≤◌, ◌⊎◌, inl, inr, ℕ, suc, List, [], ◌∷◌, ◌++◌, map, refl, arith, sym, subst, Bool, true, false}
 use Rattle.std.specs.Prelude.{All, Contains, ◌||◌, nat_eq}
 use Rattle.std.specs.List.{list_any, AllByRecursion}
 use Rattle.std.proofs.lemmas.Bool.{ne_eqb}
 use Rattle.std.proofs.lemmas.List.{map-append}
 use Rattle.std.proofs.lemmas.List.Elements.{Contains-append_left, Contains-append_right, Contains-append_cases, Contains-get_or}
-use Rattle.mz_logic.specs.Term.{Term, Const}
+use Rattle.mz_logic.specs.Term.{Const}
 use Rattle.mz_logic.specs.Formula as formula
 use Rattle.mz_logic.specs.Formula.{Formula}
 use Rattle.mz_logic.specs.Formulas.{IsMember}
@@ -14,16 +14,13 @@ use Rattle.mz_logic.specs.Constants.{formula_mentions}
 use Rattle.mz_logic.specs.Negation.{falsity}
 use Rattle.mz_logic.specs.Literal.{signed, literal_formula}
 use Rattle.mz_logic.specs.Derives.{Derives}
-use Rattle.mz_logic.specs.declared.literal.Literal.{Literal}
-use Rattle.mz_logic.specs.declared.literal.Literal.TheVariants as literal
 use Rattle.mz_logic.specs.declared.disjunct.Disjunct.{Disjunct}
 use Rattle.mz_logic.proofs.Rules.{hypothesis, weakening, cut, and_in, and_left, and_right, not_in, not_out, classical, all_in}
 use Rattle.mz_logic.proofs.Connectives.{first, under}
 use Rattle.mz_logic.proofs.SubstitutionLaws.{formula_mentions-put}
 use Rattle.mz_nf.specs.declared.problem.Problem.{Problem}
 use Rattle.mz_nf.specs.Problem.{parts_of, has_constant}
-use Rattle.mz_nf.specs.Disjunct.{empty, of_literal, of_universal, joined, pairs, formulas_of}
-use Rattle.mz_nf.specs.Constants.{IsLeastUnused}
+use Rattle.mz_nf.specs.Disjunct.{joined, pairs, formulas_of}
 use Rattle.mz_nf.specs.Splits as splits
 use Rattle.mz_nf.specs.Splits.{Splits, SplitsAll, AreDisjuncts}
 use Rattle.mz_nf.specs.Laws.{HasConstantsOf}

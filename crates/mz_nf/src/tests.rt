@@ -198,6 +198,8 @@ fn small_problems(rt: HostRuntime) -> Result<(), Fail> {
         ("xPA! ab&!& T!", "1P!a!/;1P!b!/;"),
         ("1P 3P xPAxPA&", "1P3P2P!/;1P3P4P!/;"),
         ("2PxPA!& 02R", "2P1P!02R!/;"),
+        // A place takes its constant in each disjunct, also where that doesn't have it.
+        ("1P a!xPA&! xPA", "1Pa3P!/;1P2P!3P!/;"),
         // An outer one before those in its body.
         ("yxRAA", "12R!/;"),
         ("yxRAAxPA&", "12R!/;3P!/;"),

@@ -1,5 +1,5 @@
 use Rattle.std.proofs.Common.{◌≡◌, ◌++◌, take, map}
-use Rattle.mz_nf.specs.Disjunct.{joined, pairs}
+use Rattle.mz_nf.specs.Disjunct.{joined}
 use Rattle.mz_nf.proofs.product.add_joined.Given as goal
 
 abbrev pub invariant-loop-e : goal.invariant-loop-e

@@ -1,5 +1,4 @@
-use Rattle.std.proofs.Common.{◌≡◌, ◌++◌, take, map}
-use Rattle.mz_nf.specs.Disjunct.{joined, pairs}
+use Rattle.std.proofs.Common.{◌≡◌, ◌++◌, take}
 use Rattle.mz_nf.proofs.product.joined_formulas.Given as goal
 
 abbrev pub invariant-loop-g : goal.invariant-loop-g

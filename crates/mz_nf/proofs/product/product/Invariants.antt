@@ -1,5 +1,5 @@
-use Rattle.std.proofs.Common.{◌≡◌, ◌++◌, take, map}
-use Rattle.mz_nf.specs.Disjunct.{joined, pairs}
+use Rattle.std.proofs.Common.{◌≡◌, take}
+use Rattle.mz_nf.specs.Disjunct.{pairs}
 use Rattle.mz_nf.proofs.product.product.Given as goal
 
 abbrev pub invariant-loop-d : goal.invariant-loop-d
