@@ -12,6 +12,7 @@ use mz_base::name::Name;
 use mz_base::place::Place;
 use mz_base::symbol_kind::SymbolKind;
 use mz_base::text::Text;
+use mz_base::token::Token;
 use mz_base::token_kind::TokenKind;
 use mz_base::vocabularies::Vocabularies;
 use mz_base::vocabulary_text::VocabularyText;
@@ -155,179 +156,174 @@ fn cuts_each_built_in_spelling(rt: HostRuntime) -> Result<(), Fail> {
     Ok(())
 }
 
-#[test]
-fn cuts_the_longest_tokens(rt: HostRuntime) -> Result<(), Fail> {
-    let id = TokenKind::Identifier;
-    let numeral = TokenKind::Numeral;
-    let special = TokenKind::Special;
-    let reserved = TokenKind::Reserved;
-    let predicate = TokenKind::Symbol(SymbolKind::Predicate);
-    let attribute = TokenKind::Symbol(SymbolKind::Attribute);
-    let bracket = TokenKind::Symbol(SymbolKind::LeftBracket);
-    let rows: [(&[u8], &[u8], usize, usize, TokenKind, &[u8], u64, u64); 36] = [
-        (b"Rc=", b"environ begin Xc=Y", 5, 2, id, b"Xc", 1, 15),
-        (b"Rc=", b"environ begin Xc=Y", 5, 3, predicate, b"=", 1, 17),
-        (b"Rc=", b"environ begin Xc=Y", 5, 4, id, b"Y", 1, 18),
-        (b"Rc=", b"environ begin X c= Y", 5, 2, id, b"X", 1, 15),
-        (
-            b"Rc=",
-            b"environ begin X c= Y",
-            5,
-            3,
-            predicate,
-            b"c=",
-            1,
-            17,
-        ),
-        (b"Rc=", b"environ begin X c= Y", 5, 4, id, b"Y", 1, 20),
-        (b"", b"a::b", 1, 0, id, b"a", 1, 1),
-        (b"Ka:", b"environ begin a::b", 5, 2, bracket, b"a:", 1, 15),
-        (b"Ka:", b"environ begin a::b", 5, 3, special, b":", 1, 17),
-        (b"Ka:", b"environ begin a::b", 5, 4, id, b"b", 1, 18),
-        (b"", b"$11", 2, 0, special, b"$1", 1, 1),
-        (b"", b"$11", 2, 1, numeral, b"1", 1, 3),
-        (b"", b"12' 1A 12", 3, 0, id, b"12'", 1, 1),
-        (b"", b"12' 1A 12", 3, 1, id, b"1A", 1, 5),
-        (b"", b"12' 1A 12", 3, 2, numeral, b"12", 1, 8),
-        (b"", b"a\r\nb :: c\n d", 3, 0, id, b"a", 1, 1),
-        (b"", b"a\r\nb :: c\n d", 3, 1, id, b"b", 2, 1),
-        (b"", b"a\r\nb :: c\n d", 3, 2, id, b"d", 3, 2),
-        (
-            b"Vse",
-            b"environ begin set se",
-            4,
-            2,
-            reserved,
-            b"set",
-            1,
-            15,
-        ),
-        (
-            b"Vse",
-            b"environ begin set se",
-            4,
-            3,
-            attribute,
-            b"se",
-            1,
-            19,
-        ),
-        (
-            b"V+\nV++",
-            b"environ begin +++",
-            4,
-            2,
-            attribute,
-            b"++",
-            1,
-            15,
-        ),
-        (
-            b"V+\nV++",
-            b"environ begin +++",
-            4,
-            3,
-            attribute,
-            b"+",
-            1,
-            17,
-        ),
-        (
-            b"Vfoo",
-            b"environ begin foo foo1",
-            4,
-            2,
-            attribute,
-            b"foo",
-            1,
-            15,
-        ),
-        (b"Vfoo", b"environ begin foo foo1", 4, 3, id, b"foo1", 1, 19),
-        (b"", b"(#x#)", 3, 0, special, b"(#", 1, 1),
-        (b"", b"(#x#)", 3, 1, id, b"x", 1, 3),
-        (b"", b"(#x#)", 3, 2, special, b"#)", 1, 4),
-        (
-            b"RV",
-            b"environ vocabularies V; begin V",
-            6,
-            2,
-            id,
-            b"V",
-            1,
-            22,
-        ),
-        (
-            b"RV",
-            b"environ vocabularies V; begin V",
-            6,
-            5,
-            predicate,
-            b"V",
-            1,
-            31,
-        ),
-        (
-            b"RV;",
-            b"environ vocabularies V; begin V;",
-            6,
-            3,
-            special,
-            b";",
-            1,
-            23,
-        ),
-        (
-            b"RV;",
-            b"environ vocabularies V; begin V;",
-            6,
-            5,
-            predicate,
-            b"V;",
-            1,
-            31,
-        ),
-        (
-            b"Rbegin;",
-            b"environ begin; begin;",
-            4,
-            1,
-            reserved,
-            b"begin",
-            1,
-            9,
-        ),
-        (
-            b"Rbegin;",
-            b"environ begin; begin;",
-            4,
-            3,
-            predicate,
-            b"begin;",
-            1,
-            16,
-        ),
-        (b"Ka:", b"environ a:: b\nbegin a::b", 6, 1, id, b"a", 1, 9),
-        (
-            b"Ka:",
-            b"environ a:: b\nbegin a::b",
-            6,
-            3,
-            bracket,
-            b"a:",
-            2,
-            7,
-        ),
-        (b"Rfoo", b"foo", 1, 0, id, b"foo", 1, 1),
-    ];
-    for (symbols, text, count, at, kind, spelling, line, column) in rows {
-        let table = table_of(rt.alloc(), symbols, b"", b"environ vocabularies A; begin")?;
-        let tokens = tokens(rt.alloc(), &table, text)?;
-        assert_eq!(rt; tokens.items.len(), count, "at {text:?}");
-        let token = tokens.items.get(at).ok_or("no token")?;
-        assert_eq!(rt; token.kind, kind, "at {text:?}");
-        assert_eq!(rt; token.spelling.as_slice(), spelling, "at {text:?}");
-        assert_eq!(rt; token.place, Place { line, column }, "at {text:?}");
+/// The letter of a kind: that of a vocabulary for symbols, and a small one for the others.
+fn letter(kind: TokenKind) -> u8 {
+    match kind {
+        TokenKind::Reserved => b'w',
+        TokenKind::Special => b's',
+        TokenKind::Identifier => b'i',
+        TokenKind::Numeral => b'n',
+        TokenKind::Symbol(SymbolKind::Structure) => b'G',
+        TokenKind::Symbol(SymbolKind::LeftBracket) => b'K',
+        TokenKind::Symbol(SymbolKind::RightBracket) => b'L',
+        TokenKind::Symbol(SymbolKind::Mode) => b'M',
+        TokenKind::Symbol(SymbolKind::Functor) => b'O',
+        TokenKind::Symbol(SymbolKind::Predicate) => b'R',
+        TokenKind::Symbol(SymbolKind::Selector) => b'U',
+        TokenKind::Symbol(SymbolKind::Attribute) => b'V',
     }
+}
+
+/// The tokens from the one at `from` on, each with its letter and its place.
+fn listed(alloc: Global, tokens: &[Token], from: usize) -> Result<Vec<u8>, Fail> {
+    let mut bytes = Vec::new(alloc);
+    for (at, token) in tokens.iter().enumerate() {
+        if at >= from {
+            bytes.extend_from_slice(token.spelling.as_slice())?;
+            bytes.push(b' ')?;
+            bytes.push(letter(token.kind))?;
+            let place = format!(in alloc; "{}:{} ", token.place.line, token.place.column)?;
+            bytes.extend_from_slice(place.as_bytes())?;
+        }
+    }
+    Ok(bytes)
+}
+
+/// A vocabulary, a text, from which token on it is looked at, and these tokens.
+type Row = (&'static [u8], &'static [u8], usize, &'static [u8]);
+
+/// Texts without an environment part, or whose environment part is looked at.
+const IN_FRONT: [Row; 9] = [
+    (b"Rfoo", b"foo", 0, b"foo i1:1 "),
+    (b"", b"a::b", 0, b"a i1:1 "),
+    (b"", b"$11", 0, b"$1 s1:1 1 n1:3 "),
+    (b"", b"12' 1A 12 '", 0, b"12' i1:1 1A i1:5 12 n1:8 ' i1:11 "),
+    (b"", b"a\r\nb :: c\n d", 0, b"a i1:1 b i2:1 d i3:2 "),
+    (
+        b"",
+        b"(#x#) ([",
+        0,
+        b"(# s1:1 x i1:3 #) s1:4 ( s1:7 [ s1:8 ",
+    ),
+    (
+        b"",
+        b"in<>=strict",
+        0,
+        b"in R1:1 <> R1:3 = R1:5 strict V1:6 ",
+    ),
+    (
+        b"RV",
+        b"V; begin V",
+        0,
+        b"V i1:1 ; s1:2 begin w1:4 V R1:10 ",
+    ),
+    (
+        b"RV;",
+        b"V; begin V;",
+        0,
+        b"V i1:1 ; s1:2 begin w1:4 V; R1:10 ",
+    ),
+];
+
+/// Texts that are looked at behind their `begin`.
+const BEHIND: [Row; 9] = [
+    (
+        b"Rc=",
+        b"environ begin Xc=Y",
+        2,
+        b"Xc i1:15 = R1:17 Y i1:18 ",
+    ),
+    (
+        b"Rc=",
+        b"environ begin X c= Y",
+        2,
+        b"X i1:15 c= R1:17 Y i1:20 ",
+    ),
+    (
+        b"Ka:",
+        b"environ begin a::b",
+        2,
+        b"a: K1:15 : s1:17 b i1:18 ",
+    ),
+    (b"Vse", b"environ begin set se", 2, b"set w1:15 se V1:19 "),
+    (b"V+\nV++", b"environ begin +++", 2, b"++ V1:15 + V1:17 "),
+    (
+        b"Vfoo",
+        b"environ begin foo foo1",
+        2,
+        b"foo V1:15 foo1 i1:19 ",
+    ),
+    (
+        b"Rbegin;",
+        b"environ begin; begin;",
+        1,
+        b"begin w1:9 ; s1:14 begin; R1:16 ",
+    ),
+    (
+        b"Ka:",
+        b"a:: b\nbegin a::b",
+        0,
+        b"a i1:1 begin w2:1 a: K2:7 : s2:9 b i2:10 ",
+    ),
+    (
+        b"Uthes",
+        b"environ begin is\tthes thesis",
+        2,
+        b"is w1:15 thes U1:18 thesis w1:23 ",
+    ),
+];
+
+/// An article of one theorem, and a definition with and without its symbol.
+const ARTICLES: [Row; 3] = [
+    (
+        b"Rc=",
+        b"environ vocabularies SUBV; begin theorem for Xc,Y being object st Xc=Y holds Y = Xc;",
+        5,
+        b"theorem w1:34 for w1:42 Xc i1:46 , s1:48 Y i1:49 being w1:51 object M1:57 st w1:64 Xc i1:67 = R1:69 Y i1:70 holds w1:72 Y i1:78 = R1:80 Xc i1:82 ; s1:84 ",
+    ),
+    (
+        b"",
+        b"environ begin definition let X,Y be set; pred X c= Y means X = Y; end;",
+        9,
+        b"; s1:40 pred w1:42 X i1:47 c i1:49 = R1:50 Y i1:52 means w1:54 X i1:60 = R1:62 Y i1:64 ; s1:65 end w1:67 ; s1:70 ",
+    ),
+    (
+        b"Rc=",
+        b"environ vocabularies SUBV; begin definition let X,Y be set; pred X c= Y means X = Y; end;",
+        12,
+        b"; s1:59 pred w1:61 X i1:66 c= R1:68 Y i1:71 means w1:73 X i1:79 = R1:81 Y i1:83 ; s1:84 end w1:86 ; s1:89 ",
+    ),
+];
+
+/// The first row whose text is cut into other tokens.
+fn first_wrong(alloc: Global, rows: &[Row]) -> Result<Option<usize>, Fail> {
+    for (at, row) in rows.iter().enumerate() {
+        let (symbols, text, from, want) = *row;
+        let table = table_of(alloc, symbols, b"", b"environ vocabularies A; begin")?;
+        let tokens = tokens(alloc, &table, text)?;
+        let found = listed(alloc, tokens.items.as_slice(), from)?;
+        if found.as_slice() != want {
+            return Ok(Some(at));
+        }
+    }
+    Ok(None)
+}
+
+#[test]
+fn cuts_the_environment_part(rt: HostRuntime) -> Result<(), Fail> {
+    assert_eq!(rt; first_wrong(rt.alloc(), &IN_FRONT)?, None);
+    Ok(())
+}
+
+#[test]
+fn cuts_what_stands_behind(rt: HostRuntime) -> Result<(), Fail> {
+    assert_eq!(rt; first_wrong(rt.alloc(), &BEHIND)?, None);
+    Ok(())
+}
+
+#[test]
+fn cuts_articles(rt: HostRuntime) -> Result<(), Fail> {
+    assert_eq!(rt; first_wrong(rt.alloc(), &ARTICLES)?, None);
     Ok(())
 }
 
@@ -384,6 +380,11 @@ fn reads_heads(rt: HostRuntime) -> Result<(), Fail> {
     for (text, want) in rows {
         assert_eq!(rt; head_answer(rt.alloc(), text), want, "at {text:?}");
     }
+    Ok(())
+}
+
+#[test]
+fn reads_directives(rt: HostRuntime) -> Result<(), Fail> {
     let part = head(rt.alloc(), b"environ vocabularies A,b; theorems C; begin")?;
     assert_eq!(rt; part.items.len(), 2);
     assert_eq!(rt; part.items[0].kind, DirectiveKind::Vocabularies);
@@ -454,6 +455,12 @@ fn joins_vocabularies(rt: HostRuntime) -> Result<(), Fail> {
     for (a, b, text, want) in rows {
         assert_eq!(rt; table_answer(rt.alloc(), a, b, text)?, want);
     }
+    Ok(())
+}
+
+#[test]
+fn keeps_the_first_priority(rt: HostRuntime) -> Result<(), Fail> {
+    let both = b"environ vocabularies A, B; begin";
     let joined = table_of(rt.alloc(), b"O+ 10\nR~", b"O+ 20", both)?;
     let tokens = tokens(rt.alloc(), &joined, b"environ begin + ~")?;
     assert_eq!(rt; tokens.items.get(2).ok_or("no token")?.priority, 10);
