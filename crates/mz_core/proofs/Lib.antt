@@ -1,2 +1,3 @@
 pub mod RaiseLemmas
 pub mod FillLemmas
+pub mod LocusLemmas

@@ -1,5 +1,6 @@
 -- What a type says of a term.
-use Rattle.std.specs.Prelude.{ℕ, Bool, ◌||◌, if◌then◌else◌, List, [], ◌∷◌, ◌++◌, map}
+use Rattle.std.specs.Prelude.{ℕ, Bool, ◌||◌, if◌then◌else◌, List, [], ◌∷◌, ◌++◌, map, codes}
+use Rattle.mz_base.specs.Name.{number_of}
 use Rattle.mz_logic.specs.declared.kind.Kind.TheVariants.{Mode, Predicate}
 use Rattle.mz_logic.specs.declared.sym.Sym.{Sym}
 use Rattle.mz_logic.specs.Sym.{same_sym}
@@ -12,7 +13,7 @@ use Rattle.mz_core.specs.declared.soft_type.SoftType.{SoftType}
 
 -- the number of the name HIDDEN
 abbrev pub hidden_number : ℕ
-hidden_number = 5208769504041893888
+hidden_number = number_of (codes "HIDDEN")
 
 -- HIDDEN's modes `object` and `set`
 abbrev pub object_mode : Sym

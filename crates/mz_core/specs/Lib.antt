@@ -17,3 +17,5 @@ pub mod RegistrationRows
 pub mod StructureRows
 pub mod SchemeRows
 pub mod Items
+pub mod StatementForms
+pub mod Closed

@@ -1,8 +1,10 @@
 -- Loci.
-use Rattle.std.specs.Prelude.{ℕ, zero, suc, ◌+◌, List, [], ◌∷◌, ◌++◌, length, reverse, remove, take, drop}
+use Rattle.std.specs.Prelude.{ℕ, zero, suc, ◌+◌, true, List, [], ◌∷◌, ◌++◌, length, reverse, remove, take, drop}
 use Rattle.mz_logic.specs.declared.sym.Sym.{Sym}
 use Rattle.mz_logic.specs.Term.{Term, Bound, App, terms_of}
 use Rattle.mz_logic.specs.Formula.{Formula, Atom}
+use Rattle.mz_logic.specs.declared.literal.Literal.{Literal}
+use Rattle.mz_logic.specs.declared.literal.Literal.TheVariants as literal
 use Rattle.mz_core.specs.declared.soft_type.SoftType.{SoftType}
 use Rattle.mz_core.specs.Connectives.{for_type}
 
@@ -35,6 +37,13 @@ subject_last subject ts = remove ts subject ++ take 1 (drop subject ts)
 -- an attribute's atom on the loci without the subject, and then the subject
 abbrev pub attribute_on : List SoftType → ℕ → Sym → Formula
 attribute_on loci subject s = Atom s (subject_last subject (variables 0 (length loci)))
+
+-- both atoms as literals
+abbrev pub predicate_on : List SoftType → Sym → Literal
+predicate_on loci s = literal.Atom true s (variables 0 (length loci))
+
+abbrev pub attribute_literal_on : List SoftType → ℕ → Sym → Literal
+attribute_literal_on loci subject s = literal.Atom true s (subject_last subject (variables 0 (length loci)))
 
 -- a mode on the loci, as a type
 abbrev pub mode_on : List SoftType → Sym → SoftType

@@ -1,5 +1,5 @@
--- The formulas of properties, under the loci. The variables x and y are new, of the loci's type.
-use Rattle.std.specs.Prelude.{ℕ, zero, suc, ◌+◌, List, [], ◌∷◌, ◌++◌, length, nat_eq, if◌then◌else◌}
+-- The formulas of properties, under the loci. The variables x and y are new, of the types of their loci.
+use Rattle.std.specs.Prelude.{ℕ, zero, suc, ◌+◌, List, [], ◌∷◌, ◌++◌, length, reverse, get_or, nat_eq, if◌then◌else◌}
 use Rattle.mz_logic.specs.declared.sequent.Sequent.{Sequent}
 use Rattle.mz_logic.specs.declared.sym.Sym.{Sym}
 use Rattle.mz_logic.specs.Formulas.{sequent}
@@ -18,7 +18,11 @@ use Rattle.mz_core.specs.Fill.{filled, literal_filled}
 use Rattle.mz_core.specs.Guard.{guard}
 use Rattle.mz_core.specs.Connectives.{implies, where_guard, for_type}
 use Rattle.mz_core.specs.Loci.{over, mode_on}
-use Rattle.mz_core.specs.SetTermRows.{sethood}
+use Rattle.mz_core.specs.SetTermRows.{object_type, sethood}
+
+-- the type of the locus with the index, under all loci; `object` where there is no such locus
+abbrev pub locus_type : List SoftType → ℕ → SoftType
+locus_type loci index = type_raised 0 (index + 1) (get_or (reverse loci) index object_type)
 
 -- of the loci's values, t at the index left, u at the index right, and elsewhere the locus itself
 -- under `by` more binders
@@ -43,66 +47,76 @@ applied count by o t u = filled (values by o.left t o.right u count) o.term
 abbrev pub applied_to : ℕ → UnaryOperation → Term → Term
 applied_to count o t = filled (values 1 o.place t o.place t count) o.term
 
+-- for x holds f
+abbrev pub for_one : List SoftType → ℕ → Formula → Formula
+for_one loci place f = for_type (locus_type loci place) f
+
 -- for x,y holds f
-abbrev pub for_both : SoftType → Formula → Formula
-for_both ty f = for_type ty (for_type (type_raised 0 1 ty) f)
+abbrev pub for_both : List SoftType → ℕ → ℕ → Formula → Formula
+for_both loci left right f = for_type (locus_type loci left) (for_type (type_raised 0 1 (locus_type loci right)) f)
 
 -- for x holds R(x,x)
-abbrev pub reflexivity : ℕ → Relation → Formula
-reflexivity count r = for_type r.ty (related count 1 r (Bound 0) (Bound 0))
+abbrev pub reflexivity : List SoftType → Relation → Formula
+reflexivity loci r = for_one loci r.left (related (length loci) 1 r (Bound 0) (Bound 0))
 
 -- for x holds not R(x,x)
-abbrev pub irreflexivity : ℕ → Relation → Formula
-irreflexivity count r = for_type r.ty (negated (related count 1 r (Bound 0) (Bound 0)))
+abbrev pub irreflexivity : List SoftType → Relation → Formula
+irreflexivity loci r = for_one loci r.left (negated (related (length loci) 1 r (Bound 0) (Bound 0)))
 
 -- for x,y st R(x,y) holds R(y,x)
-abbrev pub symmetry : ℕ → Relation → Formula
-symmetry count r = for_both r.ty (implies (related count 2 r (Bound 1) (Bound 0)) (related count 2 r (Bound 0) (Bound 1)))
+abbrev pub symmetry : List SoftType → Relation → Formula
+symmetry loci r =
+    for_both loci r.left r.right
+    (implies (related (length loci) 2 r (Bound 1) (Bound 0)) (related (length loci) 2 r (Bound 0) (Bound 1)))
 
 -- for x,y st R(x,y) holds not R(y,x)
-abbrev pub asymmetry : ℕ → Relation → Formula
-asymmetry count r = for_both r.ty (implies (related count 2 r (Bound 1) (Bound 0)) (negated (related count 2 r (Bound 0) (Bound 1))))
+abbrev pub asymmetry : List SoftType → Relation → Formula
+asymmetry loci r =
+    for_both loci r.left r.right
+    (implies (related (length loci) 2 r (Bound 1) (Bound 0)) (negated (related (length loci) 2 r (Bound 0) (Bound 1))))
 
 -- for x,y holds R(x,y) or R(y,x)
-abbrev pub connectedness : ℕ → Relation → Formula
-connectedness count r =
-    for_both r.ty
-    (Not (And (negated (related count 2 r (Bound 1) (Bound 0))) (negated (related count 2 r (Bound 0) (Bound 1)))))
+abbrev pub connectedness : List SoftType → Relation → Formula
+connectedness loci r =
+    for_both loci r.left r.right
+    (Not (And (negated (related (length loci) 2 r (Bound 1) (Bound 0))) (negated (related (length loci) 2 r (Bound 0) (Bound 1)))))
 
 -- for x,y holds F(x,y) = F(y,x)
-abbrev pub commutativity : ℕ → Operation → Formula
-commutativity count o = for_both o.ty (Eq (applied count 2 o (Bound 1) (Bound 0)) (applied count 2 o (Bound 0) (Bound 1)))
+abbrev pub commutativity : List SoftType → Operation → Formula
+commutativity loci o =
+    for_both loci o.left o.right
+    (Eq (applied (length loci) 2 o (Bound 1) (Bound 0)) (applied (length loci) 2 o (Bound 0) (Bound 1)))
 
 -- for x holds F(x,x) = x
-abbrev pub idempotence : ℕ → Operation → Formula
-idempotence count o = for_type o.ty (Eq (applied count 1 o (Bound 0) (Bound 0)) (Bound 0))
+abbrev pub idempotence : List SoftType → Operation → Formula
+idempotence loci o = for_one loci o.left (Eq (applied (length loci) 1 o (Bound 0) (Bound 0)) (Bound 0))
 
 -- the guard of the locus' type at F(x)
-abbrev pub inner_guard : ℕ → UnaryOperation → List Formula
-inner_guard count o = guard (type_raised 0 1 o.ty) (applied_to count o (Bound 0))
+abbrev pub inner_guard : List SoftType → UnaryOperation → List Formula
+inner_guard loci o = guard (type_raised 0 1 (locus_type loci o.place)) (applied_to (length loci) o (Bound 0))
 
 -- for x st T(F(x)) holds F(F(x)) = x
-abbrev pub involutiveness : ℕ → UnaryOperation → Formula
-involutiveness count o =
-    for_type o.ty
-    (where_guard (inner_guard count o) (Eq (applied_to count o (applied_to count o (Bound 0))) (Bound 0)))
+abbrev pub involutiveness : List SoftType → UnaryOperation → Formula
+involutiveness loci o =
+    for_one loci o.place
+    (where_guard (inner_guard loci o) (Eq (applied_to (length loci) o (applied_to (length loci) o (Bound 0))) (Bound 0)))
 
 -- for x st T(F(x)) holds F(F(x)) = F(x)
-abbrev pub projectivity : ℕ → UnaryOperation → Formula
-projectivity count o =
-    for_type o.ty
-    (where_guard (inner_guard count o) (Eq (applied_to count o (applied_to count o (Bound 0))) (applied_to count o (Bound 0))))
+abbrev pub projectivity : List SoftType → UnaryOperation → Formula
+projectivity loci o =
+    for_one loci o.place
+    (where_guard (inner_guard loci o) (Eq (applied_to (length loci) o (applied_to (length loci) o (Bound 0))) (applied_to (length loci) o (Bound 0))))
 
 abbrev pub property_formula : List SoftType → PropertyForm → Formula
-property_formula loci (Reflexivity r) = reflexivity (length loci) r
-property_formula loci (Irreflexivity r) = irreflexivity (length loci) r
-property_formula loci (Symmetry r) = symmetry (length loci) r
-property_formula loci (Asymmetry r) = asymmetry (length loci) r
-property_formula loci (Connectedness r) = connectedness (length loci) r
-property_formula loci (Commutativity o) = commutativity (length loci) o
-property_formula loci (Idempotence o) = idempotence (length loci) o
-property_formula loci (Involutiveness o) = involutiveness (length loci) o
-property_formula loci (Projectivity o) = projectivity (length loci) o
+property_formula loci (Reflexivity r) = reflexivity loci r
+property_formula loci (Irreflexivity r) = irreflexivity loci r
+property_formula loci (Symmetry r) = symmetry loci r
+property_formula loci (Asymmetry r) = asymmetry loci r
+property_formula loci (Connectedness r) = connectedness loci r
+property_formula loci (Commutativity o) = commutativity loci o
+property_formula loci (Idempotence o) = idempotence loci o
+property_formula loci (Involutiveness o) = involutiveness loci o
+property_formula loci (Projectivity o) = projectivity loci o
 property_formula loci (Sethood s) = sethood (mode_on loci s)
 
 abbrev pub property_owes : Property → List Sequent

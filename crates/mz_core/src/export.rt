@@ -4,8 +4,8 @@ use crate::notations::Notations;
 use mz_base::name::Name;
 use mz_base::names::Names;
 
-/// An article for others: its name, the articles that it depends on directly, its items and its patterns.
-/// Those of a checked article are its items in the order of the text and their patterns in the order of
+/// An article for others: its name, the articles that it depends on directly, its items and its notations.
+/// Those of a checked article are its items in the order of the text and their notations in the order of
 /// the items.
 #[derive(Drop)]
 pub struct Export {

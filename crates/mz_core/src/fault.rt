@@ -1,6 +1,9 @@
 //! Faults of an article.
+ghost use Rattle.std.specs.Prelude.{◌≡◌, ◌++◌, ◌∷◌, [], OnOk, OnErr};
+
 use mz_base::place::Place;
 use mz_base::rule_code::RuleCode;
+use std::alloc::{AllocError, Global};
 use std::marker::Model;
 
 /// A fault of an article: where it is, its code, and the number that comes with the code, if one does.
@@ -28,4 +31,24 @@ impl Model for Faults {
     ghost coded = { coded_list the_row.coded };
 
     ghost view = { λ a. a.items.items };
+}
+
+impl Faults {
+    /// No faults.
+    pub fn new(alloc: Global) -> Faults
+        ensures { result ≡ [] }
+    {
+        Faults {
+            items: Vec::new(alloc),
+        }
+    }
+
+    /// Puts a fault at the end.
+    pub fn push(&mut self, x: Fault) -> Result<(), AllocError>
+        ensures ok { OnOk result (self.new ≡ self.old ++ x ∷ []) }
+        ensures err { OnErr result (self.new ≡ self.old) }
+    {
+        self.items.push(x)?;
+        Ok(())
+    }
 }

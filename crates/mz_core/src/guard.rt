@@ -8,6 +8,7 @@ use crate::adjective::Adjective;
 use crate::radix::Radix;
 use crate::raise::raise_type;
 use crate::soft_type::SoftType;
+use mz_base::name::Name;
 use mz_logic::formula::Formula;
 use mz_logic::formulas::Formulas;
 use mz_logic::kind::Kind;
@@ -15,15 +16,12 @@ use mz_logic::sym::Sym;
 use mz_logic::term::{Term, Terms};
 use std::alloc::{AllocError, Global};
 
-/// The number of the name HIDDEN.
-const HIDDEN: u64 = 5208769504041893888;
-
 /// The mode `object`.
 pub fn object_mode() -> Sym
     ensures { result ≡ object_mode }
 {
     Sym {
-        article: HIDDEN,
+        article: Name::hidden().number(),
         kind: Kind::Mode,
         number: 1,
     }
@@ -34,7 +32,7 @@ pub fn set_mode() -> Sym
     ensures { result ≡ set_mode }
 {
     Sym {
-        article: HIDDEN,
+        article: Name::hidden().number(),
         kind: Kind::Mode,
         number: 2,
     }
@@ -45,7 +43,7 @@ pub fn in_predicate() -> Sym
     ensures { result ≡ in_predicate }
 {
     Sym {
-        article: HIDDEN,
+        article: Name::hidden().number(),
         kind: Kind::Predicate,
         number: 1,
     }

@@ -1,6 +1,6 @@
 //! The items of an article.
 use crate::definition::{AtomDefinition, AttributeDefinition, EqualsDefinition, MeansDefinition};
-use crate::pattern::Pattern;
+use crate::notation::Notation;
 use crate::property::Property;
 use crate::redefinition::{AtomRedefinition, FunctorRedefinition, ModeRedefinition};
 use crate::registration::{
@@ -17,7 +17,7 @@ use crate::structure::Structure;
 pub enum Item {
     Axiom(Statement),
     AxiomScheme(Scheme),
-    Primitive(Pattern),
+    Primitive(Notation),
     Theorem(Statement),
     Scheme(Scheme),
     FunctorMeans(MeansDefinition),
@@ -25,8 +25,8 @@ pub enum Item {
     Predicate(AtomDefinition),
     Attribute(AttributeDefinition),
     ModeMeans(MeansDefinition),
-    Abbreviation(Pattern),
-    Notation(Pattern),
+    Abbreviation(Notation),
+    Notation(Notation),
     RedefinedFunctor(FunctorRedefinition),
     RedefinedMode(ModeRedefinition),
     RedefinedPredicate(AtomRedefinition),

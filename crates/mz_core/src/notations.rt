@@ -1,23 +1,23 @@
 //! Lists of notations.
 ghost use Rattle.std.specs.Prelude.{◌≡◌, ◌++◌, ◌∷◌, [], OnOk, OnErr};
 
-use crate::pattern::Pattern;
+use crate::notation::Notation;
 use std::alloc::{AllocError, Global};
 use std::marker::Model;
 
 /// Notations, in the order of the text.
 #[derive(Drop)]
 pub struct Notations {
-    pub items: Vec<Pattern>,
+    pub items: Vec<Notation>,
 }
 
 impl Model for Notations {
     ghost use Rattle.std.specs.Prelude.{List};
     ghost use Rattle.std.specs.Coded.{coded_list};
-    ghost use Rattle.mz_core.specs.declared.pattern.Pattern.{Pattern};
-    ghost use Rattle.mz_core.specs.contracts.pattern.Pattern.{the_row};
+    ghost use Rattle.mz_core.specs.declared.notation.Notation.{Notation};
+    ghost use Rattle.mz_core.specs.contracts.notation.Notation.{the_row};
 
-    ghost Value = { List Pattern };
+    ghost Value = { List Notation };
 
     ghost coded = { coded_list the_row.coded };
 
@@ -34,8 +34,8 @@ impl Notations {
         }
     }
 
-    /// Puts a pattern at the end.
-    pub fn push(&mut self, x: Pattern) -> Result<(), AllocError>
+    /// Puts a notation at the end.
+    pub fn push(&mut self, x: Notation) -> Result<(), AllocError>
         ensures ok { OnOk result (self.new ≡ self.old ++ x ∷ []) }
         ensures err { OnErr result (self.new ≡ self.old) }
     {

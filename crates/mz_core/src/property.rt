@@ -1,34 +1,30 @@
 //! Properties. All parts stand under the loci.
-use crate::soft_type::SoftType;
 use crate::soft_types::SoftTypes;
 use mz_logic::literal::Literal;
 use mz_logic::sym::Sym;
 use mz_logic::term::Term;
 
-/// A predicate as its pattern reads, the indices of its two visible loci, and the type of both.
+/// A predicate as its pattern reads, and the indices of its two visible loci.
 #[derive(Drop)]
 pub struct Relation {
     pub literal: Literal,
     pub left: u32,
     pub right: u32,
-    pub ty: SoftType,
 }
 
-/// A functor as its pattern reads, the indices of its two visible loci, and the type of both.
+/// A functor as its pattern reads, and the indices of its two visible loci.
 #[derive(Drop)]
 pub struct Operation {
     pub term: Term,
     pub left: u32,
     pub right: u32,
-    pub ty: SoftType,
 }
 
-/// A functor as its pattern reads, the index of its visible locus, and the locus' type.
+/// A functor as its pattern reads, and the index of its visible locus.
 #[derive(Drop)]
 pub struct UnaryOperation {
     pub term: Term,
     pub place: u32,
-    pub ty: SoftType,
 }
 
 /// The properties. `Sethood` is that of a mode, by its symbol.

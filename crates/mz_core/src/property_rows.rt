@@ -1,7 +1,7 @@
 //! The formulas of properties, under the loci.
 ghost use Rattle.std.specs.Prelude.{◌≡◌, IfOk};
 ghost use Rattle.mz_logic.specs.Term.{Bound};
-ghost use Rattle.mz_core.specs.PropertyRows.{value_at, values, related, applied, applied_to, for_both, reflexivity, irreflexivity, symmetry, asymmetry, connectedness, commutativity, idempotence, inner_guard, involutiveness, projectivity, property_formula};
+ghost use Rattle.mz_core.specs.PropertyRows.{value_at, values, related, applied, applied_to, locus_type, for_one, for_both, reflexivity, irreflexivity, symmetry, asymmetry, connectedness, commutativity, idempotence, inner_guard, involutiveness, projectivity, property_formula};
 
 use crate::connectives::{for_type, implies, negation, where_guard};
 use crate::fill::{fill, fill_literal};
@@ -9,7 +9,7 @@ use crate::guard::guard;
 use crate::loci::{count_of, mode_on};
 use crate::property::{Operation, PropertyForm, Relation, UnaryOperation};
 use crate::raise::raise_type;
-use crate::set_term_rows::sethood;
+use crate::set_term_rows::{object_type, sethood};
 use crate::soft_type::SoftType;
 use crate::soft_types::SoftTypes;
 use mz_logic::formula::Formula;
@@ -106,101 +106,143 @@ fn applied_to(alloc: Global, count: u32, o: &UnaryOperation, t: &Term) -> Result
     fill(alloc, &o.term, &values)
 }
 
-fn for_both(alloc: Global, ty: &SoftType, f: Formula) -> Result<Formula, AllocError>
-    ensures { IfOk result (λ g. g ≡ for_both ty.now f) }
+#[tactic(auto, using(crate::proofs::LocusLemmas::locus_rules))]
+fn locus_type(alloc: Global, loci: &SoftTypes, index: u32) -> Result<SoftType, AllocError>
+    ensures { IfOk result (λ t. t ≡ locus_type loci.now index) }
 {
-    let inner = raise_type(alloc, ty, 0, 1)?;
+    let count = loci.items.len();
+    let by = index.checked_add(1).ok_or(AllocError)?;
+    if (index as usize) < count {
+        raise_type(alloc, &loci.items[count - 1 - index as usize], 0, by)
+    } else {
+        raise_type(alloc, &object_type(alloc), 0, by)
+    }
+}
+
+fn for_one(alloc: Global, loci: &SoftTypes, place: u32, f: Formula) -> Result<Formula, AllocError>
+    ensures { IfOk result (λ g. g ≡ for_one loci.now place f) }
+{
+    let ty = locus_type(alloc, loci, place)?;
+    for_type(alloc, &ty, f)
+}
+
+fn for_both(
+    alloc: Global,
+    loci: &SoftTypes,
+    left: u32,
+    right: u32,
+    f: Formula,
+) -> Result<Formula, AllocError>
+    ensures { IfOk result (λ g. g ≡ for_both loci.now left right f) }
+{
+    let inner = locus_type(alloc, loci, right)?;
+    let inner = raise_type(alloc, &inner, 0, 1)?;
     let f = for_type(alloc, &inner, f)?;
-    for_type(alloc, ty, f)
+    for_one(alloc, loci, left, f)
 }
 
-fn reflexivity(alloc: Global, count: u32, r: &Relation) -> Result<Formula, AllocError>
-    ensures { IfOk result (λ f. f ≡ reflexivity count r.now) }
+fn reflexivity(alloc: Global, loci: &SoftTypes, r: &Relation) -> Result<Formula, AllocError>
+    ensures { IfOk result (λ f. f ≡ reflexivity loci.now r.now) }
 {
+    let count = count_of(loci.items.len())?;
     let f = related(alloc, count, 1, r, 0, 0)?;
-    for_type(alloc, &r.ty, f)
+    for_one(alloc, loci, r.left, f)
 }
 
-fn irreflexivity(alloc: Global, count: u32, r: &Relation) -> Result<Formula, AllocError>
-    ensures { IfOk result (λ f. f ≡ irreflexivity count r.now) }
+fn irreflexivity(alloc: Global, loci: &SoftTypes, r: &Relation) -> Result<Formula, AllocError>
+    ensures { IfOk result (λ f. f ≡ irreflexivity loci.now r.now) }
 {
+    let count = count_of(loci.items.len())?;
     let f = related(alloc, count, 1, r, 0, 0)?;
     let f = negation(alloc, f)?;
-    for_type(alloc, &r.ty, f)
+    for_one(alloc, loci, r.left, f)
 }
 
-fn symmetry(alloc: Global, count: u32, r: &Relation) -> Result<Formula, AllocError>
-    ensures { IfOk result (λ f. f ≡ symmetry count r.now) }
+fn symmetry(alloc: Global, loci: &SoftTypes, r: &Relation) -> Result<Formula, AllocError>
+    ensures { IfOk result (λ f. f ≡ symmetry loci.now r.now) }
 {
+    let count = count_of(loci.items.len())?;
     let f = related(alloc, count, 2, r, 1, 0)?;
     let g = related(alloc, count, 2, r, 0, 1)?;
     let f = implies(alloc, f, g)?;
-    for_both(alloc, &r.ty, f)
+    for_both(alloc, loci, r.left, r.right, f)
 }
 
-fn asymmetry(alloc: Global, count: u32, r: &Relation) -> Result<Formula, AllocError>
-    ensures { IfOk result (λ f. f ≡ asymmetry count r.now) }
+fn asymmetry(alloc: Global, loci: &SoftTypes, r: &Relation) -> Result<Formula, AllocError>
+    ensures { IfOk result (λ f. f ≡ asymmetry loci.now r.now) }
 {
+    let count = count_of(loci.items.len())?;
     let f = related(alloc, count, 2, r, 1, 0)?;
     let g = related(alloc, count, 2, r, 0, 1)?;
     let g = negation(alloc, g)?;
     let f = implies(alloc, f, g)?;
-    for_both(alloc, &r.ty, f)
+    for_both(alloc, loci, r.left, r.right, f)
 }
 
-fn connectedness(alloc: Global, count: u32, r: &Relation) -> Result<Formula, AllocError>
-    ensures { IfOk result (λ f. f ≡ connectedness count r.now) }
+fn connectedness(alloc: Global, loci: &SoftTypes, r: &Relation) -> Result<Formula, AllocError>
+    ensures { IfOk result (λ f. f ≡ connectedness loci.now r.now) }
 {
+    let count = count_of(loci.items.len())?;
     let f = related(alloc, count, 2, r, 1, 0)?;
     let g = related(alloc, count, 2, r, 0, 1)?;
     let f = negation(alloc, f)?;
     let g = negation(alloc, g)?;
     let f = Formula::and(alloc, f, g)?;
     let f = Formula::not(alloc, f)?;
-    for_both(alloc, &r.ty, f)
+    for_both(alloc, loci, r.left, r.right, f)
 }
 
-fn commutativity(alloc: Global, count: u32, o: &Operation) -> Result<Formula, AllocError>
-    ensures { IfOk result (λ f. f ≡ commutativity count o.now) }
+fn commutativity(alloc: Global, loci: &SoftTypes, o: &Operation) -> Result<Formula, AllocError>
+    ensures { IfOk result (λ f. f ≡ commutativity loci.now o.now) }
 {
+    let count = count_of(loci.items.len())?;
     let t = applied(alloc, count, 2, o, 1, 0)?;
     let u = applied(alloc, count, 2, o, 0, 1)?;
-    for_both(alloc, &o.ty, Formula::equation(t, u))
+    for_both(alloc, loci, o.left, o.right, Formula::equation(t, u))
 }
 
-fn idempotence(alloc: Global, count: u32, o: &Operation) -> Result<Formula, AllocError>
-    ensures { IfOk result (λ f. f ≡ idempotence count o.now) }
+fn idempotence(alloc: Global, loci: &SoftTypes, o: &Operation) -> Result<Formula, AllocError>
+    ensures { IfOk result (λ f. f ≡ idempotence loci.now o.now) }
 {
+    let count = count_of(loci.items.len())?;
     let t = applied(alloc, count, 1, o, 0, 0)?;
-    for_type(alloc, &o.ty, Formula::equation(t, Term::bound(0)))
+    for_one(alloc, loci, o.left, Formula::equation(t, Term::bound(0)))
 }
 
-fn inner_guard(alloc: Global, count: u32, o: &UnaryOperation) -> Result<Formulas, AllocError>
-    ensures { IfOk result (λ fs. fs ≡ inner_guard count o.now) }
+fn inner_guard(alloc: Global, loci: &SoftTypes, o: &UnaryOperation) -> Result<Formulas, AllocError>
+    ensures { IfOk result (λ fs. fs ≡ inner_guard loci.now o.now) }
 {
-    let ty = raise_type(alloc, &o.ty, 0, 1)?;
+    let count = count_of(loci.items.len())?;
+    let ty = locus_type(alloc, loci, o.place)?;
+    let ty = raise_type(alloc, &ty, 0, 1)?;
     let t = applied_to(alloc, count, o, &Term::bound(0))?;
     guard(alloc, &ty, &t)
 }
 
-fn involutiveness(alloc: Global, count: u32, o: &UnaryOperation) -> Result<Formula, AllocError>
-    ensures { IfOk result (λ f. f ≡ involutiveness count o.now) }
+fn involutiveness(
+    alloc: Global,
+    loci: &SoftTypes,
+    o: &UnaryOperation,
+) -> Result<Formula, AllocError>
+    ensures { IfOk result (λ f. f ≡ involutiveness loci.now o.now) }
 {
-    let fs = inner_guard(alloc, count, o)?;
+    let count = count_of(loci.items.len())?;
+    let fs = inner_guard(alloc, loci, o)?;
     let t = applied_to(alloc, count, o, &Term::bound(0))?;
     let u = applied_to(alloc, count, o, &t)?;
     let f = where_guard(alloc, &fs, Formula::equation(u, Term::bound(0)))?;
-    for_type(alloc, &o.ty, f)
+    for_one(alloc, loci, o.place, f)
 }
 
-fn projectivity(alloc: Global, count: u32, o: &UnaryOperation) -> Result<Formula, AllocError>
-    ensures { IfOk result (λ f. f ≡ projectivity count o.now) }
+fn projectivity(alloc: Global, loci: &SoftTypes, o: &UnaryOperation) -> Result<Formula, AllocError>
+    ensures { IfOk result (λ f. f ≡ projectivity loci.now o.now) }
 {
-    let fs = inner_guard(alloc, count, o)?;
+    let count = count_of(loci.items.len())?;
+    let fs = inner_guard(alloc, loci, o)?;
     let t = applied_to(alloc, count, o, &Term::bound(0))?;
     let u = applied_to(alloc, count, o, &t)?;
     let f = where_guard(alloc, &fs, Formula::equation(u, t))?;
-    for_type(alloc, &o.ty, f)
+    for_one(alloc, loci, o.place, f)
 }
 
 /// The formula of a property, under its loci. More than 4,294,967,295 loci are as no memory.
@@ -211,17 +253,16 @@ pub fn property_formula(
 ) -> Result<Formula, AllocError>
     ensures { IfOk result (λ f. f ≡ property_formula loci.now p.now) }
 {
-    let count = count_of(loci.items.len())?;
     match p {
-        PropertyForm::Reflexivity(r) => reflexivity(alloc, count, r),
-        PropertyForm::Irreflexivity(r) => irreflexivity(alloc, count, r),
-        PropertyForm::Symmetry(r) => symmetry(alloc, count, r),
-        PropertyForm::Asymmetry(r) => asymmetry(alloc, count, r),
-        PropertyForm::Connectedness(r) => connectedness(alloc, count, r),
-        PropertyForm::Commutativity(o) => commutativity(alloc, count, o),
-        PropertyForm::Idempotence(o) => idempotence(alloc, count, o),
-        PropertyForm::Involutiveness(o) => involutiveness(alloc, count, o),
-        PropertyForm::Projectivity(o) => projectivity(alloc, count, o),
+        PropertyForm::Reflexivity(r) => reflexivity(alloc, loci, r),
+        PropertyForm::Irreflexivity(r) => irreflexivity(alloc, loci, r),
+        PropertyForm::Symmetry(r) => symmetry(alloc, loci, r),
+        PropertyForm::Asymmetry(r) => asymmetry(alloc, loci, r),
+        PropertyForm::Connectedness(r) => connectedness(alloc, loci, r),
+        PropertyForm::Commutativity(o) => commutativity(alloc, loci, o),
+        PropertyForm::Idempotence(o) => idempotence(alloc, loci, o),
+        PropertyForm::Involutiveness(o) => involutiveness(alloc, loci, o),
+        PropertyForm::Projectivity(o) => projectivity(alloc, loci, o),
         PropertyForm::Sethood(s) => {
             let mode = mode_on(alloc, loci, *s)?;
             sethood(alloc, &mode)

@@ -5,7 +5,8 @@ use crate::soft_types::SoftTypes;
 use mz_logic::sym::Sym;
 
 /// A structure: its loci, its symbols, the types of its ancestors, which stand under the loci, and its
-/// fields, those of its ancestors among them.
+/// fields, those of its ancestors among them. Its notations stand whole, since the loci of the aggregate's
+/// pattern may have another order than its arguments.
 #[derive(Drop)]
 pub struct Structure {
     pub loci: SoftTypes,
@@ -14,5 +15,5 @@ pub struct Structure {
     pub aggregate: Sym,
     pub ancestors: SoftTypes,
     pub fields: Fields,
-    pub patterns: Notations,
+    pub notations: Notations,
 }

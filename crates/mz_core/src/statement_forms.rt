@@ -1,0 +1,56 @@
+//! Statements of compound forms. No double negation arises.
+ghost use Rattle.std.specs.Prelude.{◌≡◌, IfOk};
+ghost use Rattle.mz_core.specs.StatementForms.{opposite, disjunction, implication, equivalence, for_some};
+
+use crate::soft_type::SoftType;
+use crate::statement::{Statement, StatementNode};
+use std::alloc::{AllocError, Global};
+
+/// `not s`.
+pub fn opposite(alloc: Global, s: Statement) -> Result<Statement, AllocError>
+    ensures { IfOk result (λ t. t ≡ opposite s) }
+{
+    match s.node {
+        StatementNode::Not(t) => Ok(Box::into_inner(t)),
+        node => Statement::not(alloc, Statement { node }),
+    }
+}
+
+/// `s or t`.
+pub fn disjunction(alloc: Global, s: Statement, t: Statement) -> Result<Statement, AllocError>
+    ensures { IfOk result (λ u. u ≡ disjunction s t) }
+{
+    let s = opposite(alloc, s)?;
+    let t = opposite(alloc, t)?;
+    let u = Statement::and(alloc, s, t)?;
+    Statement::not(alloc, u)
+}
+
+/// `s implies t`.
+pub fn implication(alloc: Global, s: Statement, t: Statement) -> Result<Statement, AllocError>
+    ensures { IfOk result (λ u. u ≡ implication s t) }
+{
+    let t = opposite(alloc, t)?;
+    let u = Statement::and(alloc, s, t)?;
+    Statement::not(alloc, u)
+}
+
+/// `s iff t`.
+pub fn equivalence(alloc: Global, s: Statement, t: Statement) -> Result<Statement, AllocError>
+    ensures { IfOk result (λ u. u ≡ equivalence s t) }
+{
+    let s_again = s.copy(alloc)?;
+    let t_again = t.copy(alloc)?;
+    let left = implication(alloc, s, t)?;
+    let right = implication(alloc, t_again, s_again)?;
+    Statement::and(alloc, left, right)
+}
+
+/// `ex x being T st s`.
+pub fn for_some(alloc: Global, ty: SoftType, s: Statement) -> Result<Statement, AllocError>
+    ensures { IfOk result (λ t. t ≡ for_some ty s) }
+{
+    let s = opposite(alloc, s)?;
+    let t = Statement::each(alloc, ty, s)?;
+    Statement::not(alloc, t)
+}
