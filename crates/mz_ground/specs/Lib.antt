@@ -1,0 +1,6 @@
+pub mod Variables
+pub mod Piece
+pub mod Instance
+pub mod Layers
+pub mod Ground
+pub mod Facts

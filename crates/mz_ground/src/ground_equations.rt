@@ -1,0 +1,60 @@
+// Lists of ground equations.
+ghost use Rattle.std.specs.Prelude.{◌≡◌, ◌<◌, [], ◌∷◌, ◌++◌, length, slice_get, Some, OnOk, OnErr};
+
+use crate::ground_equation::GroundEquation;
+use std::alloc::{AllocError, Global};
+use std::marker::Model;
+
+/// A list of ground equations.
+#[derive(Drop)]
+pub struct GroundEquations {
+    pub items: Vec<GroundEquation>,
+}
+
+impl Model for GroundEquations {
+    ghost use Rattle.std.specs.Prelude.{List};
+    ghost use Rattle.std.specs.Coded.{coded_list};
+    ghost use Rattle.mz_ground.specs.declared.ground_equation.GroundEquation.{GroundEquation};
+    ghost use Rattle.mz_ground.specs.contracts.ground_equation.GroundEquation.{the_row};
+
+    ghost Value = { List GroundEquation };
+
+    ghost coded = { coded_list the_row.coded };
+
+    ghost view = { λ a. a.items.items };
+}
+
+impl GroundEquations {
+    /// An empty list.
+    pub fn new(alloc: Global) -> GroundEquations
+        ensures { result ≡ [] }
+    {
+        GroundEquations {
+            items: Vec::new(alloc),
+        }
+    }
+
+    /// How many there are.
+    pub fn len(&self) -> usize
+        ensures { result ≡ length self.now }
+    {
+        self.items.len()
+    }
+
+    /// The one at a place, from 0.
+    pub fn get(&self, place: usize) -> &GroundEquation
+        requires { place < length self.now }
+        ensures { slice_get self.now place ≡ Some result.now }
+    {
+        &self.items[place]
+    }
+
+    /// Puts one at the end.
+    pub fn push(&mut self, item: GroundEquation) -> Result<(), AllocError>
+        ensures ok { OnOk result (self.new ≡ self.old ++ item ∷ []) }
+        ensures err { OnErr result (self.new ≡ self.old) }
+    {
+        self.items.push(item)?;
+        Ok(())
+    }
+}

@@ -1,0 +1,60 @@
+// Lists of ground terms.
+ghost use Rattle.std.specs.Prelude.{◌≡◌, ◌<◌, [], ◌∷◌, ◌++◌, length, slice_get, Some, OnOk, OnErr};
+
+use crate::ground_term::GroundTerm;
+use std::alloc::{AllocError, Global};
+use std::marker::Model;
+
+/// A list of ground terms.
+#[derive(Drop)]
+pub struct GroundTerms {
+    pub items: Vec<GroundTerm>,
+}
+
+impl Model for GroundTerms {
+    ghost use Rattle.std.specs.Prelude.{List};
+    ghost use Rattle.std.specs.Coded.{coded_list};
+    ghost use Rattle.mz_ground.specs.declared.ground_term.GroundTerm.{GroundTerm};
+    ghost use Rattle.mz_ground.specs.contracts.ground_term.GroundTerm.{the_row};
+
+    ghost Value = { List GroundTerm };
+
+    ghost coded = { coded_list the_row.coded };
+
+    ghost view = { λ a. a.items.items };
+}
+
+impl GroundTerms {
+    /// An empty list.
+    pub fn new(alloc: Global) -> GroundTerms
+        ensures { result ≡ [] }
+    {
+        GroundTerms {
+            items: Vec::new(alloc),
+        }
+    }
+
+    /// How many there are.
+    pub fn len(&self) -> usize
+        ensures { result ≡ length self.now }
+    {
+        self.items.len()
+    }
+
+    /// The one at a place, from 0.
+    pub fn get(&self, place: usize) -> &GroundTerm
+        requires { place < length self.now }
+        ensures { slice_get self.now place ≡ Some result.now }
+    {
+        &self.items[place]
+    }
+
+    /// Puts one at the end.
+    pub fn push(&mut self, item: GroundTerm) -> Result<(), AllocError>
+        ensures ok { OnOk result (self.new ≡ self.old ++ item ∷ []) }
+        ensures err { OnErr result (self.new ≡ self.old) }
+    {
+        self.items.push(item)?;
+        Ok(())
+    }
+}

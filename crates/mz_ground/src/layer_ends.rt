@@ -1,0 +1,60 @@
+// Lists of ends of layers.
+ghost use Rattle.std.specs.Prelude.{◌≡◌, ◌<◌, [], ◌∷◌, ◌++◌, length, slice_get, Some, OnOk, OnErr};
+
+use crate::layer_end::LayerEnd;
+use std::alloc::{AllocError, Global};
+use std::marker::Model;
+
+/// A list of ends of layers.
+#[derive(Drop)]
+pub struct LayerEnds {
+    pub items: Vec<LayerEnd>,
+}
+
+impl Model for LayerEnds {
+    ghost use Rattle.std.specs.Prelude.{List};
+    ghost use Rattle.std.specs.Coded.{coded_list};
+    ghost use Rattle.mz_ground.specs.declared.layer_end.LayerEnd.{LayerEnd};
+    ghost use Rattle.mz_ground.specs.contracts.layer_end.LayerEnd.{the_row};
+
+    ghost Value = { List LayerEnd };
+
+    ghost coded = { coded_list the_row.coded };
+
+    ghost view = { λ a. a.items.items };
+}
+
+impl LayerEnds {
+    /// An empty list.
+    pub fn new(alloc: Global) -> LayerEnds
+        ensures { result ≡ [] }
+    {
+        LayerEnds {
+            items: Vec::new(alloc),
+        }
+    }
+
+    /// How many there are.
+    pub fn len(&self) -> usize
+        ensures { result ≡ length self.now }
+    {
+        self.items.len()
+    }
+
+    /// The one at a place, from 0.
+    pub fn get(&self, place: usize) -> &LayerEnd
+        requires { place < length self.now }
+        ensures { slice_get self.now place ≡ Some result.now }
+    {
+        &self.items[place]
+    }
+
+    /// Puts one at the end.
+    pub fn push(&mut self, item: LayerEnd) -> Result<(), AllocError>
+        ensures ok { OnOk result (self.new ≡ self.old ++ item ∷ []) }
+        ensures err { OnErr result (self.new ≡ self.old) }
+    {
+        self.items.push(item)?;
+        Ok(())
+    }
+}

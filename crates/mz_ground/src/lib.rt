@@ -1,0 +1,17 @@
+// Clauses, the ground part of a disjunct, and the facts over it.
+#![tactic(auto)]
+
+pub mod clause;
+pub mod clauses;
+pub mod ground;
+pub mod ground_atom;
+pub mod ground_atoms;
+pub mod ground_equation;
+pub mod ground_equations;
+pub mod ground_fault;
+pub mod ground_term;
+pub mod ground_terms;
+pub mod layer_end;
+pub mod layer_ends;
+pub mod places;
+pub mod trigger;

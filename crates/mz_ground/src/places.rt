@@ -1,0 +1,46 @@
+// Lists of places.
+ghost use Rattle.std.specs.Prelude.{◌≡◌, ◌<◌, [], ◌∷◌, ◌++◌, length, slice_get, Some, OnOk, OnErr};
+
+use std::alloc::{AllocError, Global};
+use std::marker::Model;
+
+/// A list of places in the list of ground terms, from 0.
+#[derive(Drop)]
+pub struct Places {
+    pub items: Vec<usize>,
+}
+
+impl Model for Places {
+    ghost use Rattle.std.specs.Prelude.{ℕ, List};
+
+    ghost Value = { List ℕ };
+
+    ghost view = { λ a. a.items.items };
+}
+
+impl Places {
+    /// No places.
+    pub fn new(alloc: Global) -> Places
+        ensures { result ≡ [] }
+    {
+        Places {
+            items: Vec::new(alloc),
+        }
+    }
+
+    /// The places.
+    pub fn as_slice(&self) -> &[usize]
+        ensures { result.now ≡ self.now }
+    {
+        self.items.as_slice()
+    }
+
+    /// Puts a place at the end.
+    pub fn push(&mut self, place: usize) -> Result<(), AllocError>
+        ensures ok { OnOk result (self.new ≡ self.old ++ place ∷ []) }
+        ensures err { OnErr result (self.new ≡ self.old) }
+    {
+        self.items.push(place)?;
+        Ok(())
+    }
+}
