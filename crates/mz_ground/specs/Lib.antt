@@ -4,3 +4,5 @@ pub mod Instance
 pub mod Layers
 pub mod Ground
 pub mod Facts
+pub mod ClauseFormula
+pub mod Laws

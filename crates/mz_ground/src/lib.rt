@@ -11,6 +11,7 @@ pub mod ground_equations;
 pub mod ground_fault;
 pub mod ground_term;
 pub mod ground_terms;
+pub mod laws;
 pub mod layer_end;
 pub mod layer_ends;
 pub mod places;
