@@ -8,4 +8,6 @@ pub mod exports;
 pub mod laws;
 pub mod notations;
 pub mod replacement;
+#[cfg(test)]
+mod tests;
 pub mod universes;
