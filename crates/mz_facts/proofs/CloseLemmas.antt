@@ -1,5 +1,5 @@
 -- The facts that are made are those of the disjunct.
-use Rattle.std.proofs.Common.{◌≡◌, ℕ, List, subst, sym, ◌∙◌}
+use Rattle.std.proofs.Common.{◌≡◌, ℕ, List, subst}
 use Rattle.std.specs.Prelude.{Result, Ok, Err, IfOk, Contains, ◌↔◌}
 use Rattle.mz_logic.specs.declared.disjunct.Disjunct.{Disjunct}
 use Rattle.mz_ground.specs.Ground.{IsGround}
@@ -8,7 +8,6 @@ use Rattle.mz_ground.specs.declared.ground.Ground.{Ground}
 use Rattle.mz_facts.specs.declared.facts.Facts.{Facts}
 use Rattle.mz_facts.specs.declared.node.Node.{Node}
 use Rattle.mz_facts.specs.declared.rule.Rule.{Rule}
-use Rattle.mz_facts.specs.declared.graph.Graph.{Graph}
 use Rattle.mz_facts.specs.Closing.{Exact}
 use Rattle.mz_facts.specs.Nodes.{nodes_of}
 use Rattle.mz_facts.specs.Codes.{IsRule, IsGraph}

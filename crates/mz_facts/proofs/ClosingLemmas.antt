@@ -1,6 +1,6 @@
 -- Each step of the closing makes only equal nodes one, and where no step is left all equal nodes are one.
-use Rattle.std.proofs.Common.{◌≡◌, ◌<◌, ◌≤◌, ◌+◌, ℕ, zero, suc, List, [], ◌∷◌, ◌++◌, length, map, refl, ap, sym, ◌∙◌, subst, arith, set, true, false, Bool, inl, inr, ◌⊎◌}
-use Rattle.std.specs.Prelude.{slice_index, slice_get, slice_index_or, Some, None, Option, Contains, nat_eq, nat_lt, ◌&&◌, ◌↔◌, if◌then◌else◌}
+use Rattle.std.proofs.Common.{◌≡◌, ◌<◌, ◌≤◌, ◌+◌, ◌*◌, ℕ, zero, suc, List, [], ◌∷◌, ◌++◌, length, map, refl, ap, sym, ◌∙◌, subst, arith, set, true, false, Bool, inl, inr}
+use Rattle.std.specs.Prelude.{slice_index, slice_get, slice_index_or, Some, None, Contains, nat_lt, ◌&&◌, if◌then◌else◌}
 use Rattle.std.specs.List.{list_all}
 use Rattle.std.proofs.lemmas.Bool.{eqb-true, eq-eqb, ltb-true}
 use Rattle.std.proofs.lemmas.Bool.Decides.{eqb_tells}
@@ -14,18 +14,21 @@ use Rattle.mz_facts.specs.declared.signatures.Signatures.{Signatures}
 use Rattle.mz_facts.specs.Congruence.{Equal, AllEqual, itself, exchanged, chained, alike, fired, none, more, left_of, right_of}
 use Rattle.mz_facts.specs.Classes.{root, Descends, Flat, total, Progress, Sound, United}
 use Rattle.mz_facts.specs.Signature.{head_code, signature, place_of, is_list}
-use Rattle.mz_facts.specs.Closing.{same, below, pair_below, IsWithin, Exact, State, Entry, Entries, Listed, ListedUnless, ListedBelow, Grows, Entered, Clean, CleanUnless, Swept, IsMet, MetUnless, MetBelow, Fired, FiredAll, DoneUnless}
-use Rattle.mz_facts.proofs.RootLemmas.{root_own, root_step, root_fixed, root_le, root_flat, descends_set, total-set, replaced, replaced_same, replaced_other, root_link, past_end, cases_lt}
+use Rattle.mz_facts.specs.Closing.{same, below, pair_below, IsWithin, Exact, State, Entry, Entries, Listed, ListedUnless, ListedBelow, Grows, Entered, Clean, CleanUnless, IsMet, MetUnless, MetBelow, Fired, DoneUnless}
+use Rattle.mz_facts.proofs.RootLemmas.{root_own, root_fixed, root_le, root_flat, descends_set, total-set, replaced, replaced_same, replaced_other, root_link, past_end, cases_lt}
 use Rattle.mz_facts.proofs.SignatureLemmas.{signature_parts, is_list_true, is_list_same}
 
 pub sound_equal : (g : Graph) (c : List ℕ) → Sound g c → (i j : ℕ) → i < length g.nodes → j < length g.nodes → root c i ≡ root c j → Equal g i j
 sound_equal g c s i j li lj e = chained i (root c i) j (s.each i li) (exchanged j (root c i) (subst (λ (k : ℕ). Equal g j k) (sym e) (s.each j lj)))
 
 sound_link : (g : Graph) (c d : List ℕ) (from to : ℕ) → Sound g c → ((i : ℕ) → root d i ≡ replaced from to (root c i)) → Equal g from to → Sound g d
-sound_link g c d from to s r q = record { each = λ i li.
-    elim (eqb_tells (root c i) from) [
-      inl t ↦ subst (λ (k : ℕ). Equal g i k) (sym (r i ∙ ap (replaced from to) t.1 ∙ replaced_same from to)) (chained i from to (subst (λ (k : ℕ). Equal g i k) t.1 (s.each i li)) q)
-    | inr t ↦ subst (λ (k : ℕ). Equal g i k) (sym (r i ∙ replaced_other from to (root c i) t.1)) (s.each i li) ] }
+sound_link g c d from to s r q = record {
+  each = λ i li.
+      elim (eqb_tells (root c i) from) [
+        | inl t ↦ subst (λ (k : ℕ). Equal g i k) (sym (r i ∙ ap (replaced from to) t.1 ∙ replaced_same from to)) (chained i from to (subst (λ (k : ℕ). Equal g i k) t.1 (s.each i li)) q)
+        | inr t ↦ subst (λ (k : ℕ). Equal g i k) (sym (r i ∙ replaced_other from to (root c i) t.1)) (s.each i li)
+      ];
+}
 
 pub sound_same : (g : Graph) (c d : List ℕ) → Sound g c → ((i : ℕ) → root d i ≡ root c i) → Sound g d
 sound_same g c d s r = record { each = λ i li. subst (λ (k : ℕ). Equal g i k) (sym (r i)) (s.each i li) }
@@ -49,9 +52,9 @@ linked c p q a b d lp lq ea eb lt =
       descends = descends_set c b a within (omega (arith, lt)) d;
       progress = omega (arith, total-set c b a within, own_b, lt);
       united = λ g len s e.
-        let x : Equal g p a = subst (λ (k : ℕ). Equal g p k) (sym ea) (s.each p (omega (arith, len, lp))) in
-        let y : Equal g q b = subst (λ (k : ℕ). Equal g q k) (sym eb) (s.each q (omega (arith, len, lq))) in
-        sound_link g c (set c b a) b a s roots (chained b q a (exchanged q b y) (chained q p a (exchanged p q e) x));
+          let x : Equal g p a = subst (λ (k : ℕ). Equal g p k) (sym ea) (s.each p (omega (arith, len, lp))) in
+          let y : Equal g q b = subst (λ (k : ℕ). Equal g q k) (sym eb) (s.each q (omega (arith, len, lq))) in
+          sound_link g c (set c b a) b a s roots (chained b q a (exchanged q b y) (chained q p a (exchanged p q e) x));
     }
 
 pub linked_back : (c : List ℕ) (p q a b : ℕ) → Descends c → p < length c → q < length c → a ≡ root c p → b ≡ root c q → b < a → Linked c p q (set c a b)
@@ -124,16 +127,20 @@ unfolding Entries
 new_entries g c t u i a s w st en at es h q j e =
     let new : Entry g s i = record { node = a; at = at; roots = map (root c) a.args; is = es; equal = all_roots g c (length g.nodes) refl st.sound a.args (w.args i a at) } in
     let here : (b : Bool) → is_list q s ≡ b → (if b then Some i else place_of t q) ≡ Some j → Entry g q j
-        = elim [ true ↦ λ x y. let ij : i ≡ j = cc in subst (λ (k : ℕ). Entry g q k) ij (subst (λ (z : List ℕ). Entry g z i) (sym (is_list_true q s x)) new)
-               | false ↦ λ x y. en q j y ] in
+    = elim [
+      | true ↦ λ x y. let ij : i ≡ j = cc in subst (λ (k : ℕ). Entry g q k) ij (subst (λ (z : List ℕ). Entry g z i) (sym (is_list_true q s x)) new)
+      | false ↦ λ x y. en q j y
+    ] in
     here (is_list q s) refl (sym (h q) ∙ e)
 
 new_grows : (t u : Signatures) (i : ℕ) (s : List ℕ) → place_of t s ≡ None → ((q : List ℕ) → place_of u q ≡ (if is_list q s then Some i else place_of t q)) → Grows t u
 unfolding Grows
 new_grows t u i s pn h q j e =
     let here : (b : Bool) → is_list q s ≡ b → place_of u q ≡ (if b then Some i else place_of t q) → place_of u q ≡ Some j
-        = elim [ true ↦ λ x y. let z : place_of t q ≡ None = ap (place_of t) (is_list_true q s x) ∙ pn in cc
-               | false ↦ λ x y. y ∙ e ] in
+    = elim [
+      | true ↦ λ x y. let z : place_of t q ≡ None = ap (place_of t) (is_list_true q s x) ∙ pn in cc
+      | false ↦ λ x y. y ∙ e
+    ] in
     here (is_list q s) refl (h q)
 
 new_at : (t u : Signatures) (i : ℕ) (s : List ℕ) → ((q : List ℕ) → place_of u q ≡ (if is_list q s then Some i else place_of t q)) → place_of u s ≡ Some i
@@ -168,10 +175,11 @@ unfolding Grows
 listed_more true g c d t u k b e gr h = tt
 listed_more false g c d t u k b e gr h = λ i a lt at.
     elim (eqb_tells i k) [
-      inl q ↦ subst (λ (x : ℕ). Listed g d u x a) (sym q.1) (h a (rw q.1 at at))
-    | inr q ↦
-        let l : Listed g c t i a = b i a (omega (arith, lt, q.1)) at in
-        subst (λ (x : List ℕ). Listed g x u i a) (sym e) (record { place = l.place; at = gr (signature (root c) a) l.place l.at; one = l.one }) ]
+      | inl q ↦ subst (λ (x : ℕ). Listed g d u x a) (sym q.1) (h a (rw q.1 at at))
+      | inr q ↦
+          let l : Listed g c t i a = b i a (omega (arith, lt, q.1)) at in
+          subst (λ (x : List ℕ). Listed g x u i a) (sym e) (record { place = l.place; at = gr (signature (root c) a) l.place l.at; one = l.one })
+    ]
 
 pub clean_from : (m : Bool) (g : Graph) (c : List ℕ) (t : Signatures) (n : ℕ) → length g.nodes ≤ n → ListedBelow m g c t n → CleanUnless m g c
 unfolding Clean
@@ -198,7 +206,7 @@ premises_equal g c n en s (p ∷ ps) w h =
     let r : p.right < n = ltb-true p.right n (both_right (nat_lt p.left n) (nat_lt p.right n) here) in
     let e : root c p.left ≡ root c p.right = eqb-true (root c p.left) (root c p.right) (both_left (same (root c) p) (list_all (same (root c)) ps) h) in
     more p.left p.right (map left_of ps) (map right_of ps) (sound_equal g c s p.left p.right (omega (arith, l, en)) (omega (arith, r, en)) e)
-      (premises_equal g c n en s ps (both_right (pair_below n p) (list_all (pair_below n) ps) w) (both_right (same (root c) p) (list_all (same (root c)) ps) h))
+    (premises_equal g c n en s ps (both_right (pair_below n p) (list_all (pair_below n) ps) w) (both_right (same (root c) p) (list_all (same (root c)) ps) h))
 
 rule_same : {a b : Rule} → Some a ≡ Some b → a ≡ b
 rule_same e = cc
@@ -231,8 +239,9 @@ pub met_more : (m : Bool) (g : Graph) (c d : List ℕ) (k : ℕ) → MetBelow m 
 met_more true g c d k b e h = tt
 met_more false g c d k b e h = λ i r lt at.
     elim (eqb_tells i k) [
-      inl q ↦ h r (rw q.1 at at)
-    | inr q ↦ subst (λ (x : List ℕ). IsMet x r) (sym e) (b i r (omega (arith, lt, q.1)) at) ]
+      | inl q ↦ h r (rw q.1 at at)
+      | inr q ↦ subst (λ (x : List ℕ). IsMet x r) (sym e) (b i r (omega (arith, lt, q.1)) at)
+    ]
 
 pub met_end : (m : Bool) (g : Graph) (c : List ℕ) (n : ℕ) → length g.rules ≤ n → MetBelow m g c n → MetBelow m g c (length g.rules)
 met_end true g c n le h = tt
@@ -256,6 +265,7 @@ get_from_contains rs r h = (h.0, h.1, slice_get_at rs h.0 r h.1 h.2)
 
 mutual
   unfolding Clean IsMet
+
   pub complete : (g : Graph) (c : List ℕ) → Clean g c → MetBelow false g c (length g.rules) → (i j : ℕ) → Equal g i j → root c i ≡ root c j
   complete g c cl mt i j (itself k) = refl
   complete g c cl mt i j (exchanged k l f) = sym (complete g c cl mt k l f)
@@ -283,9 +293,22 @@ exact_from false g c d e st dn len ds fl r =
 pub state_flat : (g : Graph) (c d : List ℕ) → State g c → length d ≡ length c → Descends d → ((i : ℕ) → root d i ≡ root c i) → State g d
 state_flat g c d st len ds r = record { len = len ∙ st.len; descends = ds; sound = sound_same g c d st.sound r }
 
-pub done_round : (m : Bool) (g : Graph) (c d : List ℕ) → d ≡ c → Clean g d → MetBelow m g c (length g.rules) → DoneUnless m g d
-done_round true g c d p cl mt = tt
-done_round false g c d p cl mt = (cl, λ i r lt at. subst (λ (x : List ℕ). IsMet x r) (sym p) (mt i r lt at))
+false_true : false ≡ true → ⊥
+false_true e = cc
+
+pub done_swept : (m : Bool) (g : Graph) (c d : List ℕ) → Progress m c d → CleanUnless m g d → MetBelow false g c (length g.rules) → DoneUnless m g d
+done_swept true g c d p cl mt = tt
+done_swept false g c d p cl mt = (cl, λ i r lt at. subst (λ (x : List ℕ). IsMet x r) (sym p) (mt i r lt at))
+
+pub progress_le : (m : Bool) (c d : List ℕ) → Progress m c d → total d ≤ total c
+progress_le true c d p = omega (arith, p)
+progress_le false c d p = rw p (omega arith)
+
+-- a round makes the measure of the rounds fall
+pub round_falls : (n m : Bool) (b c d : List ℕ) → n ≡ true → total c ≤ total b → Progress m c d → 2 * total d + (if m then 1 else 0) < 2 * total b + (if n then 1 else 0)
+round_falls true true b c d e le p = omega (arith, le, p)
+round_falls true false b c d e le p = rw p (omega (arith, le))
+round_falls false m b c d e le p = absurd (false_true e)
 
 pub start_state : (g : Graph) (c : List ℕ) → length c ≡ length g.nodes → ((i : ℕ) → i < length g.nodes → slice_index c i ≡ i) → State g c
 unfolding Descends

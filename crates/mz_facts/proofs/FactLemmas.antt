@@ -1,24 +1,20 @@
 -- The nodes that are equal by the rules of a graph are exactly those that stand for facts.
-use Rattle.std.proofs.Common.{◌≡◌, ◌<◌, ◌≤◌, ◌+◌, ℕ, zero, suc, List, [], ◌∷◌, length, map, refl, ap, sym, ◌∙◌, subst, arith, true, false, Bool, inl, inr, ◌⊎◌}
-use Rattle.std.specs.Prelude.{slice_get, Some, None, Option, Contains, All, ◌↔◌}
-use Rattle.std.proofs.lemmas.Option.{slice_get_within, get_or_from_slice_get}
+use Rattle.std.proofs.Common.{◌≡◌, ◌<◌, ℕ, zero, suc, List, [], ◌∷◌, length, map, refl, ap, sym, ◌∙◌, subst, true, false, Bool, inl, inr, ◌⊎◌}
+use Rattle.std.specs.Prelude.{slice_get, Some, None, Option, Contains, All}
+use Rattle.std.proofs.lemmas.Option.{get_or_from_slice_get}
 use Rattle.mz_logic.specs.declared.sym.Sym.{Sym}
 use Rattle.mz_logic.specs.Term as term
 use Rattle.mz_logic.specs.Term.{Term, terms_of, list_of, list_of-terms_of}
 use Rattle.mz_logic.specs.declared.literal.Literal.{Literal}
 use Rattle.mz_logic.specs.declared.literal.Literal.TheVariants.{Atom, Eq}
 use Rattle.mz_logic.specs.declared.disjunct.Disjunct.{Disjunct}
-use Rattle.mz_ground.specs.Piece.{Piece, EquationPiece}
-use Rattle.mz_ground.specs.Layers.{IsGroundPiece, IsGroundTerm, IsGroundAtom, IsGroundLiteral}
+use Rattle.mz_ground.specs.Layers.{IsGroundTerm, IsGroundAtom, IsGroundLiteral}
 use Rattle.mz_ground.specs.Instance.{premises_at, conclusion_at}
-use Rattle.mz_ground.specs.Ground.{term_at, term_of_entry, ground_terms, IsGround}
+use Rattle.mz_ground.specs.Ground.{term_at, ground_terms, IsGround}
 use Rattle.mz_ground.specs.Facts as facts
 use Rattle.mz_ground.specs.Facts.{Fact, AreEqual, AreFacts}
 use Rattle.mz_ground.specs.declared.clause.Clause.{Clause}
 use Rattle.mz_ground.specs.declared.ground.Ground.{Ground}
-use Rattle.mz_ground.specs.declared.ground_term.GroundTerm.{GroundTerm}
-use Rattle.mz_ground.specs.declared.ground_term.GroundTerm.TheVariants.{Const, App}
-use Rattle.mz_ground.specs.declared.ground_atom.GroundAtom.{GroundAtom}
 use Rattle.mz_ground.specs.declared.ground_equation.GroundEquation.{GroundEquation}
 use Rattle.mz_facts.specs.declared.head.Head.{Head}
 use Rattle.mz_facts.specs.declared.head.Head.TheVariants.{Constant, Function, Positive, Negative, Apart, Yes}
@@ -28,11 +24,11 @@ use Rattle.mz_facts.specs.declared.rule.Rule.{Rule}
 use Rattle.mz_facts.specs.declared.graph.Graph.{Graph}
 use Rattle.mz_facts.specs.Congruence as nodes
 use Rattle.mz_facts.specs.Congruence.{Equal, AllEqual, left_of, right_of}
-use Rattle.mz_facts.specs.Nodes.{term_node, atom_head, atom_node, apart_node, nodes_of, atom_place, apart_place, yes_place, Key, OfTerm, OfLiteral, OfTruth, key, key_or_truth, key_at}
-use Rattle.mz_facts.specs.Codes.{IsTermPlace, IsAtomPlace, IsEquationPlace, Codes, CodesAll, rule_of, IsRule, of_literal, of_exchange, of_instance, IsGraph}
-use Rattle.mz_facts.proofs.ListLemmas.{some_same, get_some, get_contains, contains_head, contains_tail}
-use Rattle.mz_facts.proofs.GroundLemmas.{term_entry, term_ground, term_place, term_unique, atom_ground, atom_found, atom_unique, equation_ground, equation_found, equation_unique, equation_within}
-use Rattle.mz_facts.proofs.NodeLemmas.{term_node_at, atom_node_at, term_key, atom_key, apart_key, yes_key, NodeStands, nodes_stand}
+use Rattle.mz_facts.specs.Nodes.{nodes_of, atom_place, apart_place, Key, OfTerm, OfLiteral, OfTruth, key, key_or_truth, key_at}
+use Rattle.mz_facts.specs.Codes.{IsAtomPlace, IsEquationPlace, Codes, CodesAll, IsRule, of_literal, of_exchange, of_instance, IsGraph}
+use Rattle.mz_facts.proofs.ListLemmas.{some_same, get_some, contains_head, contains_tail}
+use Rattle.mz_facts.proofs.GroundLemmas.{atom_ground, equation_ground, equation_within}
+use Rattle.mz_facts.proofs.NodeLemmas.{term_key, atom_key, apart_key, yes_key, NodeStands, nodes_stand}
 
 abbrev pub Holds : Disjunct → List Clause → Key → Type 0
 Holds d cs (OfTerm t) = ⊥
@@ -123,7 +119,7 @@ equal_terms d cs g gr (i ∷ is) (j ∷ js) a b m =
     let kj : key_at g j ≡ OfTerm (term_at (ground_terms g) j) = term_key d cs g gr j (b j (contains_head j js)) in
     let f : Means d cs (OfTerm (term_at (ground_terms g) i)) (OfTerm (term_at (ground_terms g) j)) = subst (λ (k : Key). Means d cs k (OfTerm (term_at (ground_terms g) j))) ki (subst (λ (k : Key). Means d cs (key_at g i) k) kj m.0) in
     facts.and_terms (term_at (ground_terms g) i) (term_at (ground_terms g) j) (map (term_at (ground_terms g)) is) (map (term_at (ground_terms g)) js) f
-      (equal_terms d cs g gr is js (λ k c. a k (contains_tail i k is c)) (λ k c. b k (contains_tail j k js c)) m.1)
+    (equal_terms d cs g gr is js (λ k c. a k (contains_tail i k is c)) (λ k c. b k (contains_tail j k js c)) m.1)
 
 equal_exchanged : (d : Disjunct) (cs : List Clause) (ts us : List Term) → AreEqual d cs ts us → AreEqual d cs us ts
 equal_exchanged d cs ts us facts.no_terms = facts.no_terms
@@ -228,7 +224,7 @@ rule_means d cs g gr r (of_exchange k n e f at bt p q) m =
     subst (λ (x : Key). Means d cs x (key_at g (apart_place g n))) (sym ke) (subst (λ (y : Key). Means d cs (OfLiteral (Eq false t u)) y) (sym kf) (λ x. facts.turned t u x, λ x. facts.turned u t x))
 rule_means d cs g gr r (of_instance c ts ps i j mem len trigger cps cp) m =
     fact_means d cs g gr (conclusion_at c ts) i j cp
-      (facts.fired c ts mem len trigger (all_from d cs (premises_at c ts) (codes_all_ground d cs g gr (premises_at c ts) ps cps)) (codes_ground d cs g gr (conclusion_at c ts) i j cp) (means_facts d cs g gr (premises_at c ts) ps cps m))
+    (facts.fired c ts mem len trigger (all_from d cs (premises_at c ts) (codes_all_ground d cs g gr (premises_at c ts) ps cps)) (codes_ground d cs g gr (conclusion_at c ts) i j cp) (means_facts d cs g gr (premises_at c ts) ps cps m))
 
 -- nodes that are equal say the same
 stands_at : (d : Disjunct) (cs : List Clause) (g : Ground) → IsGround d cs g → (graph : Graph) → graph.nodes ≡ nodes_of g → (i : ℕ) (a : Node) → slice_get graph.nodes i ≡ Some a → NodeStands d cs g a × (key_at g i ≡ key (ground_terms g) a.head a.args)
@@ -246,8 +242,9 @@ truth_not_term e = cc
 key_ground : (d : Disjunct) (cs : List Clause) (g : Ground) → IsGround d cs g → (i : ℕ) (t : Term) → key_at g i ≡ OfTerm t → IsGroundTerm d cs t
 key_ground d cs g gr i t e =
     elim (option_cases (slice_get (nodes_of g) i)) [
-      inl n ↦ absurd (truth_not_term (sym (ap (key_or_truth (ground_terms g)) n) ∙ e))
-    | inr p ↦ (nodes_stand d cs g gr i p.0 p.1).of_term t (sym (ap (key_or_truth (ground_terms g)) p.1) ∙ e) ]
+      | inl n ↦ absurd (truth_not_term (sym (ap (key_or_truth (ground_terms g)) n) ∙ e))
+      | inr p ↦ (nodes_stand d cs g gr i p.0 p.1).of_term t (sym (ap (key_or_truth (ground_terms g)) p.1) ∙ e)
+    ]
 
 mutual
   pub down : (d : Disjunct) (cs : List Clause) (g : Ground) → IsGround d cs g → (graph : Graph) → IsGraph d cs g graph → (i j : ℕ) → Equal graph i j → Means d cs (key_at g i) (key_at g j)

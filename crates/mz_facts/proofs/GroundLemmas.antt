@@ -1,14 +1,13 @@
 -- Ground terms, atoms and equations by their places.
-use Rattle.std.proofs.Common.{◌≡◌, ◌<◌, ◌≤◌, ◌+◌, ℕ, zero, suc, List, [], ◌∷◌, ◌++◌, length, length-append, map, take, refl, ap, sym, ◌∙◌, subst, arith, true, false, Bool}
-use Rattle.std.specs.Prelude.{slice_get, Some, None, Option, Contains, ◌↔◌}
-use Rattle.std.proofs.lemmas.Option.{slice_get_within}
+use Rattle.std.proofs.Common.{◌≡◌, ◌<◌, ◌+◌, ℕ, zero, suc, List, [], ◌∷◌, ◌++◌, length, length-append, map, take, refl, ap, sym, ◌∙◌, subst, arith}
+use Rattle.std.specs.Prelude.{slice_get, Some, Contains, ◌↔◌}
 use Rattle.std.proofs.lemmas.List.{take_all, length-map}
 use Rattle.mz_logic.specs.declared.sym.Sym.{Sym}
 use Rattle.mz_logic.specs.Term as term
 use Rattle.mz_logic.specs.Term.{Term, terms_of}
 use Rattle.mz_logic.specs.declared.disjunct.Disjunct.{Disjunct}
-use Rattle.mz_ground.specs.Piece.{Piece, TermPiece, AtomPiece, EquationPiece}
-use Rattle.mz_ground.specs.Layers.{InLayer, further_layers, IsGroundPiece, IsGroundTerm, IsGroundAtom}
+use Rattle.mz_ground.specs.Piece.{Piece, AtomPiece, EquationPiece}
+use Rattle.mz_ground.specs.Layers.{further_layers, IsGroundPiece, IsGroundTerm, IsGroundAtom}
 use Rattle.mz_ground.specs.Ground.{term_or_zero, term_at, term_of_entry, terms_after, ground_terms, atom_piece, equation_piece, ground_atoms, ground_equations, end_of, IsGround}
 use Rattle.mz_ground.specs.declared.layer_end.LayerEnd.{LayerEnd}
 use Rattle.mz_ground.specs.declared.clause.Clause.{Clause}
@@ -136,7 +135,7 @@ atom_found d cs g gr s ts h =
 pub atom_unique : (d : Disjunct) (cs : List Clause) (g : Ground) → IsGround d cs g → (k m : ℕ) (s : Sym) (ts : List Term) → IsAtomPlace g k s ts → IsAtomPlace g m s ts → k ≡ m
 atom_unique d cs g gr k m s ts p q =
     let at : (n : ℕ) → IsAtomPlace g n s ts → slice_get (ground_atoms g) n ≡ Some (AtomPiece s ts)
-        = λ n h. get_map (atom_piece (ground_terms g)) g.atoms n h.0 h.1 ∙ (λ i. Some (AtomPiece (h.2 i) (h.3 i))) in
+    = λ n h. get_map (atom_piece (ground_terms g)) g.atoms n h.0 h.1 ∙ (λ i. Some (AtomPiece (h.2 i) (h.3 i))) in
     place_unique (ground_atoms g) gr.distinct_atoms k m (AtomPiece s ts) (at k p) (at m q)
 
 -- equations
@@ -158,7 +157,7 @@ equation_found d cs g gr t u h =
 pub equation_unique : (d : Disjunct) (cs : List Clause) (g : Ground) → IsGround d cs g → (k m : ℕ) (e f : GroundEquation) (t u : Term) → IsEquationPlace g k e t u → IsEquationPlace g m f t u → k ≡ m
 equation_unique d cs g gr k m e f t u p q =
     let at : (n : ℕ) (e : GroundEquation) → IsEquationPlace g n e t u → slice_get (ground_equations g) n ≡ Some (EquationPiece t u)
-        = λ n e h. get_map (equation_piece (ground_terms g)) g.equations n e h.0 ∙ (λ i. Some (EquationPiece (h.1 i) (h.2 i))) in
+    = λ n e h. get_map (equation_piece (ground_terms g)) g.equations n e h.0 ∙ (λ i. Some (EquationPiece (h.1 i) (h.2 i))) in
     place_unique (ground_equations g) gr.distinct_equations k m (EquationPiece t u) (at k e p) (at m f q)
 
 pub equation_within : (d : Disjunct) (cs : List Clause) (g : Ground) → IsGround d cs g → (k : ℕ) (e : GroundEquation) → slice_get g.equations k ≡ Some e → (e.left < length g.terms) × (e.right < length g.terms)

@@ -1,8 +1,8 @@
 -- Elements of lists.
-use Rattle.std.proofs.Common.{◌≡◌, ◌<◌, ◌≤◌, ◌+◌, ℕ, zero, suc, List, [], ◌∷◌, ◌++◌, length, map, refl, ap, sym, ◌∙◌, subst, arith, true, false, Bool}
-use Rattle.std.specs.Prelude.{slice_index_or, slice_get, Some, None, Option, Contains, AllPairs, ◌≢◌}
+use Rattle.std.proofs.Common.{◌≡◌, ◌<◌, ◌+◌, ℕ, zero, suc, List, [], ◌∷◌, ◌++◌, length, map, refl, ap, sym, ◌∙◌, subst, arith}
+use Rattle.std.specs.Prelude.{slice_index_or, slice_get, Some, None, Contains, AllPairs, ◌≢◌}
 use Rattle.std.proofs.lemmas.Option.{slice_get_within, get_or_from_slice_get}
-use Rattle.mz_facts.proofs.RootLemmas.{Order, order, under, equal, over}
+use Rattle.mz_facts.proofs.RootLemmas.{order, under, equal, over}
 
 pub some_same : {X : Type 0} {a b : X} → Some a ≡ Some b → a ≡ b
 some_same e = cc
@@ -79,6 +79,7 @@ place_unique xs d i j x p q =
     let pi : slice_index_or xs i x ≡ x = get_or_from_slice_get xs i x x p in
     let pj : slice_index_or xs j x ≡ x = get_or_from_slice_get xs j x x q in
     elim (order i j) [
-      under h ↦ absurd (d i j x h lj (pi ∙ sym pj))
-    | equal h ↦ h
-    | over h ↦ absurd (d j i x h li (pj ∙ sym pi)) ]
+      | under h ↦ absurd (d i j x h lj (pi ∙ sym pj))
+      | equal h ↦ h
+      | over h ↦ absurd (d j i x h li (pj ∙ sym pi))
+    ]

@@ -1,29 +1,26 @@
 -- The values of the indices of a trigger are the only terms at which it is the ground term or atom at a place.
-use Rattle.std.proofs.Common.{◌≡◌, ◌<◌, ◌≤◌, ◌+◌, ℕ, zero, suc, List, [], ◌∷◌, length, map, refl, ap, sym, ◌∙◌, subst, arith, true, false, Bool, inl, inr, ◌⊎◌}
-use Rattle.std.specs.Prelude.{slice_get, Some, None, Option, Contains, ◌&&◌, ◌||◌, nat_eq, if◌then◌else◌, IsTrue}
+use Rattle.std.proofs.Common.{◌≡◌, ◌<◌, ℕ, zero, suc, List, [], ◌∷◌, length, map, refl, ap, sym, ◌∙◌, arith, true, false, Bool, inl, inr, ◌⊎◌}
+use Rattle.std.specs.Prelude.{slice_get, Some, None, Option, ◌&&◌, ◌||◌, nat_eq, if◌then◌else◌, IsTrue}
 use Rattle.std.specs.List.{list_any}
-use Rattle.std.proofs.lemmas.Bool.{eqb-true, eq-eqb}
+use Rattle.std.proofs.lemmas.Bool.{eqb-true}
 use Rattle.std.proofs.lemmas.Bool.Decides.{eqb_tells}
 use Rattle.std.proofs.lemmas.List.{length-map}
-use Rattle.std.proofs.lemmas.Option.{slice_get_within}
 use Rattle.mz_logic.specs.declared.sym.Sym.{Sym}
-use Rattle.mz_logic.specs.Term.{Term, Terms, Bound, Const, App, none, more, terms_of, list_of, list_of-terms_of}
+use Rattle.mz_logic.specs.Term.{Term, Terms, Bound, Const, App, none, more, terms_of}
 use Rattle.mz_logic.specs.declared.disjunct.Disjunct.{Disjunct}
 use Rattle.mz_ground.specs.Piece.{Piece, TermPiece, AtomPiece}
 use Rattle.mz_ground.specs.Variables.{has_index, args_have_index, trigger_has, has_all_below}
 use Rattle.mz_ground.specs.Instance.{index_filled, filled, args_filled, trigger_filled}
-use Rattle.mz_ground.specs.Ground.{term_at, term_of_entry, ground_terms, atom_piece, IsGround}
+use Rattle.mz_ground.specs.Ground.{term_at, ground_terms, atom_piece, IsGround}
 use Rattle.mz_ground.specs.declared.clause.Clause.{Clause}
 use Rattle.mz_ground.specs.declared.trigger.Trigger.{Trigger}
 use Rattle.mz_ground.specs.declared.trigger.Trigger.TheVariants as trigger
 use Rattle.mz_ground.specs.declared.ground.Ground.{Ground}
-use Rattle.mz_ground.specs.declared.ground_term.GroundTerm.{GroundTerm}
-use Rattle.mz_ground.specs.declared.ground_term.GroundTerm.TheVariants as entry
 use Rattle.mz_ground.specs.declared.ground_atom.GroundAtom.{GroundAtom}
-use Rattle.mz_facts.specs.Stands.{has_symbol, entry_args, stands, each_stands, atom_stands}
-use Rattle.mz_facts.specs.Values.{first_of, value, value_among, each_value, atom_value, trigger_value, is_atom_at, trigger_stands, AreValues, FindsValues}
+use Rattle.mz_facts.specs.Stands.{entry_args}
+use Rattle.mz_facts.specs.Values.{first_of, value, value_among, atom_value, trigger_value, is_atom_at, trigger_stands, AreValues, FindsValues}
 use Rattle.mz_facts.specs.Pairing.{AllWithin, terms_at, IsPieceAt, IsMatch, Matched}
-use Rattle.mz_facts.proofs.ListLemmas.{some_same, none_some, get_map, get_some, get_contains, contains_get, contains_head, contains_tail}
+use Rattle.mz_facts.proofs.ListLemmas.{some_same, get_map, get_some, get_contains, contains_get, contains_head, contains_tail}
 use Rattle.mz_facts.proofs.GroundLemmas.{term_entry}
 use Rattle.mz_facts.proofs.StandLemmas.{index_found, args_within, app_complete, stands_sound, stands_complete, args_filled-terms_of}
 use Rattle.mz_facts.proofs.ValueLemmas.{value_among-terms_of, first_none}
@@ -57,8 +54,9 @@ mutual
   among_within d cs g gr j (more u us) [] p w h = absurd (no_some h)
   among_within d cs g gr j (more u us) (k ∷ ks) p w h =
       elim (first_cases (value g.terms j u k) (value_among g.terms j us ks) p h) [
-        inl a ↦ value_within d cs g gr j u k p (w k (contains_head k ks)) a
-      | inr b ↦ among_within d cs g gr j us ks p (λ m c. w m (contains_tail k m ks c)) b ]
+        | inl a ↦ value_within d cs g gr j u k p (w k (contains_head k ks)) a
+        | inr b ↦ among_within d cs g gr j us ks p (λ m c. w m (contains_tail k m ks c)) b
+      ]
 
 terms_cons : {t u : Term} {ts us : Terms} → more t ts ≡ more u us → (t ≡ u) × (ts ≡ us)
 terms_cons e = (cc, cc)
@@ -90,8 +88,9 @@ mutual
   among_sound d cs g gr ts j lj (more u us) (k ∷ ks) p w e h =
       let q = terms_cons e in
       elim (first_cases (value g.terms j u k) (value_among g.terms j us ks) p h) [
-        inl a ↦ value_sound d cs g gr ts j lj u k p (w k (contains_head k ks)) q.0 a
-      | inr b ↦ among_sound d cs g gr ts j lj us ks p (λ m c. w m (contains_tail k m ks c)) q.1 b ]
+        | inl a ↦ value_sound d cs g gr ts j lj u k p (w k (contains_head k ks)) q.0 a
+        | inr b ↦ among_sound d cs g gr ts j lj us ks p (λ m c. w m (contains_tail k m ks c)) q.1 b
+      ]
 
 or_cases : (a b : Bool) → (a || b) ≡ true → (a ≡ true) ⊎ (b ≡ true)
 or_cases true b h = inl refl
@@ -124,8 +123,9 @@ mutual
       let q = terms_cons e in
       let n = first_none (value g.terms j u k) (value_among g.terms j us ks) h in
       elim (or_cases (has_index j u) (args_have_index j us) o) [
-        inl a ↦ value_complete d cs g gr ts j u k (w k (contains_head k ks)) q.0 a n.0
-      | inr b ↦ among_complete d cs g gr ts j us ks (λ m c. w m (contains_tail k m ks c)) q.1 b n.1 ]
+        | inl a ↦ value_complete d cs g gr ts j u k (w k (contains_head k ks)) q.0 a n.0
+        | inr b ↦ among_complete d cs g gr ts j us ks (λ m c. w m (contains_tail k m ks c)) q.1 b n.1
+      ]
 
 args_have-terms_of : (j : ℕ) (us : List Term) → args_have_index j (terms_of us) ≡ list_any (has_index j) us
 args_have-terms_of j [] = refl
@@ -189,8 +189,9 @@ all_below : (n : ℕ) (t : Trigger) → has_all_below n t ≡ true → (j : ℕ)
 all_below zero t h j lt = absurd (omega (arith, lt))
 all_below (suc n) t h j lt =
     elim (eqb_tells j n) [
-      inl e ↦ ap (λ m. trigger_has m t) e.1 ∙ and_left (trigger_has n t) (has_all_below n t) h
-    | inr e ↦ all_below n t (and_right (trigger_has n t) (has_all_below n t) h) j (omega (arith, lt, e.1)) ]
+      | inl e ↦ ap (λ m. trigger_has m t) e.1 ∙ and_left (trigger_has n t) (has_all_below n t) h
+      | inr e ↦ all_below n t (and_right (trigger_has n t) (has_all_below n t) h) j (omega (arith, lt, e.1))
+    ]
 
 -- two lists with the same elements
 same_lists : (xs ys : List Term) → length xs ≡ length ys → ((j : ℕ) → j < length xs → slice_get xs j ≡ slice_get ys j) → xs ≡ ys
@@ -211,8 +212,8 @@ values_only : (d : Disjunct) (cs : List Clause) (g : Ground) → IsGround d cs g
 values_only d cs g gr t k n x args v ts h len q =
     let m : length (terms_at g args) ≡ length args = length-map args (term_at (ground_terms g)) in
     same_lists ts (terms_at g args) (omega (arith, len, m, v.0)) (λ j lt.
-      let y = get_some args j (omega (arith, lt, len, v.0)) in
-      trigger_sound d cs g gr ts j lt t k y.0 x h q (v.1 j (omega (arith, lt, len)) ∙ y.1) ∙ sym (get_map (term_at (ground_terms g)) args j y.0 y.1))
+    let y = get_some args j (omega (arith, lt, len, v.0)) in
+    trigger_sound d cs g gr ts j lt t k y.0 x h q (v.1 j (omega (arith, lt, len)) ∙ y.1) ∙ sym (get_map (term_at (ground_terms g)) args j y.0 y.1))
 
 match_none : (d : Disjunct) (cs : List Clause) (g : Ground) → IsGround d cs g → (c : Clause) → has_all_below c.variables c.trigger ≡ true → (k : ℕ) → FindsValues g c.trigger k c.variables None → (x : Piece) (ts : List Term) → IsPieceAt g c.trigger k x → length ts ≡ c.variables → trigger_filled ts c.trigger ≡ x → ⊥
 match_none d cs g gr c has k (inl v) x ts h len q = trigger_complete d cs g gr ts v.0 c.trigger k x h q (all_below c.variables c.trigger has v.0 v.1) v.2
@@ -223,10 +224,12 @@ match_none d cs g gr c has k (inr v) x ts h len q =
     false_is_true (sym v.2 ∙ s)
 
 match_some : (d : Disjunct) (cs : List Clause) (g : Ground) → IsGround d cs g → (c : Clause) (k : ℕ) (args : List ℕ) (x : Piece) → IsPieceAt g c.trigger k x → FindsValues g c.trigger k c.variables (Some args) → IsMatch g c k (Some args)
-match_some d cs g gr c k args x h v =
-    (values_within d cs g gr c.trigger k c.variables x args h v.0, v.0.0,
-     λ y i. stands_is d cs g gr args c.trigger k y i v.1,
-     λ y ts i len q. values_only d cs g gr c.trigger k c.variables y args v.0 ts i len q)
+match_some d cs g gr c k args x h v = (
+  values_within d cs g gr c.trigger k c.variables x args h v.0,
+  v.0.0,
+  λ y i. stands_is d cs g gr args c.trigger k y i v.1,
+  λ y ts i len q. values_only d cs g gr c.trigger k c.variables y args v.0 ts i len q,
+)
 
 pub told_matched : (g : Ground) (c : Clause) (k : ℕ) (r : Option (List ℕ)) → IsTrue (has_all_below c.variables c.trigger) → FindsValues g c.trigger k c.variables r → Matched g c k r
 unfolding Matched

@@ -1,6 +1,6 @@
 -- The nodes of a ground part: where they stand and what they say.
-use Rattle.std.proofs.Common.{◌≡◌, ◌<◌, ◌≤◌, ◌+◌, ℕ, zero, suc, List, [], ◌∷◌, ◌++◌, length, length-append, map, refl, ap, sym, ◌∙◌, subst, arith, true, false, Bool}
-use Rattle.std.specs.Prelude.{slice_get, Some, None, Option, Contains, nat_lt}
+use Rattle.std.proofs.Common.{◌≡◌, ◌<◌, ◌+◌, ℕ, List, [], ◌∷◌, length, length-append, map, refl, ap, sym, ◌∙◌, subst, arith, true, false, Bool}
+use Rattle.std.specs.Prelude.{slice_get, Some, Contains, nat_lt}
 use Rattle.std.specs.List.{list_all}
 use Rattle.std.proofs.lemmas.Bool.{lt-ltb}
 use Rattle.std.proofs.lemmas.Option.{slice_get_within}
@@ -19,20 +19,17 @@ use Rattle.mz_ground.specs.declared.ground_term.GroundTerm.{GroundTerm}
 use Rattle.mz_ground.specs.declared.ground_term.GroundTerm.TheVariants.{Const, App}
 use Rattle.mz_ground.specs.declared.ground_atom.GroundAtom.{GroundAtom}
 use Rattle.mz_ground.specs.declared.ground_equation.GroundEquation.{GroundEquation}
-use Rattle.mz_facts.specs.declared.head.Head.{Head}
-use Rattle.mz_facts.specs.declared.head.Head.TheVariants.{Constant, Function, Positive, Negative, Apart, Yes}
 use Rattle.mz_facts.specs.declared.node.Node.{Node}
-use Rattle.mz_facts.specs.Nodes.{term_node, atom_head, atom_node, apart_node, yes_node, nodes_to_positive, nodes_to_negative, nodes_to_apart, nodes_of, atom_place, apart_place, yes_place, Key, OfTerm, OfLiteral, OfTruth, key, key_or_truth, key_at}
-use Rattle.mz_facts.specs.Codes.{IsTermPlace, IsAtomPlace, IsEquationPlace, Codes}
+use Rattle.mz_facts.specs.Nodes.{term_node, atom_head, atom_node, apart_node, yes_node, nodes_to_positive, nodes_to_negative, nodes_to_apart, nodes_of, atom_place, apart_place, yes_place, OfTerm, OfLiteral, OfTruth, key, key_or_truth, key_at}
 use Rattle.mz_facts.specs.Closing.{below}
 use Rattle.mz_facts.proofs.ListLemmas.{get_left, get_right, get_map, get_some, get_contains, contains_head, contains_tail, not_contains_nil, AllOf, all_append, all_map, all_one}
-use Rattle.mz_facts.proofs.GroundLemmas.{term_entry, term_ground, atom_ground, term_found}
+use Rattle.mz_facts.proofs.GroundLemmas.{term_entry, term_ground, atom_ground}
 
 -- where the nodes stand
 pub term_node_at : (g : Ground) (i : ℕ) (e : GroundTerm) → slice_get g.terms i ≡ Some e → slice_get (nodes_of g) i ≡ Some (term_node e)
 term_node_at g i e at =
     get_left (nodes_to_apart g) (yes_node ∷ []) i (term_node e) (get_left (nodes_to_negative g) (map apart_node g.equations) i (term_node e)
-      (get_left (nodes_to_positive g) (map (atom_node false) g.atoms) i (term_node e) (get_left (map term_node g.terms) (map (atom_node true) g.atoms) i (term_node e) (get_map term_node g.terms i e at))))
+    (get_left (nodes_to_positive g) (map (atom_node false) g.atoms) i (term_node e) (get_left (map term_node g.terms) (map (atom_node true) g.atoms) i (term_node e) (get_map term_node g.terms i e at))))
 
 length_positive : (g : Ground) → length (nodes_to_positive g) ≡ length g.terms + length g.atoms
 length_positive g =
@@ -64,7 +61,7 @@ atom_node_at g true k a at =
     let n : length (map term_node g.terms) ≡ length g.terms = length-map g.terms term_node in
     let here : slice_get (nodes_to_positive g) i ≡ Some (atom_node true a) = get_right (map term_node g.terms) (map (atom_node true) g.atoms) i k (omega (arith, n)) ∙ get_map (atom_node true) g.atoms k a at in
     get_left (nodes_to_apart g) (yes_node ∷ []) i (atom_node true a) (get_left (nodes_to_negative g) (map apart_node g.equations) i (atom_node true a)
-      (get_left (nodes_to_positive g) (map (atom_node false) g.atoms) i (atom_node true a) here))
+    (get_left (nodes_to_positive g) (map (atom_node false) g.atoms) i (atom_node true a) here))
 atom_node_at g false k a at =
     let i : ℕ = length g.terms + length g.atoms + k in
     let here : slice_get (nodes_to_negative g) i ≡ Some (atom_node false a) = get_right (nodes_to_positive g) (map (atom_node false) g.atoms) i k (omega (arith, length_positive g)) ∙ get_map (atom_node false) g.atoms k a at in
@@ -195,7 +192,7 @@ nodes_stand d cs g gr =
     let c : AllOf P (map (atom_node false) g.atoms) = all_map P (atom_node false) g.atoms (λ k e at. atom_node_stands d cs g gr false k e at) in
     let e : AllOf P (map apart_node g.equations) = all_map P apart_node g.equations (λ k e at. apart_node_stands d cs g e) in
     all_append P (nodes_to_apart g) (yes_node ∷ []) (all_append P (nodes_to_negative g) (map apart_node g.equations) (all_append P (nodes_to_positive g) (map (atom_node false) g.atoms) (all_append P (map term_node g.terms) (map (atom_node true) g.atoms) a b) c) e)
-      (all_one P yes_node (yes_node_stands d cs g))
+    (all_one P yes_node (yes_node_stands d cs g))
 
 -- numbers that are all below n
 pub list_all_below : (n : ℕ) (ks : List ℕ) → ((k : ℕ) → Contains ks k → k < n) → list_all (below n) ks ≡ true

@@ -1,24 +1,22 @@
 -- The two nodes of a literal.
-use Rattle.std.proofs.Common.{◌≡◌, ◌<◌, ◌≤◌, ◌+◌, ℕ, zero, suc, List, [], ◌∷◌, ◌++◌, length, map, take, refl, ap, sym, ◌∙◌, subst, arith, true, false, Bool, add-one}
-use Rattle.std.specs.Prelude.{slice_get, Some, None, Option, Contains}
+use Rattle.std.proofs.Common.{◌≡◌, ◌≤◌, ◌+◌, ℕ, zero, suc, List, [], ◌∷◌, ◌++◌, length, map, take, refl, ap, sym, ◌∙◌, subst, true, false, Bool, add-one}
+use Rattle.std.specs.Prelude.{slice_get, Some, None}
 use Rattle.std.proofs.lemmas.List.{take_all}
-use Rattle.std.proofs.lemmas.Option.{slice_get_within}
 use Rattle.mz_logic.specs.declared.sym.Sym.{Sym}
 use Rattle.mz_logic.specs.Term.{Term}
 use Rattle.mz_logic.specs.declared.literal.Literal.{Literal}
 use Rattle.mz_logic.specs.declared.literal.Literal.TheVariants.{Atom, Eq}
 use Rattle.mz_logic.specs.declared.disjunct.Disjunct.{Disjunct}
-use Rattle.mz_ground.specs.Instance.{filled, literal_filled}
-use Rattle.mz_ground.specs.Ground.{term_at, ground_terms, IsGround}
+use Rattle.mz_ground.specs.Instance.{literal_filled}
+use Rattle.mz_ground.specs.Ground.{IsGround}
 use Rattle.mz_ground.specs.declared.clause.Clause.{Clause}
 use Rattle.mz_ground.specs.declared.ground.Ground.{Ground}
 use Rattle.mz_ground.specs.declared.ground_atom.GroundAtom.{GroundAtom}
 use Rattle.mz_ground.specs.declared.ground_equation.GroundEquation.{GroundEquation}
 use Rattle.mz_facts.specs.declared.pair.Pair.{Pair}
-use Rattle.mz_facts.specs.declared.rule.Rule.{Rule}
 use Rattle.mz_facts.specs.Nodes.{atom_place, apart_place, yes_place}
-use Rattle.mz_facts.specs.Codes.{IsTermPlace, IsAtomPlace, IsEquationPlace, Codes, CodesAll, rule_of}
-use Rattle.mz_facts.specs.Pairing.{AllWithin, terms_at, IsPairOf, ArePairsOf, PairOf, PairsOf}
+use Rattle.mz_facts.specs.Codes.{Codes, CodesAll}
+use Rattle.mz_facts.specs.Pairing.{terms_at, PairOf, PairsOf}
 use Rattle.mz_facts.specs.Stands.{atom_stands, equation_stands}
 use Rattle.mz_facts.proofs.ListLemmas.{some_same, none_some}
 use Rattle.mz_facts.proofs.GroundLemmas.{atom_unique, equation_unique}
@@ -54,7 +52,9 @@ unfolding PairOf
 told_no_apart_pair g args t u n d cs gr w = λ i j c. no_both (equation_complete d cs g gr args w t u c.0 c.1 c.2) (n c.0 c.1 c.2.0)
 
 pub ruleset atom_pair_rules = (told_atom_pair, told_no_atom_pair)
+
 pub ruleset equation_pair_rules = (told_equal_pair, told_no_equal_pair)
+
 pub ruleset apart_pair_rules = (told_apart_pair, told_no_apart_pair)
 
 -- lists of literals

@@ -1,10 +1,9 @@
 -- The rules that are put together are exactly those of the ground part.
-use Rattle.std.proofs.Common.{◌≡◌, ◌<◌, ◌≤◌, ◌+◌, ℕ, zero, suc, List, [], ◌∷◌, ◌++◌, length, map, take, refl, ap, sym, ◌∙◌, subst, arith, true, false, Bool, inl, inr, ◌⊎◌}
-use Rattle.std.specs.Prelude.{slice_get, Some, None, Option, Contains, ◌↔◌}
+use Rattle.std.proofs.Common.{◌≡◌, ◌<◌, ◌≤◌, ◌+◌, ℕ, zero, suc, List, [], ◌∷◌, ◌++◌, length, map, refl, ap, sym, ◌∙◌, subst, arith, inl, inr, ◌⊎◌}
+use Rattle.std.specs.Prelude.{slice_get, Some, None, Contains, ◌↔◌}
 use Rattle.std.proofs.lemmas.Option.{slice_get_within}
 use Rattle.std.proofs.lemmas.Bool.Decides.{eqb_tells}
 use Rattle.std.proofs.lemmas.List.{length-map}
-use Rattle.mz_logic.specs.declared.sym.Sym.{Sym}
 use Rattle.mz_logic.specs.Term.{Term}
 use Rattle.mz_logic.specs.declared.literal.Literal.{Literal}
 use Rattle.mz_logic.specs.declared.literal.Literal.TheVariants.{Atom, Eq}
@@ -17,16 +16,15 @@ use Rattle.mz_ground.specs.declared.clause.Clause.{Clause}
 use Rattle.mz_ground.specs.declared.trigger.Trigger.{Trigger}
 use Rattle.mz_ground.specs.declared.trigger.Trigger.TheVariants as trigger
 use Rattle.mz_ground.specs.declared.ground.Ground.{Ground}
-use Rattle.mz_ground.specs.declared.ground_atom.GroundAtom.{GroundAtom}
 use Rattle.mz_ground.specs.declared.ground_equation.GroundEquation.{GroundEquation}
 use Rattle.mz_facts.specs.declared.pair.Pair.{Pair}
 use Rattle.mz_facts.specs.declared.rule.Rule.{Rule}
 use Rattle.mz_facts.specs.Nodes.{apart_place}
-use Rattle.mz_facts.specs.Codes.{Codes, CodesAll, rule_of, IsRule, of_literal, of_exchange, of_instance}
-use Rattle.mz_facts.specs.Pairing.{AllWithin, terms_at, IsPairOf, ArePairsOf, PairOf, PairsOf, Adds, AddsRules, AddsInstance, Below, IsLiteralRule, IsExchangeRule, IsInstanceRule, IsPieceAt, IsPlaceRule, IsClauseRule, IsMatch, Matched, places_for}
+use Rattle.mz_facts.specs.Codes.{Codes, rule_of, IsRule, of_literal, of_exchange, of_instance}
+use Rattle.mz_facts.specs.Pairing.{terms_at, PairOf, PairsOf, Adds, AddsRules, AddsInstance, Below, IsLiteralRule, IsExchangeRule, IsInstanceRule, IsPieceAt, IsPlaceRule, IsClauseRule, Matched, places_for}
 use Rattle.mz_facts.proofs.RootLemmas.{cases_lt}
 use Rattle.mz_facts.proofs.ListLemmas.{some_same, none_some, get_left, get_right, get_some, get_contains, contains_get, not_contains_nil}
-use Rattle.mz_facts.proofs.GroundLemmas.{term_ground, term_place, term_unique, atom_ground, atom_found, equation_within, equation_unique}
+use Rattle.mz_facts.proofs.GroundLemmas.{term_ground, term_place, atom_ground, atom_found, equation_unique}
 use Rattle.mz_facts.proofs.PairLemmas.{codes_unique, codes_all_unique}
 use Rattle.mz_facts.proofs.TellLemmas.{filled_all_nil, nil_within}
 use Rattle.mz_facts.proofs.StandLemmas.{filled_nil}
@@ -51,13 +49,14 @@ push_split : (xs : List Rule) (y r : Rule) → Contains (xs ++ y ∷ []) r → C
 push_split xs y r c =
     let p = contains_get (xs ++ y ∷ []) r c in
     elim (cases_lt p.0 (length xs)) [
-      inl lt ↦
-        let x = get_some xs p.0 lt in
-        let e : x.0 ≡ r = some_same (sym (get_left xs (y ∷ []) p.0 x.0 x.1) ∙ p.2) in
-        inl (get_contains xs p.0 r (x.1 ∙ ap Some e))
-    | inr ge ↦
-        let q = split_le (length xs) p.0 ge in
-        inr (sym (one_get y r q.0 (sym (get_right xs (y ∷ []) p.0 q.0 q.1) ∙ p.2))) ]
+      | inl lt ↦
+          let x = get_some xs p.0 lt in
+          let e : x.0 ≡ r = some_same (sym (get_left xs (y ∷ []) p.0 x.0 x.1) ∙ p.2) in
+          inl (get_contains xs p.0 r (x.1 ∙ ap Some e))
+      | inr ge ↦
+          let q = split_le (length xs) p.0 ge in
+          inr (sym (one_get y r q.0 (sym (get_right xs (y ∷ []) p.0 q.0 q.1) ∙ p.2)))
+    ]
 
 adds_none : (P : Rule → Type 0) (xs : List Rule) → ((r : Rule) → P r → ⊥) → Adds P xs xs
 adds_none P xs n = record { kept = λ r c. c; added = λ r p. absurd (n r p); only = λ r c. inl c }
@@ -83,13 +82,15 @@ adds_more_at Q k xs ys zs a b =
     record {
       kept = λ r c. b.kept r (a.kept r c);
       added = λ r p.
-        elim (eqb_tells p.0 k) [
-          inl e ↦ b.added r (subst (λ (j : ℕ). Q j r) e.1 p.2)
-        | inr e ↦ b.kept r (a.added r (p.0, omega (arith, p.1, e.1), p.2)) ];
+          elim (eqb_tells p.0 k) [
+            | inl e ↦ b.added r (subst (λ (j : ℕ). Q j r) e.1 p.2)
+            | inr e ↦ b.kept r (a.added r (p.0, omega (arith, p.1, e.1), p.2))
+          ];
       only = λ r c.
-        elim (b.only r c) [
-          inl x ↦ elim (a.only r x) [ inl z ↦ inl z | inr q ↦ inr (q.0, omega (arith, q.1), q.2) ]
-        | inr q ↦ inr (k, omega arith, q) ];
+          elim (b.only r c) [
+            | inl x ↦ elim (a.only r x) [ inl z ↦ inl z | inr q ↦ inr (q.0, omega (arith, q.1), q.2) ]
+            | inr q ↦ inr (k, omega arith, q)
+          ];
     }
 
 -- the loops
@@ -118,19 +119,19 @@ told_literal g ls k l p v xs ys at c ev e d cs gr =
     let y : Rule = rule_of [] p.left p.right in
     let code : Codes g l p.left p.right = subst (λ (m : Literal). Codes g m p.left p.right) (literal_nil l) (c d cs gr (nil_within g)) in
     rw (e, ev) (adds_one (IsLiteralRule g ls k) xs y (l, p.left, p.right, at, code, refl)
-      (λ r q.
-        let same : q.0 ≡ l = some_same (sym q.3 ∙ at) in
-        let other : Codes g l q.1 q.2 = subst (λ (m : Literal). Codes g m q.1 q.2) same q.4 in
-        let u = codes_unique d cs g gr l q.1 q.2 p.left p.right other code in
-        q.5 ∙ rule_same [] [] q.1 q.2 p.left p.right refl u.0 u.1))
+    (λ r q.
+    let same : q.0 ≡ l = some_same (sym q.3 ∙ at) in
+    let other : Codes g l q.1 q.2 = subst (λ (m : Literal). Codes g m q.1 q.2) same q.4 in
+    let u = codes_unique d cs g gr l q.1 q.2 p.left p.right other code in
+    q.5 ∙ rule_same [] [] q.1 q.2 p.left p.right refl u.0 u.1))
 
 pub told_no_literal : (g : Ground) (ls : List Literal) (k : ℕ) (l : Literal) (xs : List Rule) → slice_get ls k ≡ Some l → PairOf g [] l None → AddsRules g (IsLiteralRule g ls k) xs xs
 unfolding PairOf AddsRules
 told_no_literal g ls k l xs at n d cs gr =
     adds_none (IsLiteralRule g ls k) xs (λ r q.
-      let same : q.0 ≡ l = some_same (sym q.3 ∙ at) in
-      let other : Codes g (literal_filled [] l) q.1 q.2 = subst (λ (m : Literal). Codes g m q.1 q.2) (same ∙ sym (literal_nil l)) q.4 in
-      n d cs gr (nil_within g) q.1 q.2 other)
+    let same : q.0 ≡ l = some_same (sym q.3 ∙ at) in
+    let other : Codes g (literal_filled [] l) q.1 q.2 = subst (λ (m : Literal). Codes g m q.1 q.2) (same ∙ sym (literal_nil l)) q.4 in
+    n d cs gr (nil_within g) q.1 q.2 other)
 
 -- the rule of an exchange
 exchange_place : (d : Disjunct) (cs : List Clause) (g : Ground) → IsGround d cs g → (m n : ℕ) (e f h : GroundEquation) → slice_get g.equations m ≡ Some f → slice_get g.equations n ≡ Some h → e.left ≡ f.right → e.right ≡ f.left → e.left ≡ h.right → e.right ≡ h.left → m ≡ n
@@ -145,17 +146,17 @@ told_exchange g k m i j e f v xs ys at bt p q ei ej ev ey d cs gr =
     let y : Rule = rule_of [] (apart_place g k) (apart_place g m) in
     let same : rule_of v i j ≡ y = rule_same v [] i j (apart_place g k) (apart_place g m) ev ei ej in
     rw (ey, same) (adds_one (IsExchangeRule g k) xs y (e, m, f, at, bt, p, q, refl)
-      (λ r h.
-        let one : h.0 ≡ e = some_same (sym h.3 ∙ at) in
-        let place : h.1 ≡ m = exchange_place d cs g gr h.1 m e h.2 f h.4 bt (ap (λ (x : GroundEquation). x.left) (sym one) ∙ h.5) (ap (λ (x : GroundEquation). x.right) (sym one) ∙ h.6) p q in
-        h.7 ∙ ap (λ (n : ℕ). rule_of [] (apart_place g k) (apart_place g n)) place))
+    (λ r h.
+    let one : h.0 ≡ e = some_same (sym h.3 ∙ at) in
+    let place : h.1 ≡ m = exchange_place d cs g gr h.1 m e h.2 f h.4 bt (ap (λ (x : GroundEquation). x.left) (sym one) ∙ h.5) (ap (λ (x : GroundEquation). x.right) (sym one) ∙ h.6) p q in
+    h.7 ∙ ap (λ (n : ℕ). rule_of [] (apart_place g k) (apart_place g n)) place))
 
 pub told_no_exchange : (g : Ground) (k : ℕ) (e : GroundEquation) (xs : List Rule) → slice_get g.equations k ≡ Some e → ((m : ℕ) (f : GroundEquation) → slice_get g.equations m ≡ Some f → e.left ≡ f.right → e.right ≡ f.left → ⊥) → AddsRules g (IsExchangeRule g k) xs xs
 unfolding AddsRules
 told_no_exchange g k e xs at n d cs gr =
     adds_none (IsExchangeRule g k) xs (λ r h.
-      let one : h.0 ≡ e = some_same (sym h.3 ∙ at) in
-      n h.1 h.2 h.4 (ap (λ (x : GroundEquation). x.left) (sym one) ∙ h.5) (ap (λ (x : GroundEquation). x.right) (sym one) ∙ h.6))
+    let one : h.0 ≡ e = some_same (sym h.3 ∙ at) in
+    n h.1 h.2 h.4 (ap (λ (x : GroundEquation). x.left) (sym one) ∙ h.5) (ap (λ (x : GroundEquation). x.right) (sym one) ∙ h.6))
 
 -- the rule of an instance
 pub told_instance : (g : Ground) (args : List ℕ) (c : Clause) (ps : List Pair) (p : Pair) (xs ys : List Rule) → PairsOf g args c.premises (Some ps) → PairOf g args c.conclusion (Some p) → ys ≡ xs ++ record { premises = ps; conclusion = p } ∷ [] → AddsInstance g args c xs ys
@@ -164,9 +165,9 @@ told_instance g args c ps p xs ys a b e d cs gr w =
     let ts : List Term = terms_at g args in
     let y : Rule = rule_of ps p.left p.right in
     rw e (adds_one (IsInstanceRule g c ts) xs y (ps, p.left, p.right, a d cs gr w, b d cs gr w, refl)
-      (λ r h.
-        let u = codes_unique d cs g gr (conclusion_at c ts) h.1 h.2 p.left p.right h.4 (b d cs gr w) in
-        h.5 ∙ rule_same h.0 ps h.1 h.2 p.left p.right (codes_all_unique d cs g gr (premises_at c ts) h.0 ps h.3 (a d cs gr w)) u.0 u.1))
+    (λ r h.
+    let u = codes_unique d cs g gr (conclusion_at c ts) h.1 h.2 p.left p.right h.4 (b d cs gr w) in
+    h.5 ∙ rule_same h.0 ps h.1 h.2 p.left p.right (codes_all_unique d cs g gr (premises_at c ts) h.0 ps h.3 (a d cs gr w)) u.0 u.1))
 
 pub told_no_premises : (g : Ground) (args : List ℕ) (c : Clause) (xs : List Rule) → PairsOf g args c.premises None → AddsInstance g args c xs xs
 unfolding PairsOf AddsInstance
@@ -195,9 +196,9 @@ told_place g c k args xs ys lt m a d cs gr =
     let ts : List Term = terms_at g args in
     let len : length ts ≡ c.variables = length-map args (term_at (ground_terms g)) ∙ h.1 in
     adds_iff (IsInstanceRule g c ts) (IsPlaceRule g c k) xs ys
-      (λ r i. (there.0, ts, there.1, len, h.2 there.0 there.1, i))
-      (λ r q. subst (λ (us : List Term). IsInstanceRule g c us r) (h.3 q.0 q.1 q.2 q.3 q.4) q.5)
-      (a d cs gr h.0)
+    (λ r i. (there.0, ts, there.1, len, h.2 there.0 there.1, i))
+    (λ r q. subst (λ (us : List Term). IsInstanceRule g c us r) (h.3 q.0 q.1 q.2 q.3 q.4) q.5)
+    (a d cs gr h.0)
 
 pub told_no_place : (g : Ground) (c : Clause) (k : ℕ) (xs : List Rule) → Matched g c k None → AddsRules g (IsPlaceRule g c k) xs xs
 unfolding Matched AddsRules
@@ -207,9 +208,9 @@ pub told_clause : (g : Ground) (all : List Clause) (k : ℕ) (c : Clause) (xs ys
 unfolding AddsRules
 told_clause g all k c xs ys at a d cs gr =
     adds_iff (Below (IsPlaceRule g c) (places_for g c.trigger)) (IsClauseRule g all k) xs ys
-      (λ r p. (c, at, p))
-      (λ r q. subst (λ (x : Clause). Below (IsPlaceRule g x) (places_for g x.trigger) r) (some_same (sym q.1 ∙ at)) q.2)
-      (a d cs gr)
+    (λ r p. (c, at, p))
+    (λ r q. subst (λ (x : Clause). Below (IsPlaceRule g x) (places_for g x.trigger) r) (some_same (sym q.1 ∙ at)) q.2)
+    (a d cs gr)
 
 -- all rules
 piece_ground : (d : Disjunct) (cs : List Clause) (g : Ground) → IsGround d cs g → (t : Trigger) (k : ℕ) (p : Piece) → IsPieceAt g t k p → IsGroundPiece d cs p
@@ -227,22 +228,25 @@ piece_found d cs g gr ts (trigger.Atom s us) h =
 rules_sound : (d : Disjunct) (cs : List Clause) (g : Ground) → IsGround d cs g → (xs ys zs : List Rule) → Adds (Below (IsLiteralRule g d.literals) (length d.literals)) [] xs → Adds (Below (IsExchangeRule g) (length g.equations)) xs ys → Adds (Below (IsClauseRule g cs) (length cs)) ys zs → (r : Rule) → Contains zs r → IsRule d cs g r
 rules_sound d cs g gr xs ys zs a b c r m =
     elim (c.only r m) [
-      inl n ↦ elim (b.only r n) [
-        inl o ↦ elim (a.only r o) [
-          inl p ↦ absurd (not_contains_nil r p)
+      | inl n ↦ elim (b.only r n) [
+        | inl o ↦ elim (a.only r o) [
+          | inl p ↦ absurd (not_contains_nil r p)
+          | inr q ↦
+              let h = q.2 in
+              subst (λ (x : Rule). IsRule d cs g x) (sym h.5) (of_literal h.0 h.1 h.2 (get_contains d.literals q.0 h.0 h.3) h.4)
+        ]
         | inr q ↦
             let h = q.2 in
-            subst (λ (x : Rule). IsRule d cs g x) (sym h.5) (of_literal h.0 h.1 h.2 (get_contains d.literals q.0 h.0 h.3) h.4) ]
+            subst (λ (x : Rule). IsRule d cs g x) (sym h.7) (of_exchange q.0 h.1 h.0 h.2 h.3 h.4 h.5 h.6)
+      ]
       | inr q ↦
-          let h = q.2 in
-          subst (λ (x : Rule). IsRule d cs g x) (sym h.7) (of_exchange q.0 h.1 h.0 h.2 h.3 h.4 h.5 h.6) ]
-    | inr q ↦
-        let e : Clause = q.2.0 in
-        let h = q.2.2.2 in
-        let ts : List Term = h.1 in
-        let i = h.5 in
-        let ground : IsGroundPiece d cs (trigger_filled ts e.trigger) = subst (λ (p : Piece). IsGroundPiece d cs p) (sym h.4) (piece_ground d cs g gr e.trigger q.2.2.0 h.0 h.2) in
-        subst (λ (x : Rule). IsRule d cs g x) (sym i.5) (of_instance e ts i.0 i.1 i.2 (get_contains cs q.0 e q.2.1) h.3 ground i.3 i.4) ]
+          let e : Clause = q.2.0 in
+          let h = q.2.2.2 in
+          let ts : List Term = h.1 in
+          let i = h.5 in
+          let ground : IsGroundPiece d cs (trigger_filled ts e.trigger) = subst (λ (p : Piece). IsGroundPiece d cs p) (sym h.4) (piece_ground d cs g gr e.trigger q.2.2.0 h.0 h.2) in
+          subst (λ (x : Rule). IsRule d cs g x) (sym i.5) (of_instance e ts i.0 i.1 i.2 (get_contains cs q.0 e q.2.1) h.3 ground i.3 i.4)
+    ]
 
 rules_complete : (d : Disjunct) (cs : List Clause) (g : Ground) → IsGround d cs g → (xs ys zs : List Rule) → Adds (Below (IsLiteralRule g d.literals) (length d.literals)) [] xs → Adds (Below (IsExchangeRule g) (length g.equations)) xs ys → Adds (Below (IsClauseRule g cs) (length cs)) ys zs → (r : Rule) → IsRule d cs g r → Contains zs r
 rules_complete d cs g gr xs ys zs a b c r (of_literal l i j mem code) =
@@ -260,7 +264,11 @@ unfolding AddsRules
 told_rules d cs g xs ys zs gr a b c r = (rules_sound d cs g gr xs ys zs (a d cs gr) (b d cs gr) (c d cs gr) r, rules_complete d cs g gr xs ys zs (a d cs gr) (b d cs gr) (c d cs gr) r)
 
 pub ruleset adds_rules = (adds_start, adds_more, adds_end)
+
 pub ruleset literal_rules = (told_literal, told_no_literal)
+
 pub ruleset exchange_rules = (told_exchange, told_no_exchange)
+
 pub ruleset instance_rules = (told_instance, told_no_premises, told_no_conclusion)
+
 pub ruleset place_rules = (told_place, told_no_place)

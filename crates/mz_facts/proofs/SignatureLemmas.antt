@@ -1,6 +1,6 @@
 -- A signature tells the head and the classes of the arguments.
 use Rattle.std.proofs.Common.{◌≡◌, ℕ, List, [], ◌∷◌, ◌++◌, refl, ap, sym, ◌∙◌, subst, Bool, true, false}
-use Rattle.std.specs.Prelude.{◌&&◌, nat_eq, Option, Some, if◌then◌else◌}
+use Rattle.std.specs.Prelude.{◌&&◌, nat_eq, Some, if◌then◌else◌}
 use Rattle.std.specs.Map.{lookup, KeepsOthers}
 use Rattle.std.specs.HashMap.{HashMap, UpdatesBy}
 use Rattle.std.proofs.lemmas.Bool.{eqb-true, eq-eqb}
@@ -95,6 +95,8 @@ pub inserted : {K X S : Type 0} (items : K → List ℕ) (m n : HashMap K X S) (
 unfolding KeepsOthers
 inserted {K} {X} {S} items m n key v u s =
     let here : (b : Bool) → is_list s (items key) ≡ b → lookup (λ k. is_list s (items k)) n.entries ≡ (if b then Some v else lookup (λ k. is_list s (items k)) m.entries)
-        = elim [ true ↦ λ e. subst (λ (z : List ℕ). lookup (λ k. is_list z (items k)) n.entries ≡ Some v) (sym (is_list_true s (items key) e)) u.1
-               | false ↦ λ e. u.3 (λ k. is_list s (items k)) (λ x y h. ap (λ (z : List ℕ). is_list z (items y)) (is_list_true s (items x) h)) (λ k h. ap (is_list s) (sym (is_list_true (items key) (items k) h)) ∙ e) ] in
+    = elim [
+      | true ↦ λ e. subst (λ (z : List ℕ). lookup (λ k. is_list z (items k)) n.entries ≡ Some v) (sym (is_list_true s (items key) e)) u.1
+      | false ↦ λ e. u.3 (λ k. is_list s (items k)) (λ x y h. ap (λ (z : List ℕ). is_list z (items y)) (is_list_true s (items x) h)) (λ k h. ap (is_list s) (sym (is_list_true (items key) (items k) h)) ∙ e)
+    ] in
     here (is_list s (items key)) refl

@@ -1,6 +1,6 @@
 -- Where a term stands by the entries, it is the term at the place.
-use Rattle.std.proofs.Common.{◌≡◌, ◌<◌, ◌≤◌, ◌+◌, ℕ, zero, suc, List, [], ◌∷◌, length, map, take, refl, ap, sym, ◌∙◌, subst, arith, true, false, Bool, get_or, add-one, inl, inr, ◌⊎◌}
-use Rattle.std.specs.Prelude.{slice_get, Some, None, Option, Contains, ◌&&◌, ◌↔◌, nat_eq, slice_index_or}
+use Rattle.std.proofs.Common.{◌≡◌, ◌<◌, ◌+◌, ℕ, zero, suc, List, [], ◌∷◌, length, map, take, refl, ap, sym, ◌∙◌, arith, true, false, Bool, get_or, add-one, inl, inr, ◌⊎◌}
+use Rattle.std.specs.Prelude.{slice_get, Some, None, Option, ◌&&◌, nat_eq, slice_index_or}
 use lib.Pointwise.{pointwise}
 use Rattle.std.proofs.lemmas.Bool.{eqb-true, eq-eqb}
 use Rattle.std.proofs.lemmas.Option.{slice_get_within, slice_get_read}
@@ -99,8 +99,9 @@ pub ruleset each_rules = (pointwise_lengths)
 pub none_so_far : {X : Type 0} (P : X → Bool) (xs : List X) (k : ℕ) (x : X) (b : Bool) → ((j : ℕ) (y : X) → j < k → slice_get xs j ≡ Some y → P y ≡ false) → slice_get xs k ≡ Some x → b ≡ P x → b ≡ false → (j : ℕ) (y : X) → j < k + 1 → slice_get xs j ≡ Some y → P y ≡ false
 none_so_far P xs k x b h at e f j y lt bt =
     elim (eqb_tells j k) [
-      inl q ↦ ap P (some_same (sym bt ∙ ap (slice_get xs) q.1 ∙ at)) ∙ sym e ∙ f
-    | inr q ↦ h j y (omega (arith, lt, q.1)) bt ]
+      | inl q ↦ ap P (some_same (sym bt ∙ ap (slice_get xs) q.1 ∙ at)) ∙ sym e ∙ f
+      | inr q ↦ h j y (omega (arith, lt, q.1)) bt
+    ]
 
 false_true : false ≡ true → ⊥
 false_true e = cc
@@ -148,10 +149,11 @@ map_none f (k ∷ ks) (suc n) e = map_none f ks n e
 bound_sound : (g : Ground) (args : List ℕ) (n i : ℕ) → is_same_place i (slice_get args n) ≡ true → index_filled (terms_at g args) n ≡ term_at (ground_terms g) i
 bound_sound g args n i h =
     elim (place_cases (slice_get args n)) [
-      inl p ↦ absurd (false_true (ap (is_same_place i) (sym p) ∙ h))
-    | inr p ↦
-        let e : nat_eq p.0 i ≡ true = ap (is_same_place i) (sym p.1) ∙ h in
-        index_found (terms_at g args) n (term_at (ground_terms g) p.0) (get_map (term_at (ground_terms g)) args n p.0 p.1) ∙ ap (term_at (ground_terms g)) (eqb-true p.0 i e) ]
+      | inl p ↦ absurd (false_true (ap (is_same_place i) (sym p) ∙ h))
+      | inr p ↦
+          let e : nat_eq p.0 i ≡ true = ap (is_same_place i) (sym p.1) ∙ h in
+          index_found (terms_at g args) n (term_at (ground_terms g) p.0) (get_map (term_at (ground_terms g)) args n p.0 p.1) ∙ ap (term_at (ground_terms g)) (eqb-true p.0 i e)
+    ]
 
 constant_sound : (m : ℕ) (ts : List Term) (x : GroundTerm) → is_constant m (Some x) ≡ true → Const m ≡ term_of_entry ts x
 constant_sound m ts (entry.Const n) h = ap Const (eqb-true m n h)
@@ -219,14 +221,15 @@ app_complete s us ts (entry.App r ks) e =
 bound_complete : (d : Disjunct) (cs : List Clause) (g : Ground) → IsGround d cs g → (args : List ℕ) → AllWithin g args → (n i : ℕ) → i < length g.terms → index_filled (terms_at g args) n ≡ term_at (ground_terms g) i → is_same_place i (slice_get args n) ≡ true
 bound_complete d cs g gr args w n i lt e =
     elim (place_cases (slice_get args n)) [
-      inl p ↦
-        let q = index_past (terms_at g args) n (map_none (term_at (ground_terms g)) args n p) in
-        let x = get_some g.terms i lt in
-        absurd (entry_not_bound (ground_terms g) x.0 q.0 (sym q.1 ∙ e ∙ term_entry d cs g gr i x.0 x.1))
-    | inr p ↦
-        let f : term_at (ground_terms g) p.0 ≡ term_at (ground_terms g) i = sym (index_found (terms_at g args) n (term_at (ground_terms g) p.0) (get_map (term_at (ground_terms g)) args n p.0 p.1)) ∙ e in
-        let k : p.0 ≡ i = term_unique d cs g gr p.0 i (term_at (ground_terms g) i) (w p.0 (get_contains args n p.0 p.1), f) (lt, refl) in
-        ap (is_same_place i) p.1 ∙ eq-eqb p.0 i k ]
+      | inl p ↦
+          let q = index_past (terms_at g args) n (map_none (term_at (ground_terms g)) args n p) in
+          let x = get_some g.terms i lt in
+          absurd (entry_not_bound (ground_terms g) x.0 q.0 (sym q.1 ∙ e ∙ term_entry d cs g gr i x.0 x.1))
+      | inr p ↦
+          let f : term_at (ground_terms g) p.0 ≡ term_at (ground_terms g) i = sym (index_found (terms_at g args) n (term_at (ground_terms g) p.0) (get_map (term_at (ground_terms g)) args n p.0 p.1)) ∙ e in
+          let k : p.0 ≡ i = term_unique d cs g gr p.0 i (term_at (ground_terms g) i) (w p.0 (get_contains args n p.0 p.1), f) (lt, refl) in
+          ap (is_same_place i) p.1 ∙ eq-eqb p.0 i k
+    ]
 
 terms_cons : {t u : Term} {ts us : Terms} → more t ts ≡ more u us → (t ≡ u) × (ts ≡ us)
 terms_cons e = (cc, cc)

@@ -1,6 +1,6 @@
 -- What the calls on facts tell.
-use Rattle.std.proofs.Common.{◌≡◌, ◌<◌, ◌≤◌, ◌+◌, ℕ, zero, suc, List, [], ◌∷◌, length, map, refl, ap, sym, ◌∙◌, subst, arith, true, false, Bool, inl, inr, ◌⊎◌}
-use Rattle.std.specs.Prelude.{slice_index, slice_get, Some, None, Option, Contains, nat_eq, ◌&&◌, ◌||◌, ◌↔◌, IsTrue, if◌then◌else◌}
+use Rattle.std.proofs.Common.{◌≡◌, ◌<◌, ◌≤◌, ℕ, List, [], ◌∷◌, length, map, refl, ap, sym, ◌∙◌, subst, arith, true, false, Bool, inl, inr, ◌⊎◌}
+use Rattle.std.specs.Prelude.{slice_index, slice_get, Some, nat_eq, ◌&&◌, ◌↔◌}
 use Rattle.std.proofs.lemmas.Bool.{eqb-true, eq-eqb}
 use Rattle.std.proofs.lemmas.Option.{slice_get_within}
 use Rattle.mz_logic.specs.declared.sym.Sym.{Sym}
@@ -29,11 +29,11 @@ use Rattle.mz_facts.specs.Codes.{IsTermPlace, IsAtomPlace, IsEquationPlace, IsGr
 use Rattle.mz_facts.specs.Pairing.{AllWithin, terms_at}
 use Rattle.mz_facts.specs.Stands.{stands, each_stands, atom_stands, equation_stands}
 use Rattle.mz_facts.specs.HoldsFacts.{flag_at, HoldsFacts, TellsFact, TellsContradictory}
-use Rattle.mz_facts.specs.Taken.{IsTaken, AtomClash, EquationClash, IsApart, TellsApart}
+use Rattle.mz_facts.specs.Taken.{IsTaken, AtomClash, EquationClash, TellsApart}
 use Rattle.mz_facts.proofs.RootLemmas.{cases_lt, past_end}
 use Rattle.mz_facts.proofs.ListLemmas.{some_same, get_some, get_contains, not_contains_nil}
-use Rattle.mz_facts.proofs.GroundLemmas.{term_ground, term_place, term_unique, atom_found, atom_unique, equation_found, equation_unique, equation_within}
-use Rattle.mz_facts.proofs.NodeLemmas.{length_nodes, term_within, atom_within, apart_within, yes_within}
+use Rattle.mz_facts.proofs.GroundLemmas.{term_place, atom_found, equation_found, equation_unique, equation_within}
+use Rattle.mz_facts.proofs.NodeLemmas.{term_within, atom_within, apart_within, yes_within}
 use Rattle.mz_facts.proofs.StandLemmas.{stands_sound, stands_complete, each_sound, each_complete, same_sym_true, same_sym_refl, first_true, second_true, filled_nil}
 use Rattle.mz_facts.proofs.UpLemmas.{exact_terms, exact_atom, exact_apart}
 
@@ -119,12 +119,12 @@ record Told (d : Disjunct) (cs : List Clause) (g : Ground) (f : Facts) : Type 0 
   apart : (k : ℕ) (e : GroundEquation) → slice_get g.equations k ≡ Some e → (flag_at f.apart.items k ≡ true) ↔ Fact d cs (Eq false (term_at (ground_terms g) e.left) (term_at (ground_terms g) e.right))
 
 told_holds : (d : Disjunct) (cs : List Clause) (g : Ground) (f : Facts) → g ≡ f.ground → IsGround d cs g → length f.classes.items ≡ length g.terms
-  → ((i : ℕ) → slice_index f.classes.items i ≤ i) → ((i : ℕ) → slice_index f.classes.items (slice_index f.classes.items i) ≡ slice_index f.classes.items i)
-  → ((i j : ℕ) → i < length g.terms → j < length g.terms → (slice_index f.classes.items i ≡ slice_index f.classes.items j) ↔ Fact d cs (Eq true (term_at (ground_terms g) i) (term_at (ground_terms g) j)))
-  → ((k : ℕ) (a : GroundAtom) → slice_get g.atoms k ≡ Some a → (flag_at f.positive.items k ≡ true) ↔ Fact d cs (Atom true a.sym (map (term_at (ground_terms g)) a.args)))
-  → ((k : ℕ) (a : GroundAtom) → slice_get g.atoms k ≡ Some a → (flag_at f.negative.items k ≡ true) ↔ Fact d cs (Atom false a.sym (map (term_at (ground_terms g)) a.args)))
-  → ((k : ℕ) (e : GroundEquation) → slice_get g.equations k ≡ Some e → (flag_at f.apart.items k ≡ true) ↔ Fact d cs (Eq false (term_at (ground_terms g) e.left) (term_at (ground_terms g) e.right)))
-  → HoldsFacts d cs f
+    → ((i : ℕ) → slice_index f.classes.items i ≤ i) → ((i : ℕ) → slice_index f.classes.items (slice_index f.classes.items i) ≡ slice_index f.classes.items i)
+    → ((i j : ℕ) → i < length g.terms → j < length g.terms → (slice_index f.classes.items i ≡ slice_index f.classes.items j) ↔ Fact d cs (Eq true (term_at (ground_terms g) i) (term_at (ground_terms g) j)))
+    → ((k : ℕ) (a : GroundAtom) → slice_get g.atoms k ≡ Some a → (flag_at f.positive.items k ≡ true) ↔ Fact d cs (Atom true a.sym (map (term_at (ground_terms g)) a.args)))
+    → ((k : ℕ) (a : GroundAtom) → slice_get g.atoms k ≡ Some a → (flag_at f.negative.items k ≡ true) ↔ Fact d cs (Atom false a.sym (map (term_at (ground_terms g)) a.args)))
+    → ((k : ℕ) (e : GroundEquation) → slice_get g.equations k ≡ Some e → (flag_at f.apart.items k ≡ true) ↔ Fact d cs (Eq false (term_at (ground_terms g) e.left) (term_at (ground_terms g) e.right)))
+    → HoldsFacts d cs f
 told_holds d cs g f gf gr lens small again equals pos neg away =
     let told : Told d cs g f = record { ground = gr; classes = lens; equal = equals; positive = pos; negative = neg; apart = away } in
     let here : Told d cs f.ground f = subst (λ (x : Ground). Told d cs x f) gf told in
@@ -137,37 +137,38 @@ told_taken d cs g gr graph h c ex f tk =
     let gf : g ≡ f.ground = sym tk.ground in
     let lens : length f.classes.items ≡ length g.terms = tk.classes_len in
     let small : (i : ℕ) → slice_index f.classes.items i ≤ i
-        = λ i. elim (cases_lt i (length g.terms)) [ inl lt ↦ omega (arith, tk.classes i lt, ex.descends i) | inr ge ↦ omega (arith, past_end f.classes.items i (omega (arith, ge, lens))) ] in
+    = λ i. elim (cases_lt i (length g.terms)) [ inl lt ↦ omega (arith, tk.classes i lt, ex.descends i) | inr ge ↦ omega (arith, past_end f.classes.items i (omega (arith, ge, lens))) ] in
     let zero_first : slice_index f.classes.items 0 ≡ 0 = omega (arith, small 0) in
     let again : (i : ℕ) → slice_index f.classes.items (slice_index f.classes.items i) ≡ slice_index f.classes.items i
-        = λ i. elim (cases_lt i (length g.terms)) [
-            inl lt ↦
-              let a : slice_index f.classes.items i ≡ slice_index c i = tk.classes i lt in
-              let b : slice_index f.classes.items (slice_index c i) ≡ slice_index c (slice_index c i) = tk.classes (slice_index c i) (omega (arith, ex.descends i, lt)) in
-              ap (slice_index f.classes.items) a ∙ b ∙ ex.flat i ∙ sym a
-          | inr ge ↦
-              let z : slice_index f.classes.items i ≡ 0 = past_end f.classes.items i (omega (arith, ge, lens)) in
-              ap (slice_index f.classes.items) z ∙ zero_first ∙ sym z ] in
+    = λ i. elim (cases_lt i (length g.terms)) [
+      | inl lt ↦
+          let a : slice_index f.classes.items i ≡ slice_index c i = tk.classes i lt in
+          let b : slice_index f.classes.items (slice_index c i) ≡ slice_index c (slice_index c i) = tk.classes (slice_index c i) (omega (arith, ex.descends i, lt)) in
+          ap (slice_index f.classes.items) a ∙ b ∙ ex.flat i ∙ sym a
+      | inr ge ↦
+          let z : slice_index f.classes.items i ≡ 0 = past_end f.classes.items i (omega (arith, ge, lens)) in
+          ap (slice_index f.classes.items) z ∙ zero_first ∙ sym z
+    ] in
     let equals : (i j : ℕ) → i < length g.terms → j < length g.terms → (slice_index f.classes.items i ≡ slice_index f.classes.items j) ↔ Fact d cs (Eq true (term_at (ground_terms g) i) (term_at (ground_terms g) j))
-        = λ i j li lj.
-            let a : slice_index f.classes.items i ≡ slice_index c i = tk.classes i li in
-            let b : slice_index f.classes.items j ≡ slice_index c j = tk.classes j lj in
-            let e : (slice_index c i ≡ slice_index c j) ↔ Equal graph i j = ex.same i j (omega (arith, n, term_within g i li)) (omega (arith, n, term_within g j lj)) in
-            let s : (slice_index f.classes.items i ≡ slice_index f.classes.items j) ↔ (slice_index c i ≡ slice_index c j) = (λ q. sym a ∙ q ∙ b, λ q. a ∙ q ∙ sym b) in
-            iff_through s (iff_through e (exact_terms d cs g gr graph h i j li lj)) in
+    = λ i j li lj.
+    let a : slice_index f.classes.items i ≡ slice_index c i = tk.classes i li in
+    let b : slice_index f.classes.items j ≡ slice_index c j = tk.classes j lj in
+    let e : (slice_index c i ≡ slice_index c j) ↔ Equal graph i j = ex.same i j (omega (arith, n, term_within g i li)) (omega (arith, n, term_within g j lj)) in
+    let s : (slice_index f.classes.items i ≡ slice_index f.classes.items j) ↔ (slice_index c i ≡ slice_index c j) = (λ q. sym a ∙ q ∙ b, λ q. a ∙ q ∙ sym b) in
+    iff_through s (iff_through e (exact_terms d cs g gr graph h i j li lj)) in
     let yes : yes_place g < length graph.nodes = omega (arith, n, yes_within g) in
     let atom : (positive : Bool) (k : ℕ) (a : GroundAtom) → slice_get g.atoms k ≡ Some a → (slice_index c (atom_place g positive k) ≡ slice_index c (yes_place g)) ↔ Fact d cs (Atom positive a.sym (map (term_at (ground_terms g)) a.args))
-        = λ positive k a at.
-            let lt : k < length g.atoms = slice_get_within g.atoms k a at in
-            iff_through (ex.same (atom_place g positive k) (yes_place g) (omega (arith, n, atom_within g positive k lt)) yes) (exact_atom d cs g gr graph h positive k a at) in
+    = λ positive k a at.
+    let lt : k < length g.atoms = slice_get_within g.atoms k a at in
+    iff_through (ex.same (atom_place g positive k) (yes_place g) (omega (arith, n, atom_within g positive k lt)) yes) (exact_atom d cs g gr graph h positive k a at) in
     let away : (k : ℕ) (e : GroundEquation) → slice_get g.equations k ≡ Some e → (slice_index c (apart_place g k) ≡ slice_index c (yes_place g)) ↔ Fact d cs (Eq false (term_at (ground_terms g) e.left) (term_at (ground_terms g) e.right))
-        = λ k e at.
-            let lt : k < length g.equations = slice_get_within g.equations k e at in
-            iff_through (ex.same (apart_place g k) (yes_place g) (omega (arith, n, apart_within g k lt)) yes) (exact_apart d cs g gr graph h k e at) in
+    = λ k e at.
+    let lt : k < length g.equations = slice_get_within g.equations k e at in
+    iff_through (ex.same (apart_place g k) (yes_place g) (omega (arith, n, apart_within g k lt)) yes) (exact_apart d cs g gr graph h k e at) in
     told_holds d cs g f gf gr lens small again equals
-      (λ k a at. nat_eq_iff (slice_index c (atom_place g true k)) (slice_index c (yes_place g)) (Fact d cs (Atom true a.sym (map (term_at (ground_terms g)) a.args))) (flag_at f.positive.items k) (tk.positive k (slice_get_within g.atoms k a at)) (atom true k a at))
-      (λ k a at. nat_eq_iff (slice_index c (atom_place g false k)) (slice_index c (yes_place g)) (Fact d cs (Atom false a.sym (map (term_at (ground_terms g)) a.args))) (flag_at f.negative.items k) (tk.negative k (slice_get_within g.atoms k a at)) (atom false k a at))
-      (λ k e at. nat_eq_iff (slice_index c (apart_place g k)) (slice_index c (yes_place g)) (Fact d cs (Eq false (term_at (ground_terms g) e.left) (term_at (ground_terms g) e.right))) (flag_at f.apart.items k) (tk.apart k (slice_get_within g.equations k e at)) (away k e at))
+    (λ k a at. nat_eq_iff (slice_index c (atom_place g true k)) (slice_index c (yes_place g)) (Fact d cs (Atom true a.sym (map (term_at (ground_terms g)) a.args))) (flag_at f.positive.items k) (tk.positive k (slice_get_within g.atoms k a at)) (atom true k a at))
+    (λ k a at. nat_eq_iff (slice_index c (atom_place g false k)) (slice_index c (yes_place g)) (Fact d cs (Atom false a.sym (map (term_at (ground_terms g)) a.args))) (flag_at f.negative.items k) (tk.negative k (slice_get_within g.atoms k a at)) (atom false k a at))
+    (λ k e at. nat_eq_iff (slice_index c (apart_place g k)) (slice_index c (yes_place g)) (Fact d cs (Eq false (term_at (ground_terms g) e.left) (term_at (ground_terms g) e.right))) (flag_at f.apart.items k) (tk.apart k (slice_get_within g.equations k e at)) (away k e at))
 
 -- a flag is set or not
 flag_cases : (b : Bool) → (b ≡ true) ⊎ (b ≡ false)
@@ -193,23 +194,27 @@ told_same f t u i j b li si lj sj e d cs h =
     let ti : term_at (ground_terms f.ground) i ≡ t = stands_term d cs f.ground h.ground t i li si in
     let uj : term_at (ground_terms f.ground) j ≡ u = stands_term d cs f.ground h.ground u j lj sj in
     let x : (slice_index f.classes.items i ≡ slice_index f.classes.items j) ↔ Fact d cs (Eq true t u)
-        = subst (λ (z : Term). (slice_index f.classes.items i ≡ slice_index f.classes.items j) ↔ Fact d cs (Eq true z u)) ti
-            (subst (λ (z : Term). (slice_index f.classes.items i ≡ slice_index f.classes.items j) ↔ Fact d cs (Eq true (term_at (ground_terms f.ground) i) z)) uj (h.equal i j li lj)) in
+    = subst (λ (z : Term). (slice_index f.classes.items i ≡ slice_index f.classes.items j) ↔ Fact d cs (Eq true z u)) ti
+    (subst (λ (z : Term). (slice_index f.classes.items i ≡ slice_index f.classes.items j) ↔ Fact d cs (Eq true (term_at (ground_terms f.ground) i) z)) uj (h.equal i j li lj)) in
     nat_eq_iff (slice_index f.classes.items i) (slice_index f.classes.items j) (Fact d cs (Eq true t u)) b e x
 
 pub told_no_left : (f : Facts) (t u : Term) → ((k : ℕ) → k < length f.ground.terms → stands f.ground.terms [] t k ≡ false) → TellsFact f (Eq true t u) false
 unfolding TellsFact
-told_no_left f t u n d cs h =
-    (λ q. absurd (false_not_true q), λ x.
+told_no_left f t u n d cs h = (
+  λ q. absurd (false_not_true q),
+  λ x.
       let p = fact_placed d cs f.ground h.ground (Eq true t u) x in
-      absurd (no_both (term_stands d cs f.ground h.ground t p.0.0 p.0.1) (n p.0.0 p.0.1.0)))
+      absurd (no_both (term_stands d cs f.ground h.ground t p.0.0 p.0.1) (n p.0.0 p.0.1.0)),
+)
 
 pub told_no_right : (f : Facts) (t u : Term) → ((k : ℕ) → k < length f.ground.terms → stands f.ground.terms [] u k ≡ false) → TellsFact f (Eq true t u) false
 unfolding TellsFact
-told_no_right f t u n d cs h =
-    (λ q. absurd (false_not_true q), λ x.
+told_no_right f t u n d cs h = (
+  λ q. absurd (false_not_true q),
+  λ x.
       let p = fact_placed d cs f.ground h.ground (Eq true t u) x in
-      absurd (no_both (term_stands d cs f.ground h.ground u p.1.0 p.1.1) (n p.1.0 p.1.1.0)))
+      absurd (no_both (term_stands d cs f.ground h.ground u p.1.0 p.1.1) (n p.1.0 p.1.1.0)),
+)
 
 -- atoms
 atom_is : (d : Disjunct) (cs : List Clause) (g : Ground) → IsGround d cs g → (s : Sym) (us : List Term) (k : ℕ) (a : GroundAtom) → slice_get g.atoms k ≡ Some a → atom_stands g.terms [] s us a ≡ true → (a.sym ≡ s) × (map (term_at (ground_terms g)) a.args ≡ us)
@@ -234,11 +239,13 @@ told_negative f s us k a b at st e d cs h =
 
 pub told_no_atom : (f : Facts) (positive : Bool) (s : Sym) (us : List Term) → ((k : ℕ) (a : GroundAtom) → slice_get f.ground.atoms k ≡ Some a → atom_stands f.ground.terms [] s us a ≡ false) → TellsFact f (Atom positive s us) false
 unfolding TellsFact
-told_no_atom f positive s us n d cs h =
-    (λ q. absurd (false_not_true q), λ x.
+told_no_atom f positive s us n d cs h = (
+  λ q. absurd (false_not_true q),
+  λ x.
       let p = fact_placed d cs f.ground h.ground (Atom positive s us) x in
       let q : IsAtomPlace f.ground p.0 s (map (filled []) us) = subst (λ (vs : List Term). IsAtomPlace f.ground p.0 s vs) (sym (filled_all_nil us)) p.1 in
-      absurd (no_both (atom_complete d cs f.ground h.ground [] (nil_within f.ground) s us p.0 q) (n p.0 q.0 q.1)))
+      absurd (no_both (atom_complete d cs f.ground h.ground [] (nil_within f.ground) s us p.0 q) (n p.0 q.0 q.1)),
+)
 
 -- equations that fail
 equation_nil : (g : Ground) (k : ℕ) (e : GroundEquation) (t u : Term) → IsEquationPlace g k e (filled [] t) (filled [] u) → IsEquationPlace g k e t u
@@ -270,12 +277,15 @@ pub told_second_apart : (f : Facts) (t u : Term) (b c : Bool) → b ≡ false �
 unfolding TellsFact TellsApart
 told_second_apart f t u true c e a y d cs h = absurd (no_both refl e)
 told_second_apart f t u false true e a y d cs h = let x = y d cs h.ground in (λ q. facts.turned u t ((apart_fact d cs f h u t x.0 x.1 x.2).0 x.3), λ z. refl)
-told_second_apart f t u false false e a y d cs h =
-    (λ q. absurd (false_not_true q), λ x.
+told_second_apart f t u false false e a y d cs h = (
+  λ q. absurd (false_not_true q),
+  λ x.
       let p = fact_placed d cs f.ground h.ground (Eq false t u) x in
       elim p.2 [
-        inl q ↦ absurd (a d cs h.ground p.0 p.1 q ((apart_fact d cs f h t u p.0 p.1 q).1 x))
-      | inr q ↦ absurd (y d cs h.ground p.0 p.1 q ((apart_fact d cs f h u t p.0 p.1 q).1 (facts.turned t u x))) ])
+        | inl q ↦ absurd (a d cs h.ground p.0 p.1 q ((apart_fact d cs f h t u p.0 p.1 q).1 x))
+        | inr q ↦ absurd (y d cs h.ground p.0 p.1 q ((apart_fact d cs f h u t p.0 p.1 q).1 (facts.turned t u x)))
+      ],
+)
 
 -- contradictory facts
 pub told_atom_clash : (f : Facts) (b : Bool) → b ≡ true → AtomClash f b → TellsContradictory f true
@@ -302,8 +312,9 @@ no_clash d cs f h a q (facts.on_atom s ts x y) =
 no_clash d cs f h a q (facts.on_equation t u x y) =
     let p = fact_placed d cs f.ground h.ground (Eq false t u) y in
     elim p.2 [
-      inl r ↦ no_equation_clash d cs f h q p.0 p.1 t u r x y
-    | inr r ↦ no_equation_clash d cs f h q p.0 p.1 u t r (facts.exchanged t u x) (facts.turned t u y) ]
+      | inl r ↦ no_equation_clash d cs f h q p.0 p.1 t u r x y
+      | inr r ↦ no_equation_clash d cs f h q p.0 p.1 u t r (facts.exchanged t u x) (facts.turned t u y)
+    ]
 
 pub told_equation_clash : (f : Facts) (b c : Bool) → b ≡ false → AtomClash f b → EquationClash f c → TellsContradictory f c
 unfolding TellsContradictory
@@ -317,6 +328,9 @@ told_equation_clash f false true e a q d cs h =
 told_equation_clash f false false e a q d cs h = (λ z. absurd (false_not_true z), λ x. absurd (no_clash d cs f h a q x))
 
 pub ruleset same_rules = (told_same, told_no_left, told_no_right)
+
 pub ruleset holds_rules = (told_positive, told_negative, told_no_atom, told_first_apart, told_second_apart)
+
 pub ruleset apart_rules = (told_apart, told_no_equation)
+
 pub ruleset clash_rules = (told_atom_clash, told_equation_clash)

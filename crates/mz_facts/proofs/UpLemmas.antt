@@ -1,6 +1,6 @@
 -- Each fact has two nodes that are equal by the rules of the graph.
-use Rattle.std.proofs.Common.{◌≡◌, ◌<◌, ◌≤◌, ◌+◌, ℕ, zero, suc, List, [], ◌∷◌, length, map, refl, ap, sym, ◌∙◌, subst, arith, true, false, Bool, inl, inr, ◌⊎◌}
-use Rattle.std.specs.Prelude.{slice_get, Some, None, Option, Contains, All, nat_lt, ◌↔◌}
+use Rattle.std.proofs.Common.{◌≡◌, ◌<◌, ℕ, suc, List, [], ◌∷◌, length, map, refl, ap, sym, ◌∙◌, subst, arith, true, false, Bool, inl, inr, ◌⊎◌}
+use Rattle.std.specs.Prelude.{slice_get, Some, Contains, All, nat_lt, ◌↔◌}
 use Rattle.std.specs.List.{list_all}
 use Rattle.std.proofs.lemmas.Option.{slice_get_within, get_or_from_slice_get}
 use Rattle.std.proofs.lemmas.Bool.{lt-ltb}
@@ -10,8 +10,7 @@ use Rattle.mz_logic.specs.Term.{Term, terms_of, list_of, list_of-terms_of}
 use Rattle.mz_logic.specs.declared.literal.Literal.{Literal}
 use Rattle.mz_logic.specs.declared.literal.Literal.TheVariants.{Atom, Eq}
 use Rattle.mz_logic.specs.declared.disjunct.Disjunct.{Disjunct}
-use Rattle.mz_ground.specs.Piece.{Piece, EquationPiece}
-use Rattle.mz_ground.specs.Layers.{IsGroundPiece, IsGroundTerm, IsGroundAtom, IsGroundLiteral}
+use Rattle.mz_ground.specs.Layers.{IsGroundLiteral}
 use Rattle.mz_ground.specs.Instance.{premises_at, conclusion_at}
 use Rattle.mz_ground.specs.Ground.{term_at, term_of_entry, ground_terms, IsGround}
 use Rattle.mz_ground.specs.Facts as facts
@@ -29,14 +28,14 @@ use Rattle.mz_facts.specs.declared.rule.Rule.{Rule}
 use Rattle.mz_facts.specs.declared.graph.Graph.{Graph}
 use Rattle.mz_facts.specs.Congruence as nodes
 use Rattle.mz_facts.specs.Congruence.{Equal, AllEqual, left_of, right_of}
-use Rattle.mz_facts.specs.Nodes.{term_node, atom_head, atom_node, apart_node, nodes_of, atom_place, apart_place, yes_place, OfTerm, OfLiteral, OfTruth, key_at}
+use Rattle.mz_facts.specs.Nodes.{atom_head, atom_node, nodes_of, atom_place, apart_place, yes_place, key_at}
 use Rattle.mz_facts.specs.Codes.{IsTermPlace, IsAtomPlace, IsEquationPlace, Codes, CodesAll, rule_of, IsRule, of_literal, of_exchange, of_instance, IsGraph}
 use Rattle.mz_facts.specs.Pairing.{AllWithin}
-use Rattle.mz_facts.specs.Closing.{below, pair_below, IsWithin}
-use Rattle.mz_facts.proofs.ListLemmas.{some_same, get_some, get_contains, contains_head, contains_tail}
+use Rattle.mz_facts.specs.Closing.{pair_below, IsWithin}
+use Rattle.mz_facts.proofs.ListLemmas.{get_some, get_contains, contains_head, contains_tail}
 use Rattle.mz_facts.proofs.GroundLemmas.{term_entry, term_place, term_unique, atom_found, atom_unique, equation_found, equation_unique, equation_within}
-use Rattle.mz_facts.proofs.NodeLemmas.{term_node_at, atom_node_at, term_key, atom_key, apart_key, yes_key, NodeStands, nodes_stand, term_within, atom_within, apart_within, yes_within, length_nodes, list_all_below}
-use Rattle.mz_facts.proofs.FactLemmas.{Means, down, terms_from, literal_from}
+use Rattle.mz_facts.proofs.NodeLemmas.{term_node_at, atom_node_at, term_key, atom_key, apart_key, yes_key, NodeStands, nodes_stand, term_within, atom_within, apart_within, yes_within, list_all_below}
+use Rattle.mz_facts.proofs.FactLemmas.{down, terms_from, literal_from}
 
 -- two nodes that stand for the literal: for equal terms any places of them, for terms that are apart the equation or its exchange
 abbrev pub At : Ground → Literal → ℕ → ℕ → Type 0
@@ -68,12 +67,15 @@ exchange_equal d cs g gr graph h k m e f t u p q =
 apart_equal : (d : Disjunct) (cs : List Clause) (g : Ground) → IsGround d cs g → (graph : Graph) → IsGraph d cs g graph → (k m : ℕ) (e f : GroundEquation) (t u : Term) → (IsEquationPlace g k e t u ⊎ IsEquationPlace g k e u t) → (IsEquationPlace g m f t u ⊎ IsEquationPlace g m f u t) → Equal graph (apart_place g k) (apart_place g m)
 apart_equal d cs g gr graph h k m e f t u p q =
     elim p [
-      inl a ↦ elim q [
-        inl b ↦ same_equal graph (apart_place g k) (apart_place g m) (ap (apart_place g) (equation_unique d cs g gr k m e f t u a b))
-      | inr b ↦ exchange_equal d cs g gr graph h k m e f t u a b ]
-    | inr a ↦ elim q [
-        inl b ↦ exchange_equal d cs g gr graph h k m e f u t a b
-      | inr b ↦ same_equal graph (apart_place g k) (apart_place g m) (ap (apart_place g) (equation_unique d cs g gr k m e f u t a b)) ] ]
+      | inl a ↦ elim q [
+        | inl b ↦ same_equal graph (apart_place g k) (apart_place g m) (ap (apart_place g) (equation_unique d cs g gr k m e f t u a b))
+        | inr b ↦ exchange_equal d cs g gr graph h k m e f t u a b
+      ]
+      | inr a ↦ elim q [
+        | inl b ↦ exchange_equal d cs g gr graph h k m e f u t a b
+        | inr b ↦ same_equal graph (apart_place g k) (apart_place g m) (ap (apart_place g) (equation_unique d cs g gr k m e f u t a b))
+      ]
+    ]
 
 -- the nodes of a literal are determined up to equality
 at_equal : (d : Disjunct) (cs : List Clause) (g : Ground) → IsGround d cs g → (graph : Graph) → IsGraph d cs g graph → (l : Literal) (i j i' j' : ℕ) → At g l i j → At g l i' j' → Equal graph i i' × Equal graph j j'
@@ -218,7 +220,7 @@ mutual
       let x : i ≡ r.left = term_unique d cs g gr i r.left t (a i (contains_head i is), cons_head p) r.at.0 in
       let y : r.right ≡ j = term_unique d cs g gr r.right j u r.at.1 (b j (contains_head j js), cons_head q) in
       nodes.more i j is js (nodes.chained i r.left j (same_equal graph i r.left x) (nodes.chained r.left r.right j r.equal (same_equal graph r.right j y)))
-        (up_args d cs g gr graph h vs ws es is js (λ k c. a k (contains_tail i k is c)) (λ k c. b k (contains_tail j k js c)) (cons_tail p) (cons_tail q))
+      (up_args d cs g gr graph h vs ws es is js (λ k c. a k (contains_tail i k is c)) (λ k c. b k (contains_tail j k js c)) (cons_tail p) (cons_tail q))
 
   up_all : (d : Disjunct) (cs : List Clause) (g : Ground) → IsGround d cs g → (graph : Graph) → IsGraph d cs g graph → (ls : List Literal) → AreFacts d cs ls → (ps : List Pair) → CodesAll g ls ps → AllEqual graph (map left_of ps) (map right_of ps)
   up_all d cs g gr graph h ls facts.no_literals [] c = nodes.none
@@ -228,42 +230,45 @@ mutual
       let r = up d cs g gr graph h l f in
       let x = at_equal d cs g gr graph h l p.left p.right r.left r.right (codes_at d cs g gr l p.left p.right c.0) r.at in
       nodes.more p.left p.right (map left_of ps) (map right_of ps) (nodes.chained p.left r.left p.right x.0 (nodes.chained r.left r.right p.right r.equal (nodes.exchanged p.right r.right x.1)))
-        (up_all d cs g gr graph h ms fs ps c.1)
+      (up_all d cs g gr graph h ms fs ps c.1)
 
 -- equal nodes are exactly the facts
 pub exact_terms : (d : Disjunct) (cs : List Clause) (g : Ground) → IsGround d cs g → (graph : Graph) → IsGraph d cs g graph → (i j : ℕ) → i < length g.terms → j < length g.terms → Equal graph i j ↔ Fact d cs (Eq true (term_at (ground_terms g) i) (term_at (ground_terms g) j))
 exact_terms d cs g gr graph h i j li lj =
     let t : Term = term_at (ground_terms g) i in
-    let u : Term = term_at (ground_terms g) j in
-    (λ e. terms_from d cs (key_at g i) (key_at g j) t u (term_key d cs g gr i li) (term_key d cs g gr j lj) (down d cs g gr graph h i j e),
-     λ f.
-       let r = up d cs g gr graph h (Eq true t u) f in
-       let x : i ≡ r.left = term_unique d cs g gr i r.left t (li, refl) r.at.0 in
-       let y : r.right ≡ j = term_unique d cs g gr r.right j u r.at.1 (lj, refl) in
-       nodes.chained i r.left j (same_equal graph i r.left x) (nodes.chained r.left r.right j r.equal (same_equal graph r.right j y)))
+    let u : Term = term_at (ground_terms g) j in (
+      λ e. terms_from d cs (key_at g i) (key_at g j) t u (term_key d cs g gr i li) (term_key d cs g gr j lj) (down d cs g gr graph h i j e),
+      λ f.
+          let r = up d cs g gr graph h (Eq true t u) f in
+          let x : i ≡ r.left = term_unique d cs g gr i r.left t (li, refl) r.at.0 in
+          let y : r.right ≡ j = term_unique d cs g gr r.right j u r.at.1 (lj, refl) in
+          nodes.chained i r.left j (same_equal graph i r.left x) (nodes.chained r.left r.right j r.equal (same_equal graph r.right j y)),
+    )
 
 pub exact_atom : (d : Disjunct) (cs : List Clause) (g : Ground) → IsGround d cs g → (graph : Graph) → IsGraph d cs g graph → (positive : Bool) (k : ℕ) (a : GroundAtom) → slice_get g.atoms k ≡ Some a → Equal graph (atom_place g positive k) (yes_place g) ↔ Fact d cs (Atom positive a.sym (map (term_at (ground_terms g)) a.args))
 exact_atom d cs g gr graph h positive k a at =
     let ts : List Term = map (term_at (ground_terms g)) a.args in
     let i : ℕ = atom_place g positive k in
-    let j : ℕ = yes_place g in
-    (λ e. literal_from d cs (key_at g i) (key_at g j) (Atom positive a.sym ts) (atom_key g positive k a at) (yes_key g) (down d cs g gr graph h i j e),
-     λ f.
-       let r = up d cs g gr graph h (Atom positive a.sym ts) f in
-       let x = at_equal d cs g gr graph h (Atom positive a.sym ts) i j r.left r.right (k, (a, at, refl, refl), refl, refl) r.at in
-       nodes.chained i r.left j x.0 (nodes.chained r.left r.right j r.equal (nodes.exchanged j r.right x.1)))
+    let j : ℕ = yes_place g in (
+      λ e. literal_from d cs (key_at g i) (key_at g j) (Atom positive a.sym ts) (atom_key g positive k a at) (yes_key g) (down d cs g gr graph h i j e),
+      λ f.
+          let r = up d cs g gr graph h (Atom positive a.sym ts) f in
+          let x = at_equal d cs g gr graph h (Atom positive a.sym ts) i j r.left r.right (k, (a, at, refl, refl), refl, refl) r.at in
+          nodes.chained i r.left j x.0 (nodes.chained r.left r.right j r.equal (nodes.exchanged j r.right x.1)),
+    )
 
 pub exact_apart : (d : Disjunct) (cs : List Clause) (g : Ground) → IsGround d cs g → (graph : Graph) → IsGraph d cs g graph → (k : ℕ) (e : GroundEquation) → slice_get g.equations k ≡ Some e → Equal graph (apart_place g k) (yes_place g) ↔ Fact d cs (Eq false (term_at (ground_terms g) e.left) (term_at (ground_terms g) e.right))
 exact_apart d cs g gr graph h k e at =
     let t : Term = term_at (ground_terms g) e.left in
     let u : Term = term_at (ground_terms g) e.right in
     let i : ℕ = apart_place g k in
-    let j : ℕ = yes_place g in
-    (λ q. literal_from d cs (key_at g i) (key_at g j) (Eq false t u) (apart_key g k e at) (yes_key g) (down d cs g gr graph h i j q),
-     λ f.
-       let r = up d cs g gr graph h (Eq false t u) f in
-       let x = at_equal d cs g gr graph h (Eq false t u) i j r.left r.right (k, e, inl (at, refl, refl), refl, refl) r.at in
-       nodes.chained i r.left j x.0 (nodes.chained r.left r.right j r.equal (nodes.exchanged j r.right x.1)))
+    let j : ℕ = yes_place g in (
+      λ q. literal_from d cs (key_at g i) (key_at g j) (Eq false t u) (apart_key g k e at) (yes_key g) (down d cs g gr graph h i j q),
+      λ f.
+          let r = up d cs g gr graph h (Eq false t u) f in
+          let x = at_equal d cs g gr graph h (Eq false t u) i j r.left r.right (k, e, inl (at, refl, refl), refl, refl) r.at in
+          nodes.chained i r.left j x.0 (nodes.chained r.left r.right j r.equal (nodes.exchanged j r.right x.1)),
+    )
 
 -- a disequation is a fact only where it or its exchange is ground
 pub apart_ground : (d : Disjunct) (cs : List Clause) (g : Ground) → IsGround d cs g → (graph : Graph) → IsGraph d cs g graph → (t u : Term) → Fact d cs (Eq false t u) → (k : ℕ) × (e : GroundEquation) × (IsEquationPlace g k e t u ⊎ IsEquationPlace g k e u t)
@@ -307,8 +312,8 @@ graph_within d cs g gr graph h =
     let n : length graph.nodes ≡ length (nodes_of g) = ap length h.nodes in
     record {
       args = λ i a at.
-        let s : NodeStands d cs g a = nodes_stand d cs g gr i a (ap (λ (ns : List Node). slice_get ns i) (sym h.nodes) ∙ at) in
-        list_all_below (length graph.nodes) a.args (λ k c. omega (arith, s.within k c, n, term_within g k (s.within k c)));
+          let s : NodeStands d cs g a = nodes_stand d cs g gr i a (ap (λ (ns : List Node). slice_get ns i) (sym h.nodes) ∙ at) in
+          list_all_below (length graph.nodes) a.args (λ k c. omega (arith, s.within k c, n, term_within g k (s.within k c)));
       premises = λ r c. rule_premises d cs g gr (length graph.nodes) n r (h.sound r c);
       conclusion = λ r c. let p = rule_conclusion d cs g gr r (h.sound r c) in (omega (arith, p.0, n), omega (arith, p.1, n));
     }

@@ -1,7 +1,7 @@
 -- The values of the indices of a trigger, as loops find them.
-use Rattle.std.proofs.Common.{◌≡◌, ◌<◌, ◌≤◌, ◌+◌, ℕ, zero, suc, List, [], ◌∷◌, ◌++◌, length, length-append, map, take, refl, ap, sym, ◌∙◌, subst, arith, true, false, Bool, get_or, inl, inr, ◌⊎◌, add-one}
+use Rattle.std.proofs.Common.{◌≡◌, ◌<◌, ◌≤◌, ◌+◌, ℕ, zero, suc, List, [], ◌∷◌, ◌++◌, length, length-append, take, refl, ap, sym, ◌∙◌, subst, arith, true, false, get_or, inl, inr, add-one}
 use Rattle.std.specs.Prelude.{slice_get, slice_index_or, Some, None, Option}
-use Rattle.std.proofs.lemmas.Option.{slice_get_within, slice_get_read}
+use Rattle.std.proofs.lemmas.Option.{slice_get_read}
 use Rattle.std.proofs.lemmas.List.{take_all}
 use Rattle.std.proofs.lemmas.Bool.Decides.{eqb_tells}
 use Rattle.mz_logic.specs.declared.sym.Sym.{Sym}
@@ -103,14 +103,18 @@ values_start g t k = (refl, λ j lt. absurd (omega (arith, lt)))
 pub values_more : (g : Ground) (t : Trigger) (k n p : ℕ) (args new : List ℕ) → AreValues g t k n args → trigger_value g n t k ≡ Some p → new ≡ args ++ p ∷ [] → AreValues g t k (n + 1) new
 values_more g t k n p args new a e q =
     let len : length (args ++ p ∷ []) ≡ length args + 1 = length-append args (p ∷ []) in
-    rw q (omega (arith, len, a.0), λ j lt.
-      elim (eqb_tells j n) [
-        inl x ↦
-          let here : slice_get (args ++ p ∷ []) j ≡ Some p = get_right args (p ∷ []) j 0 (omega (arith, x.1, a.0)) in
-          ap (λ (m : ℕ). trigger_value g m t k) x.1 ∙ e ∙ sym here
-      | inr x ↦
-          let y = get_some args j (omega (arith, lt, x.1, a.0)) in
-          a.1 j (omega (arith, lt, x.1)) ∙ y.1 ∙ sym (get_left args (p ∷ []) j y.0 y.1) ])
+    rw q (
+      omega (arith, len, a.0),
+      λ j lt.
+          elim (eqb_tells j n) [
+            | inl x ↦
+                let here : slice_get (args ++ p ∷ []) j ≡ Some p = get_right args (p ∷ []) j 0 (omega (arith, x.1, a.0)) in
+                ap (λ (m : ℕ). trigger_value g m t k) x.1 ∙ e ∙ sym here
+            | inr x ↦
+                let y = get_some args j (omega (arith, lt, x.1, a.0)) in
+                a.1 j (omega (arith, lt, x.1)) ∙ y.1 ∙ sym (get_left args (p ∷ []) j y.0 y.1)
+          ],
+    )
 
 pub finds_none : (g : Ground) (t : Trigger) (k n j : ℕ) → j < n → trigger_value g j t k ≡ None → FindsValues g t k n None
 finds_none g t k n j lt e = inl (j, lt, e)

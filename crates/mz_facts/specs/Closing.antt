@@ -1,13 +1,13 @@
 -- What each part of the closing of a graph keeps and reaches.
-use Rattle.std.specs.Prelude.{◌≡◌, ℕ, ◌+◌, ◌<◌, Bool, true, false, ◌&&◌, List, [], ◌∷◌, ◌++◌, map, length, slice_index, slice_get, slice_index_or, Some, None, Contains, nat_eq, nat_lt, ◌↔◌}
+use Rattle.std.specs.Prelude.{◌≡◌, ℕ, ◌<◌, ◌≤◌, Bool, true, false, ◌&&◌, List, ◌++◌, map, length, slice_index, slice_get, Some, Contains, nat_eq, nat_lt, ◌↔◌}
 use Rattle.std.specs.List.{list_all}
 use Rattle.mz_facts.specs.declared.node.Node.{Node}
 use Rattle.mz_facts.specs.declared.pair.Pair.{Pair}
 use Rattle.mz_facts.specs.declared.rule.Rule.{Rule}
 use Rattle.mz_facts.specs.declared.graph.Graph.{Graph}
 use Rattle.mz_facts.specs.declared.signatures.Signatures.{Signatures}
-use Rattle.mz_facts.specs.Congruence.{Equal, AllEqual, left_of, right_of}
-use Rattle.mz_facts.specs.Classes.{root, Descends, Flat, Progress, Sound}
+use Rattle.mz_facts.specs.Congruence.{Equal, AllEqual}
+use Rattle.mz_facts.specs.Classes.{root, Descends, Flat, total, Progress, Sound}
 use Rattle.mz_facts.specs.Signature.{head_code, signature, place_of}
 
 -- the pair is one by the classes
@@ -110,6 +110,12 @@ pub record FiredAll (g : Graph) (m : Bool) (c d : List ℕ) : Type 0 where
   pub state : State g d
   pub progress : Progress m c d
   pub met : MetBelow m g d (length g.rules)
+
+-- no rule is left
+pub record Saturated (g : Graph) (c d : List ℕ) : Type 0 where
+  pub state : State g d
+  pub less : total d ≤ total c
+  pub met : MetBelow false g d (length g.rules)
 
 -- no step is left
 abbrev pub DoneUnless : Bool → Graph → List ℕ → Type 0

@@ -1,6 +1,5 @@
 -- What a value of the type `Facts` stands for, and what its calls tell.
 use Rattle.std.specs.Prelude.{◌≡◌, ◌↔◌, ◌<◌, ◌≤◌, ℕ, Bool, true, false, List, map, length, slice_index, slice_get, Option, Some, None, IsTrue}
-use Rattle.mz_logic.specs.Term.{Term}
 use Rattle.mz_logic.specs.declared.literal.Literal.{Literal}
 use Rattle.mz_logic.specs.declared.literal.Literal.TheVariants.{Atom, Eq}
 use Rattle.mz_logic.specs.declared.disjunct.Disjunct.{Disjunct}

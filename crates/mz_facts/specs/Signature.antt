@@ -1,5 +1,5 @@
 -- The signature of a node: its head and the classes of its arguments, as a list of numbers.
-use Rattle.std.specs.Prelude.{◌≡◌, ℕ, Bool, List, [], ◌∷◌, ◌++◌, map, Option, nat_eq}
+use Rattle.std.specs.Prelude.{ℕ, Bool, List, [], ◌∷◌, ◌++◌, map, Option, nat_eq}
 use Rattle.std.specs.Map.{lookup}
 use lib.Pointwise.{pointwise}
 use Rattle.mz_logic.specs.declared.sym.Sym.{Sym}

@@ -1,5 +1,5 @@
 -- How facts are taken of the classes of nodes, and what the parts of the calls on facts tell.
-use Rattle.std.specs.Prelude.{◌≡◌, ◌<◌, ℕ, Bool, true, false, ◌&&◌, List, length, slice_index, slice_get, Some, nat_eq}
+use Rattle.std.specs.Prelude.{◌≡◌, ◌<◌, ℕ, Bool, true, false, List, length, slice_index, slice_get, Some, nat_eq}
 use Rattle.mz_logic.specs.Term.{Term}
 use Rattle.mz_logic.specs.declared.disjunct.Disjunct.{Disjunct}
 use Rattle.mz_ground.specs.Ground.{IsGround}

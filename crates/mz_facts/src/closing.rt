@@ -3,7 +3,7 @@ ghost use Rattle.std.specs.Prelude.{◌≡◌, ◌<◌, ◌++◌, length, IfOk, 
 ghost use Rattle.std.specs.List.{list_all};
 ghost use Rattle.mz_facts.specs.Classes.{root, Descends};
 ghost use Rattle.mz_facts.specs.Signature.{head_code, signature, sym_code, number_code, equation_code};
-ghost use Rattle.mz_facts.specs.Closing.{same, IsWithin, State, Entries, Entered, Swept, Fired, FiredAll, Exact};
+ghost use Rattle.mz_facts.specs.Closing.{same, IsWithin, State, Entries, Entered, Swept, Fired, FiredAll, Saturated, Exact};
 
 use crate::classes::{flatten, numbers, root_of, unite};
 use crate::graph::Graph;
@@ -157,6 +157,19 @@ fn fire_all(graph: &Graph, c: &mut [usize]) -> bool
     merged
 }
 
+/// Tries the rules until none makes nodes equal.
+fn saturate(graph: &Graph, c: &mut [usize])
+    requires within { IsWithin graph.now }
+    requires state { State graph.now c.old }
+    ensures { Saturated graph.now c.old c.new }
+{
+    let mut more = true;
+    'passes: while more {
+        let fired = fire_all(graph, c);
+        more = fired;
+    }
+}
+
 fn settle(alloc: Global, graph: &Graph, c: &mut [usize]) -> Result<(), AllocError>
     requires within { IsWithin graph.now }
     requires state { State graph.now c.old }
@@ -165,9 +178,9 @@ fn settle(alloc: Global, graph: &Graph, c: &mut [usize]) -> Result<(), AllocErro
     let mut more = true;
     'rounds: while more {
         flatten(c);
-        let fired = fire_all(graph, c);
+        saturate(graph, c);
         let alike = sweep(alloc, graph, c)?;
-        more = alike || fired;
+        more = alike;
     }
     flatten(c);
     Ok(())

@@ -20,13 +20,7 @@ fn value(terms: &GroundTerms, index: u32, t: &Term, place: usize) -> Option<usiz
     ensures { result ≡ value terms.now index t.now place }
 {
     match &t.node {
-        TermNode::Bound(n) => {
-            if *n == index {
-                Some(place)
-            } else {
-                None
-            }
-        }
+        TermNode::Bound(n) => { if *n == index { Some(place) } else { None } }
         TermNode::Const(_) => None,
         TermNode::App(_, us) => match entry_at(terms, place) {
             Some(entry) => match entry {

@@ -47,7 +47,11 @@ fn term_node(alloc: Global, t: &GroundTerm) -> Result<Node, AllocError>
 fn atom_head(positive: bool, sym: Sym) -> Head
     ensures { result ≡ atom_head positive sym }
 {
-    if positive { Head::Positive(sym) } else { Head::Negative(sym) }
+    if positive {
+        Head::Positive(sym)
+    } else {
+        Head::Negative(sym)
+    }
 }
 
 fn atom_node(alloc: Global, positive: bool, a: &GroundAtom) -> Result<Node, AllocError>

@@ -13,16 +13,17 @@ loop-k-init c = record {
 pub loop-k-preserved : goal.loop-k-preserved
 loop-k-preserved c =
     elim c.if-fire.branch [
-      then-fire w ↦ rw w.merged-is (record {
+      | then-fire w ↦ rw w.merged-is (record {
         state = c.fire.ensures.state;
         progress = progress_through _ _ _ _ c.loop-k.invariant.progress (rw w.if-fire.true at c.fire.ensures.progress);
         met = tt;
       })
-    | else-fire w ↦ rw w.merged-is (record {
+      | else-fire w ↦ rw w.merged-is (record {
         state = c.fire.ensures.state;
         progress = progress_same _ _ _ _ c.loop-k.invariant.progress (rw w.if-fire.false at c.fire.ensures.progress);
         met = met_more _ _ _ _ _ c.loop-k.invariant.met (rw w.if-fire.false at c.fire.ensures.progress) (rw w.if-fire.false at c.fire.ensures.met);
-      }) ]
+      })
+    ]
 
 pub returns : goal.returns
 returns c = record {

@@ -14,18 +14,19 @@ loop-i-init c = record {
 pub loop-i-preserved : goal.loop-i-preserved
 loop-i-preserved c =
     elim c.if-branch.branch [
-      then-branch w ↦ rw w.merged-is (record {
+      | then-branch w ↦ rw w.merged-is (record {
         state = c.in_ok-enter.ensures.state;
         progress = progress_through _ _ _ _ c.loop-i.invariant.progress (rw w.if-branch.true at c.in_ok-enter.ensures.progress);
         entries = c.in_ok-enter.ensures.entries;
         listed = tt;
       })
-    | else-branch w ↦ rw w.merged-is (record {
+      | else-branch w ↦ rw w.merged-is (record {
         state = c.in_ok-enter.ensures.state;
         progress = progress_same _ _ _ _ c.loop-i.invariant.progress (rw w.if-branch.false at c.in_ok-enter.ensures.progress);
         entries = c.in_ok-enter.ensures.entries;
         listed = listed_more _ _ _ _ _ _ _ c.loop-i.invariant.listed (rw w.if-branch.false at c.in_ok-enter.ensures.progress) c.in_ok-enter.ensures.grows (rw w.if-branch.false at c.in_ok-enter.ensures.listed);
-      }) ]
+      })
+    ]
 
 pub returns : goal.returns
 returns c = record {

@@ -1,4 +1,4 @@
-use Rattle.std.proofs.Common.{arith, ap, sym, ◌∙◌, length}
+use Rattle.std.proofs.Common.{arith, ap, sym, length}
 use Rattle.mz_facts.proofs.ValueLemmas.{each_value_more, each_value_found}
 use Rattle.mz_facts.proofs.matching.+value.Goals as goal
 
