@@ -113,22 +113,26 @@ iff_through p q = (λ x. q.0 (p.0 x), λ z. p.1 (q.1 z))
 record Told (d : Disjunct) (cs : List Clause) (g : Ground) (f : Facts) : Type 0 where
   ground : IsGround d cs g
   classes : length f.classes.items ≡ length g.terms
+  positive_count : length f.positive.items ≡ length g.atoms
+  negative_count : length f.negative.items ≡ length g.atoms
+  apart_count : length f.apart.items ≡ length g.equations
   equal : (i j : ℕ) → i < length g.terms → j < length g.terms → (slice_index f.classes.items i ≡ slice_index f.classes.items j) ↔ Fact d cs (Eq true (term_at (ground_terms g) i) (term_at (ground_terms g) j))
   positive : (k : ℕ) (a : GroundAtom) → slice_get g.atoms k ≡ Some a → (flag_at f.positive.items k ≡ true) ↔ Fact d cs (Atom true a.sym (map (term_at (ground_terms g)) a.args))
   negative : (k : ℕ) (a : GroundAtom) → slice_get g.atoms k ≡ Some a → (flag_at f.negative.items k ≡ true) ↔ Fact d cs (Atom false a.sym (map (term_at (ground_terms g)) a.args))
   apart : (k : ℕ) (e : GroundEquation) → slice_get g.equations k ≡ Some e → (flag_at f.apart.items k ≡ true) ↔ Fact d cs (Eq false (term_at (ground_terms g) e.left) (term_at (ground_terms g) e.right))
 
 told_holds : (d : Disjunct) (cs : List Clause) (g : Ground) (f : Facts) → g ≡ f.ground → IsGround d cs g → length f.classes.items ≡ length g.terms
+    → length f.positive.items ≡ length g.atoms → length f.negative.items ≡ length g.atoms → length f.apart.items ≡ length g.equations
     → ((i : ℕ) → slice_index f.classes.items i ≤ i) → ((i : ℕ) → slice_index f.classes.items (slice_index f.classes.items i) ≡ slice_index f.classes.items i)
     → ((i j : ℕ) → i < length g.terms → j < length g.terms → (slice_index f.classes.items i ≡ slice_index f.classes.items j) ↔ Fact d cs (Eq true (term_at (ground_terms g) i) (term_at (ground_terms g) j)))
     → ((k : ℕ) (a : GroundAtom) → slice_get g.atoms k ≡ Some a → (flag_at f.positive.items k ≡ true) ↔ Fact d cs (Atom true a.sym (map (term_at (ground_terms g)) a.args)))
     → ((k : ℕ) (a : GroundAtom) → slice_get g.atoms k ≡ Some a → (flag_at f.negative.items k ≡ true) ↔ Fact d cs (Atom false a.sym (map (term_at (ground_terms g)) a.args)))
     → ((k : ℕ) (e : GroundEquation) → slice_get g.equations k ≡ Some e → (flag_at f.apart.items k ≡ true) ↔ Fact d cs (Eq false (term_at (ground_terms g) e.left) (term_at (ground_terms g) e.right)))
     → HoldsFacts d cs f
-told_holds d cs g f gf gr lens small again equals pos neg away =
-    let told : Told d cs g f = record { ground = gr; classes = lens; equal = equals; positive = pos; negative = neg; apart = away } in
+told_holds d cs g f gf gr lens pc nc ac small again equals pos neg away =
+    let told : Told d cs g f = record { ground = gr; classes = lens; positive_count = pc; negative_count = nc; apart_count = ac; equal = equals; positive = pos; negative = neg; apart = away } in
     let here : Told d cs f.ground f = subst (λ (x : Ground). Told d cs x f) gf told in
-    record { ground = here.ground; classes = here.classes; least = small; first = again; equal = here.equal; positive = here.positive; negative = here.negative; apart = here.apart }
+    record { ground = here.ground; classes = here.classes; least = small; first = again; equal = here.equal; positive_count = here.positive_count; negative_count = here.negative_count; apart_count = here.apart_count; positive = here.positive; negative = here.negative; apart = here.apart }
 
 pub told_taken : (d : Disjunct) (cs : List Clause) (g : Ground) → IsGround d cs g → (graph : Graph) → IsGraph d cs g graph → (c : List ℕ) → Exact graph c → (f : Facts) → IsTaken g c f → HoldsFacts d cs f
 unfolding Descends Flat
@@ -165,7 +169,7 @@ told_taken d cs g gr graph h c ex f tk =
     = λ k e at.
     let lt : k < length g.equations = slice_get_within g.equations k e at in
     iff_through (ex.same (apart_place g k) (yes_place g) (omega (arith, n, apart_within g k lt)) yes) (exact_apart d cs g gr graph h k e at) in
-    told_holds d cs g f gf gr lens small again equals
+    told_holds d cs g f gf gr lens tk.positive_len tk.negative_len tk.apart_len small again equals
     (λ k a at. nat_eq_iff (slice_index c (atom_place g true k)) (slice_index c (yes_place g)) (Fact d cs (Atom true a.sym (map (term_at (ground_terms g)) a.args))) (flag_at f.positive.items k) (tk.positive k (slice_get_within g.atoms k a at)) (atom true k a at))
     (λ k a at. nat_eq_iff (slice_index c (atom_place g false k)) (slice_index c (yes_place g)) (Fact d cs (Atom false a.sym (map (term_at (ground_terms g)) a.args))) (flag_at f.negative.items k) (tk.negative k (slice_get_within g.atoms k a at)) (atom false k a at))
     (λ k e at. nat_eq_iff (slice_index c (apart_place g k)) (slice_index c (yes_place g)) (Fact d cs (Eq false (term_at (ground_terms g) e.left) (term_at (ground_terms g) e.right))) (flag_at f.apart.items k) (tk.apart k (slice_get_within g.equations k e at)) (away k e at))

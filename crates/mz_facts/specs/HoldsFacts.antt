@@ -26,6 +26,10 @@ pub record HoldsFacts (d : Disjunct) (cs : List Clause) (f : Facts) : Type 0 whe
   pub least : (i : ℕ) → slice_index f.classes.items i ≤ i
   pub first : (i : ℕ) → slice_index f.classes.items (slice_index f.classes.items i) ≡ slice_index f.classes.items i
   pub equal : (i j : ℕ) → i < length f.ground.terms → j < length f.ground.terms → (slice_index f.classes.items i ≡ slice_index f.classes.items j) ↔ Fact d cs (Eq true (term_at (ground_terms f.ground) i) (term_at (ground_terms f.ground) j))
+  -- a flag for each ground atom and equation
+  pub positive_count : length f.positive.items ≡ length f.ground.atoms
+  pub negative_count : length f.negative.items ≡ length f.ground.atoms
+  pub apart_count : length f.apart.items ≡ length f.ground.equations
   -- the ground atom k is a fact; so is its negation
   pub positive : (k : ℕ) (a : GroundAtom) → slice_get f.ground.atoms k ≡ Some a → (flag_at f.positive.items k ≡ true) ↔ Fact d cs (Atom true a.sym (map (term_at (ground_terms f.ground)) a.args))
   pub negative : (k : ℕ) (a : GroundAtom) → slice_get f.ground.atoms k ≡ Some a → (flag_at f.negative.items k ≡ true) ↔ Fact d cs (Atom false a.sym (map (term_at (ground_terms f.ground)) a.args))

@@ -15,6 +15,9 @@ use Rattle.mz_facts.specs.HoldsFacts.{flag_at}
 pub record IsTaken (g : Ground) (c : List ℕ) (f : Facts) : Type 0 where
   pub ground : f.ground ≡ g
   pub classes_len : length f.classes.items ≡ length g.terms
+  pub positive_len : length f.positive.items ≡ length g.atoms
+  pub negative_len : length f.negative.items ≡ length g.atoms
+  pub apart_len : length f.apart.items ≡ length g.equations
   pub classes : (k : ℕ) → k < length g.terms → slice_index f.classes.items k ≡ slice_index c k
   pub positive : (k : ℕ) → k < length g.atoms → flag_at f.positive.items k ≡ nat_eq (slice_index c (atom_place g true k)) (slice_index c (yes_place g))
   pub negative : (k : ℕ) → k < length g.atoms → flag_at f.negative.items k ≡ nat_eq (slice_index c (atom_place g false k)) (slice_index c (yes_place g))

@@ -152,7 +152,7 @@ fn held(
     yes: usize,
 ) -> Result<Vec<bool>, AllocError>
     requires { start + count ≤ yes }
-    ensures { IfOk result (λ bs. (k : ℕ) → k < count → slice_get bs.items k ≡ Some (nat_eq (slice_index c.now (start + k)) (slice_index c.now yes))) }
+    ensures { IfOk result (λ bs. (length bs.items ≡ count) × ((k : ℕ) → k < count → slice_get bs.items k ≡ Some (nat_eq (slice_index c.now (start + k)) (slice_index c.now yes)))) }
 {
     let mut out = Vec::new(alloc);
     for k in 0..count {
