@@ -1,0 +1,15 @@
+//! When an instance of a universal is refuted by facts.
+#![tactic(auto)]
+
+mod alike;
+pub mod answer;
+mod assignment;
+mod assignments;
+mod build;
+mod frame;
+mod matching;
+pub mod refuted;
+pub mod row;
+mod search;
+pub mod table;
+pub mod work;
