@@ -26,3 +26,7 @@ pub mod ListLaws
 pub mod PlaceLaws
 pub mod TabledLaws
 pub mod TermEquality
+pub mod RefutedSound
+pub mod CountLemmas
+pub mod WorkLemmas
+pub mod HeldLaws

@@ -18,3 +18,4 @@ pub mod Answered
 pub mod TermClass
 pub mod Entries
 pub mod Held
+pub mod Laws

@@ -7,6 +7,7 @@ mod assignment;
 mod assignments;
 mod build;
 mod frame;
+pub mod laws;
 mod matching;
 pub mod refuted;
 pub mod row;
