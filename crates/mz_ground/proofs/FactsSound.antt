@@ -32,7 +32,7 @@ use Rattle.mz_ground.specs.Facts as facts
 use Rattle.mz_ground.specs.Facts.{Fact, AreEqual, AreFacts, IsContradictory}
 use Rattle.mz_ground.specs.ClauseFormula.{quantified, implication, clause_formula}
 use Rattle.mz_ground.specs.Laws.{IsGranted}
-use Rattle.mz_ground.proofs.InstanceLemmas.{EachDerives, formula_puts-implication, quantified_out, implication_out}
+use Rattle.mz_ground.proofs.ClauseInstance.{EachDerives, formula_puts-implication, quantified_out, implication_out}
 
 -- what is ground has no index
 pub piece_closed-InLayer : (d : Disjunct) (cs : List Clause) (n : ℕ) (p : Piece) → InLayer d cs n p → piece_closed p ≡ true

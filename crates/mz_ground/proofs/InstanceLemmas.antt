@@ -1,203 +1,289 @@
--- An instance of a clause derives from the clause.
-use Rattle.std.proofs.Common.{◌≡◌, ◌<◌, ℕ, zero, suc, ◌+◌, ◌-◌, List, [], ◌∷◌, ◌++◌, map, length, refl, ap, sym, ◌∙◌, subst, arith, Bool, true, false}
-use Rattle.std.specs.List.{list_all}
-use Rattle.std.proofs.lemmas.Bool.{lt-ltb, le-ltb, ne_eqb, eq-eqb, and_parts}
+-- What putting the pieces of instances into a ground part leaves.
+use Rattle.std.proofs.Common.{◌≡◌, ◌<◌, ◌≤◌, ◌+◌, ℕ, zero, suc, List, [], ◌∷◌, ◌++◌, length, map, take, get_or, refl, sym as inverse, ap, ◌∙◌, subst, arith, ◌⊎◌, inl, inr, Option, Some, None}
+use Rattle.std.specs.Prelude.{Contains, slice_get}
+use Rattle.std.proofs.lemmas.List.{take-append-le, length-take-le, take-map, take_more, get_or-take, length-append, length-map}
+use Rattle.std.proofs.lemmas.List.Elements.{Contains-append_left, Contains-append_right, Contains-push_cases}
+use Rattle.std.proofs.lemmas.Option.{slice_get-get_or, none-some, same_Some}
+use Rattle.std.proofs.lemmas.Bool.{cases_lt}
 use Rattle.mz_logic.specs.declared.sym.Sym.{Sym}
-use Rattle.mz_logic.specs.Term.{Term, Terms, Bound, Const, App, none, more}
-use Rattle.mz_logic.specs.Formula as formula
-use Rattle.mz_logic.specs.Formula.{Formula, Truth, Not, And, All}
-use Rattle.mz_logic.specs.Indices.{closed}
-use Rattle.mz_logic.specs.Substitution.{put, put_args, put_formula}
-use Rattle.mz_logic.specs.Negation.{falsity}
-use Rattle.mz_logic.specs.Literal.{signed, literal_formula}
+use Rattle.mz_logic.specs.Term.{Term}
+use Rattle.mz_logic.specs.Literal.{literal_formula}
 use Rattle.mz_logic.specs.declared.literal.Literal.{Literal}
-use Rattle.mz_logic.specs.declared.literal.Literal.TheVariants.{Atom, Eq}
-use Rattle.mz_logic.specs.Derives.{Derives}
-use Rattle.mz_logic.proofs.SubstitutionLaws.{is_below-more, put-below}
-use Rattle.mz_logic.proofs.Rules.{and_in, not_in, not_out, classical, all_out}
-use Rattle.mz_logic.proofs.Connectives.{first, under}
-use Rattle.mz_ground.specs.Instance.{index_filled, filled, args_filled, literal_filled}
-use Rattle.mz_ground.specs.ClauseFormula.{quantified, joined, complement, implication}
+use Rattle.mz_ground.specs.Piece.{Piece, TermPiece, AtomPiece, EquationPiece, IsAtomPiece}
+use Rattle.mz_ground.specs.Instance.{filled, trigger_filled, literal_filled, premises_at, conclusion_at, instance_nodes}
+use Rattle.mz_ground.specs.Ground.{term_at, term_or_zero, ground_terms, ground_atoms, ground_equations, atom_piece, equation_piece, most_terms}
+use Rattle.mz_ground.specs.Layers.{most_nodes}
+use Rattle.mz_ground.specs.Table.{Extends, entry_terms}
+use Rattle.mz_ground.specs.Growth.{IsMember, IsNumbered, ReadsIn, Grows, IsPieceOf, IsPieceOfLiterals}
+use Rattle.mz_ground.specs.Instances.{piece_or_zero, piece_at, IsPiecePlace, IsMatchAt, IsMatch, IsInstancePiece, IsAddedBy, IsBefore, IsEndIn, IsPieceAt, IsTermBelow, IsAtomBelow}
+use Rattle.mz_ground.specs.declared.clause.Clause.{Clause}
+use Rattle.mz_ground.specs.declared.trigger.Trigger.{Trigger}
+use Rattle.mz_ground.specs.declared.trigger.Trigger.TheVariants as trigger
+use Rattle.mz_ground.specs.declared.ground.Ground.{Ground}
+use Rattle.mz_ground.specs.declared.ground_atom.GroundAtom.{GroundAtom}
+use Rattle.mz_ground.specs.declared.layer_end.LayerEnd.{LayerEnd}
+use Rattle.mz_ground.specs.declared.piece_place.PiecePlace.{PiecePlace}
+use Rattle.mz_ground.specs.declared.piece_place.PiecePlace.TheVariants as place
+use Rattle.mz_ground.proofs.ListLemmas.{contains_none, contains_first, contains_later, contains_cases}
+use Rattle.mz_ground.proofs.TableLemmas.{entry_terms-length, term_at_grown, get-term_at}
+use Rattle.mz_ground.proofs.GrowthLemmas.{grows_nothing, grows_both, grows_as, terms_grown, atoms_extend, equations_extend, reads_in_grown}
+use Rattle.mz_ground.proofs.PieceLemmas.{literals_more}
 
--- the cases of an index under n binders
-index_below : (n : ℕ) (t : Term) (index : ℕ) → index < n → put n t (Bound index) ≡ Bound index
-index_below n t index h = rw (lt-ltb index n h) refl
+-- an instance
+pub told_instance : (g h k : Ground) (args : List ℕ) (c : Clause) → ((ts : List Term) → ReadsIn g args ts → Grows g (IsPieceOfLiterals (map (literal_filled ts) c.premises)) h) → ((ts : List Term) → ReadsIn h args ts → Grows h (IsPieceOf (literal_formula (literal_filled ts c.conclusion))) k) → (ts : List Term) → ReadsIn g args ts → Grows g (IsPieceOfLiterals (premises_at c ts ++ conclusion_at c ts ∷ [])) k
+told_instance g h k args c a b ts r =
+    let first : Grows g (IsPieceOfLiterals (premises_at c ts)) h = a ts r in
+    literals_more g h k (premises_at c ts) (conclusion_at c ts) first (b ts (reads_in_grown g h (IsPieceOfLiterals (premises_at c ts)) args ts r first))
 
-index_equal : (n : ℕ) (t : Term) (index : ℕ) → index ≡ n → put n t (Bound index) ≡ t
-index_equal n t index h = rw (le-ltb index n (omega (arith, h)), eq-eqb index n h) refl
+pub ruleset instance_rules = (told_instance)
 
-index_above : (n : ℕ) (t : Term) (index : ℕ) → n < index → put n t (Bound index) ≡ Bound (index - 1)
-index_above n t index h = rw (le-ltb index n (omega arith), ne_eqb index n (λ e. omega (arith, e))) refl
+-- the one instance with a trigger
+matched_reads : (g : Ground) (c : Clause) (p : Piece) (places : List ℕ) → IsNumbered g → IsMatchAt g c p places → ReadsIn g places (map (term_at (ground_terms g)) places)
+matched_reads g c p places n m = record { numbered = n; within = m.within; terms = refl }
 
--- the terms put for the indices from n on, the last one first
-abbrev pub term_puts : ℕ → List Term → Term → Term
-term_puts n [] u = u
-term_puts n (t ∷ ts) u = put n t (term_puts (suc n) ts u)
+pub told_added : (g h : Ground) (c : Clause) (at : PiecePlace) (places : List ℕ) → IsNumbered g → IsMatch g c (piece_at g at) (Some places) → instance_nodes c (map (term_at (entry_terms g.terms)) places) ≤ most_nodes → ((ts : List Term) → ReadsIn g places ts → Grows g (IsPieceOfLiterals (premises_at c ts ++ conclusion_at c ts ∷ [])) h) → Grows g (IsInstancePiece c (IsPieceAt g at)) h
+told_added g h c at places n m le a =
+    let ts : List Term = map (term_at (ground_terms g)) places in
+    let b : Grows g (IsPieceOfLiterals (premises_at c ts ++ conclusion_at c ts ∷ [])) h = a ts (matched_reads g c (piece_at g at) places n m) in
+    grows_as g h (IsPieceOfLiterals (premises_at c ts ++ conclusion_at c ts ∷ [])) (IsInstancePiece c (IsPieceAt g at)) b
+    (λ p q. record { terms = ts; arity = length-map places (term_at (ground_terms g)) ∙ m.arity; trigger = record { is = m.instance }; nodes = le; piece = q })
+    (λ p q. subst (λ (us : List Term). IsPieceOfLiterals (premises_at c us ++ conclusion_at c us ∷ []) p) (m.only q.terms q.arity q.trigger.is) q.piece)
 
-abbrev pub args_puts : ℕ → List Term → Terms → Terms
-args_puts n [] us = us
-args_puts n (t ∷ ts) us = put_args n t (args_puts (suc n) ts us)
+pub told_too_large : (g : Ground) (c : Clause) (at : PiecePlace) (places : List ℕ) → IsNumbered g → IsMatch g c (piece_at g at) (Some places) → (instance_nodes c (map (term_at (entry_terms g.terms)) places) ≤ most_nodes → ⊥) → Grows g (IsInstancePiece c (IsPieceAt g at)) g
+told_too_large g c at places n m small =
+    grows_nothing g (IsInstancePiece c (IsPieceAt g at)) n
+    (λ p q. small (subst (λ (us : List Term). instance_nodes c us ≤ most_nodes) (m.only q.terms q.arity q.trigger.is) q.nodes))
 
-abbrev pub formula_puts : ℕ → List Term → Formula → Formula
-formula_puts n [] f = f
-formula_puts n (t ∷ ts) f = put_formula n t (formula_puts (suc n) ts f)
+pub told_unmatched : (g : Ground) (c : Clause) (at : PiecePlace) → IsNumbered g → IsMatch g c (piece_at g at) None → Grows g (IsInstancePiece c (IsPieceAt g at)) g
+told_unmatched g c at n m = grows_nothing g (IsInstancePiece c (IsPieceAt g at)) n (λ p q. m q.terms q.arity q.trigger.is)
 
--- what stands for the index that is k above n
-abbrev pub index_puts : ℕ → List Term → ℕ → Term
-index_puts n [] k = Bound (n + k)
-index_puts n (t ∷ ts) zero = t
-index_puts n (t ∷ ts) (suc k) = index_puts n ts k
+pub matched_places : (g : Ground) (c : Clause) (p : Piece) (places : List ℕ) → IsMatch g c p (Some places) → (k : ℕ) → Contains places k → k < length g.terms
+matched_places g c p places m k w = m.within k w
 
-index_puts-filled : (ts : List Term) (k : ℕ) → index_puts 0 ts k ≡ index_filled ts k
-index_puts-filled [] k = ap Bound (omega arith)
-index_puts-filled (t ∷ ts) zero = refl
-index_puts-filled (t ∷ ts) (suc k) = index_puts-filled ts k
+pub ruleset match_rules = (told_added, told_too_large, told_unmatched, matched_places)
 
-term_puts-low : (n : ℕ) (ts : List Term) (index : ℕ) → index < n → term_puts n ts (Bound index) ≡ Bound index
-term_puts-low n [] index h = refl
-term_puts-low n (t ∷ ts) index h = ap (put n t) (term_puts-low (suc n) ts index (omega arith)) ∙ index_below n t index h
+-- pieces of a ground part stay at their places
+pub term_kept : (g h : Ground) → Extends g.terms h.terms → (k : ℕ) → k < length g.terms → piece_at h (place.Term k) ≡ piece_at g (place.Term k)
+term_kept g h p k lt = ap TermPiece (term_at_grown g.terms h.terms p k lt)
 
-put-index_puts : (n : ℕ) (t : Term) (ts : List Term) (k : ℕ) → list_all closed ts ≡ true → put n t (index_puts (suc n) ts k) ≡ index_puts n ts k
-put-index_puts n t [] k h = index_above n t (suc n + k) (omega arith) ∙ ap Bound (omega arith)
-put-index_puts n t (u ∷ us) zero h =
-    let p : (closed u ≡ true) × (list_all closed us ≡ true) = and_parts (closed u) (list_all closed us) h in
-    put-below n t u (is_below-more 0 n u (omega arith) p.0)
-put-index_puts n t (u ∷ us) (suc k) h = put-index_puts n t us k (and_parts (closed u) (list_all closed us) h).1
+pub get_left : {A : Type 0} (xs ys : List A) (k : ℕ) → k < length xs → slice_get (xs ++ ys) k ≡ slice_get xs k
+get_left [] ys k lt = absurd (omega arith)
+get_left (x ∷ xs) ys zero lt = refl
+get_left (x ∷ xs) ys (suc k) lt = get_left xs ys k (omega arith)
 
-term_puts-index : (n : ℕ) (ts : List Term) (k : ℕ) → list_all closed ts ≡ true → term_puts n ts (Bound (n + k)) ≡ index_puts n ts k
-term_puts-index n [] k h = refl
-term_puts-index n (t ∷ ts) zero h = ap (put n t) (term_puts-low (suc n) ts (n + 0) (omega arith)) ∙ index_equal n t (n + 0) (omega arith)
-term_puts-index n (t ∷ ts) (suc k) h =
-    let p : (closed t ≡ true) × (list_all closed ts ≡ true) = and_parts (closed t) (list_all closed ts) h in
-    let e : (n + suc k) ≡ (suc n + k) = omega arith in
-    ap (λ i. put n t (term_puts (suc n) ts (Bound i))) e ∙ ap (put n t) (term_puts-index (suc n) ts k p.1) ∙ put-index_puts n t ts k p.1
+get_extended : {A : Type 0} (xs ys : List A) (k : ℕ) → Extends xs ys → k < length xs → slice_get ys k ≡ slice_get xs k
+get_extended xs ys k p lt = ap (λ z. slice_get z k) p.1 ∙ get_left xs p.0 k lt
 
-term_puts-const : (n : ℕ) (ts : List Term) (c : ℕ) → term_puts n ts (Const c) ≡ Const c
-term_puts-const n [] c = refl
-term_puts-const n (t ∷ ts) c = ap (put n t) (term_puts-const (suc n) ts c)
+pub atom_kept : (g h : Ground) → IsNumbered g → Extends g.terms h.terms → Extends g.atoms h.atoms → (k : ℕ) → k < length g.atoms → piece_at h (place.Atom k) ≡ piece_at g (place.Atom k)
+atom_kept g h n p q k lt = ap piece_or_zero (get_extended (ground_atoms g) (ground_atoms h) k (atoms_extend g h n p q) (omega (arith, length-map g.atoms (atom_piece (ground_terms g)))))
 
-term_puts-app : (n : ℕ) (ts : List Term) (s : Sym) (us : Terms) → term_puts n ts (App s us) ≡ App s (args_puts n ts us)
-term_puts-app n [] s us = refl
-term_puts-app n (t ∷ ts) s us = ap (put n t) (term_puts-app (suc n) ts s us)
+pub instance_as : (c : Clause) (P Q : Piece → Type 0) (p : Piece) → ((q : Piece) → P q → Q q) → IsInstancePiece c P p → IsInstancePiece c Q p
+instance_as c P Q p h i = record { terms = i.terms; arity = i.arity; trigger = h (trigger_filled i.terms c.trigger) i.trigger; nodes = i.nodes; piece = i.piece }
 
-args_puts-none : (n : ℕ) (ts : List Term) → args_puts n ts none ≡ none
-args_puts-none n [] = refl
-args_puts-none n (t ∷ ts) = ap (put_args n t) (args_puts-none (suc n) ts)
+-- one place after another
+pub terms_none : (g : Ground) (c : Clause) → IsNumbered g → Grows g (IsInstancePiece c (IsTermBelow g 0)) g
+terms_none g c n = grows_nothing g (IsInstancePiece c (IsTermBelow g 0)) n (λ p q. omega (arith, q.trigger.below))
 
-args_puts-more : (n : ℕ) (ts : List Term) (u : Term) (us : Terms) → args_puts n ts (more u us) ≡ more (term_puts n ts u) (args_puts n ts us)
-args_puts-more n [] u us = refl
-args_puts-more n (t ∷ ts) u us = ap (put_args n t) (args_puts-more (suc n) ts u us)
+pub atoms_none : (g : Ground) (c : Clause) → IsNumbered g → Grows g (IsInstancePiece c (IsAtomBelow g 0)) g
+atoms_none g c n = grows_nothing g (IsInstancePiece c (IsAtomBelow g 0)) n (λ p q. omega (arith, q.trigger.below))
 
-mutual
-  pub term_puts-filled : (ts : List Term) (u : Term) → list_all closed ts ≡ true → term_puts 0 ts u ≡ filled ts u
-  term_puts-filled ts (Bound index) h =
-      let e : index ≡ (0 + index) = omega arith in
-      ap (λ i. term_puts 0 ts (Bound i)) e ∙ term_puts-index 0 ts index h ∙ index_puts-filled ts index
-  term_puts-filled ts (Const number) h = term_puts-const 0 ts number
-  term_puts-filled ts (App s us) h = term_puts-app 0 ts s us ∙ ap (λ vs. App s vs) (args_puts-filled ts us h)
+term_below_cases : (g : Ground) (i : ℕ) (p : Piece) → IsTermBelow g (i + 1) p → IsTermBelow g i p ⊎ IsPieceAt g (place.Term i) p
+term_below_cases g i p q =
+    elim (cases_lt q.place i) [
+      | inl l ↦ inl (record { place = q.place; below = l; is = q.is })
+      | inr l ↦ let e : q.place ≡ i = omega (arith, q.below) in inr (record { is = q.is ∙ ap (λ k. piece_at g (place.Term k)) e })
+    ]
 
-  args_puts-filled : (ts : List Term) (us : Terms) → list_all closed ts ≡ true → args_puts 0 ts us ≡ args_filled ts us
-  args_puts-filled ts none h = args_puts-none 0 ts
-  args_puts-filled ts (more u us) h = args_puts-more 0 ts u us ∙ (λ i. more (term_puts-filled ts u h i) (args_puts-filled ts us h i))
+atom_below_cases : (g : Ground) (i : ℕ) (p : Piece) → IsAtomBelow g (i + 1) p → IsAtomBelow g i p ⊎ IsPieceAt g (place.Atom i) p
+atom_below_cases g i p q =
+    elim (cases_lt q.place i) [
+      | inl l ↦ inl (record { place = q.place; below = l; is = q.is })
+      | inr l ↦ let e : q.place ≡ i = omega (arith, q.below) in inr (record { is = q.is ∙ ap (λ k. piece_at g (place.Atom k)) e })
+    ]
 
--- formulas
-formula_puts-not : (n : ℕ) (ts : List Term) (f : Formula) → formula_puts n ts (Not f) ≡ Not (formula_puts n ts f)
-formula_puts-not n [] f = refl
-formula_puts-not n (t ∷ ts) f = ap (put_formula n t) (formula_puts-not (suc n) ts f)
+pub terms_more : (g h k : Ground) (c : Clause) (i : ℕ) → i < length g.terms → Grows g (IsInstancePiece c (IsTermBelow g i)) h → Grows h (IsInstancePiece c (IsPieceAt h (place.Term i))) k → Grows g (IsInstancePiece c (IsTermBelow g (i + 1))) k
+terms_more g h k c i lt a b =
+    let same : piece_at h (place.Term i) ≡ piece_at g (place.Term i) = term_kept g h a.terms i lt in
+    grows_as g k (λ p. IsInstancePiece c (IsTermBelow g i) p ⊎ IsInstancePiece c (IsPieceAt h (place.Term i)) p) (IsInstancePiece c (IsTermBelow g (i + 1))) (grows_both g h k (IsInstancePiece c (IsTermBelow g i)) (IsInstancePiece c (IsPieceAt h (place.Term i))) a b)
+    (λ p q. elim q [
+      | inl x ↦ instance_as c (IsTermBelow g i) (IsTermBelow g (i + 1)) p (λ r s. record { place = s.place; below = let l : s.place < i = s.below in omega arith; is = s.is }) x
+      | inr y ↦ instance_as c (IsPieceAt h (place.Term i)) (IsTermBelow g (i + 1)) p (λ r s. record { place = i; below = omega arith; is = s.is ∙ same }) y
+    ])
+    (λ p q. elim (term_below_cases g i (trigger_filled q.terms c.trigger) q.trigger) [
+      | inl x ↦ inl (record { terms = q.terms; arity = q.arity; trigger = x; nodes = q.nodes; piece = q.piece })
+      | inr y ↦ inr (record { terms = q.terms; arity = q.arity; trigger = record { is = y.is ∙ inverse same }; nodes = q.nodes; piece = q.piece })
+    ])
 
-formula_puts-and : (n : ℕ) (ts : List Term) (f g : Formula) → formula_puts n ts (And f g) ≡ And (formula_puts n ts f) (formula_puts n ts g)
-formula_puts-and n [] f g = refl
-formula_puts-and n (t ∷ ts) f g = ap (put_formula n t) (formula_puts-and (suc n) ts f g)
+pub atoms_more : (g h k : Ground) (c : Clause) (i : ℕ) → IsNumbered g → i < length g.atoms → Grows g (IsInstancePiece c (IsAtomBelow g i)) h → Grows h (IsInstancePiece c (IsPieceAt h (place.Atom i))) k → Grows g (IsInstancePiece c (IsAtomBelow g (i + 1))) k
+atoms_more g h k c i n lt a b =
+    let same : piece_at h (place.Atom i) ≡ piece_at g (place.Atom i) = atom_kept g h n a.terms a.atoms i lt in
+    grows_as g k (λ p. IsInstancePiece c (IsAtomBelow g i) p ⊎ IsInstancePiece c (IsPieceAt h (place.Atom i)) p) (IsInstancePiece c (IsAtomBelow g (i + 1))) (grows_both g h k (IsInstancePiece c (IsAtomBelow g i)) (IsInstancePiece c (IsPieceAt h (place.Atom i))) a b)
+    (λ p q. elim q [
+      | inl x ↦ instance_as c (IsAtomBelow g i) (IsAtomBelow g (i + 1)) p (λ r s. record { place = s.place; below = let l : s.place < i = s.below in omega arith; is = s.is }) x
+      | inr y ↦ instance_as c (IsPieceAt h (place.Atom i)) (IsAtomBelow g (i + 1)) p (λ r s. record { place = i; below = omega arith; is = s.is ∙ same }) y
+    ])
+    (λ p q. elim (atom_below_cases g i (trigger_filled q.terms c.trigger) q.trigger) [
+      | inl x ↦ inl (record { terms = q.terms; arity = q.arity; trigger = x; nodes = q.nodes; piece = q.piece })
+      | inr y ↦ inr (record { terms = q.terms; arity = q.arity; trigger = record { is = y.is ∙ inverse same }; nodes = q.nodes; piece = q.piece })
+    ])
 
-formula_puts-all : (n : ℕ) (ts : List Term) (f : Formula) → formula_puts n ts (All f) ≡ All (formula_puts (suc n) ts f)
-formula_puts-all n [] f = refl
-formula_puts-all n (t ∷ ts) f =
-    let e : (n + 1) ≡ suc n = omega arith in
-    ap (put_formula n t) (formula_puts-all (suc n) ts f) ∙ ap (λ m. All (put_formula m t (formula_puts (suc (suc n)) ts f))) e
+-- where there are more terms than the limit nothing is owed
+grows_full : (g h : Ground) (Q R : Piece → Type 0) → Grows g Q h → most_terms < length h.terms → ((p : Piece) → Q p → R p) → Grows g R h
+grows_full g h Q R a lt to =
+    record {
+      numbered = a.numbered;
+      terms = a.terms;
+      atoms = a.atoms;
+      equations = a.equations;
+      ends = a.ends;
+      sound = λ p w. elim (a.sound p w) [ inl v ↦ inl v | inr q ↦ inr (to p q) ];
+      complete = λ le p r. absurd (omega (arith, lt, le));
+    }
 
-formula_puts-eq : (n : ℕ) (ts : List Term) (a b : Term) → formula_puts n ts (formula.Eq a b) ≡ formula.Eq (term_puts n ts a) (term_puts n ts b)
-formula_puts-eq n [] a b = refl
-formula_puts-eq n (t ∷ ts) a b = ap (put_formula n t) (formula_puts-eq (suc n) ts a b)
+pub terms_full : (g h : Ground) (c : Clause) (i n : ℕ) → i < n → most_terms < length h.terms → Grows g (IsInstancePiece c (IsTermBelow g i)) h → Grows g (IsInstancePiece c (IsTermBelow g n)) h
+terms_full g h c i n lt full a =
+    grows_full g h (IsInstancePiece c (IsTermBelow g i)) (IsInstancePiece c (IsTermBelow g n)) a full
+    (λ p q. instance_as c (IsTermBelow g i) (IsTermBelow g n) p (λ r s. record { place = s.place; below = let l : s.place < i = s.below in omega arith; is = s.is }) q)
 
-map-puts : (n : ℕ) (t : Term) (ts us : List Term) → map (put n t) (map (term_puts (suc n) ts) us) ≡ map (term_puts n (t ∷ ts)) us
-map-puts n t ts [] = refl
-map-puts n t ts (u ∷ us) = ap (λ vs. put n t (term_puts (suc n) ts u) ∷ vs) (map-puts n t ts us)
+pub atoms_full : (g h : Ground) (c : Clause) (i n : ℕ) → i < n → most_terms < length h.terms → Grows g (IsInstancePiece c (IsAtomBelow g i)) h → Grows g (IsInstancePiece c (IsAtomBelow g n)) h
+atoms_full g h c i n lt full a =
+    grows_full g h (IsInstancePiece c (IsAtomBelow g i)) (IsInstancePiece c (IsAtomBelow g n)) a full
+    (λ p q. instance_as c (IsAtomBelow g i) (IsAtomBelow g n) p (λ r s. record { place = s.place; below = let l : s.place < i = s.below in omega arith; is = s.is }) q)
 
-map-puts-none : (n : ℕ) (us : List Term) → us ≡ map (term_puts n []) us
-map-puts-none n [] = refl
-map-puts-none n (u ∷ us) = ap (λ vs. u ∷ vs) (map-puts-none n us)
+pub term_place : (g h : Ground) (Q : Piece → Type 0) (i n : ℕ) → i < n → n ≤ length g.terms → Grows g Q h → IsPiecePlace h (place.Term i)
+term_place g h Q i n lt le a = omega (arith, ap length a.terms.1, length-append g.terms a.terms.0)
 
-formula_puts-atom : (n : ℕ) (ts : List Term) (s : Sym) (us : List Term) → formula_puts n ts (formula.Atom s us) ≡ formula.Atom s (map (term_puts n ts) us)
-formula_puts-atom n [] s us = ap (λ vs. formula.Atom s vs) (map-puts-none n us)
-formula_puts-atom n (t ∷ ts) s us = ap (put_formula n t) (formula_puts-atom (suc n) ts s us) ∙ ap (λ vs. formula.Atom s vs) (map-puts n t ts us)
+pub atom_place : (g h : Ground) (Q : Piece → Type 0) (i n : ℕ) → i < n → n ≤ length g.atoms → Grows g Q h → IsPiecePlace h (place.Atom i)
+atom_place g h Q i n lt le a = omega (arith, ap length a.atoms.1, length-append g.atoms a.atoms.0)
 
-map-filled : (ts us : List Term) → list_all closed ts ≡ true → map (term_puts 0 ts) us ≡ map (filled ts) us
-map-filled ts [] h = refl
-map-filled ts (u ∷ us) h = λ i. term_puts-filled ts u h i ∷ map-filled ts us h i
+pub numbered_after : (g h : Ground) (Q : Piece → Type 0) → Grows g Q h → IsNumbered h
+numbered_after g h Q a = a.numbered
 
-formula_puts-signed : (n : ℕ) (ts : List Term) (positive : Bool) (f : Formula) → formula_puts n ts (signed positive f) ≡ signed positive (formula_puts n ts f)
-formula_puts-signed n ts true f = refl
-formula_puts-signed n ts false f = formula_puts-not n ts f
+pub ruleset places_rules = (terms_none, atoms_none, terms_more, atoms_more, terms_full, atoms_full, term_place, atom_place, numbered_after)
 
-formula_puts-literal : (ts : List Term) (l : Literal) → list_all closed ts ≡ true → formula_puts 0 ts (literal_formula l) ≡ literal_formula (literal_filled ts l)
-formula_puts-literal ts (Atom positive s us) h =
-    formula_puts-signed 0 ts positive (formula.Atom s us) ∙ ap (signed positive) (formula_puts-atom 0 ts s us ∙ ap (λ vs. formula.Atom s vs) (map-filled ts us h))
-formula_puts-literal ts (Eq positive a b) h =
-    formula_puts-signed 0 ts positive (formula.Eq a b) ∙ ap (signed positive) (formula_puts-eq 0 ts a b ∙ (λ i. formula.Eq (term_puts-filled ts a h i) (term_puts-filled ts b h i)))
+-- a place below an end, and a piece before it
+contains_take : {A : Type 0} (xs : List A) (n k : ℕ) (x : A) → k < n → slice_get xs k ≡ Some x → Contains (take n xs) x
+contains_take [] n k x lt e = absurd (none-some x e)
+contains_take (y ∷ ys) zero k x lt e = absurd (omega arith)
+contains_take {A} (y ∷ ys) (suc n) zero x lt e = subst (λ (z : A). Contains (y ∷ take n ys) z) (same_Some y x e) (contains_first y (take n ys))
+contains_take (y ∷ ys) (suc n) (suc k) x lt e = contains_later y x (take n ys) (contains_take ys n k x (omega arith) e)
 
-formula_puts-joined : (n : ℕ) (ts : List Term) (f : Formula) (fs : List Formula) → formula_puts n ts (joined f fs) ≡ joined (formula_puts n ts f) (map (formula_puts n ts) fs)
-formula_puts-joined n ts f [] = refl
-formula_puts-joined n ts f (g ∷ gs) = formula_puts-joined n ts (And f g) gs ∙ ap (λ h. joined h (map (formula_puts n ts) gs)) (formula_puts-and n ts f g)
+pub take_contains : {A : Type 0} (xs : List A) (n : ℕ) (x : A) → Contains (take n xs) x → (k : ℕ) × (k < n) × (slice_get xs k ≡ Some x)
+take_contains xs zero x w = absurd (contains_none x w)
+take_contains [] (suc n) x w = absurd (contains_none x w)
+take_contains (y ∷ ys) (suc n) x w =
+    elim (contains_cases y x (take n ys) w) [
+      | inl e ↦ (0, omega arith, ap Some e)
+      | inr v ↦ let r = take_contains ys n x v in (suc r.0, omega (arith, r.1), r.2)
+    ]
 
-complement-filled : (ts : List Term) (l : Literal) → complement (literal_filled ts l) ≡ literal_filled ts (complement l)
-complement-filled ts (Atom positive s us) = refl
-complement-filled ts (Eq positive t u) = refl
+trigger_term_before : (g : Ground) (e : LayerEnd) (t : Term) → IsEndIn g e → IsTermBelow g e.terms (TermPiece t) → Contains (take e.terms (ground_terms g)) t
+trigger_term_before g e t h q =
+    let lt : q.place < length (ground_terms g) = omega (arith, q.below, h.terms, entry_terms-length g.terms) in
+    let same : t ≡ term_at (ground_terms g) q.place = let s : TermPiece t ≡ TermPiece (term_at (ground_terms g) q.place) = q.is in cc in
+    contains_take (ground_terms g) e.terms q.place t q.below (get-term_at (ground_terms g) q.place lt ∙ ap Some (inverse same))
 
-parts-filled : (ts : List Term) (ls : List Literal) (l : Literal) → list_all closed ts ≡ true → map (formula_puts 0 ts) (map literal_formula ls ++ literal_formula l ∷ []) ≡ map literal_formula (map (literal_filled ts) ls) ++ literal_formula (literal_filled ts l) ∷ []
-parts-filled ts [] l h = ap (λ f. f ∷ []) (formula_puts-literal ts l h)
-parts-filled ts (k ∷ ks) l h = λ i. formula_puts-literal ts k h i ∷ parts-filled ts ks l h i
+trigger_term_below : (g : Ground) (e : LayerEnd) (t : Term) → Contains (take e.terms (ground_terms g)) t → IsTermBelow g e.terms (TermPiece t)
+trigger_term_below g e t w =
+    let r = take_contains (ground_terms g) e.terms t w in
+    record { place = r.0; below = r.1; is = ap TermPiece (inverse (ap term_or_zero r.2)) }
 
-pub formula_puts-implication : (ts : List Term) (ls : List Literal) (l : Literal) → list_all closed ts ≡ true → formula_puts 0 ts (implication ls l) ≡ implication (map (literal_filled ts) ls) (literal_filled ts l)
-formula_puts-implication ts [] l h = formula_puts-literal ts l h
-formula_puts-implication ts (k ∷ ks) l h =
-    let parts : List Formula = map literal_formula ks ++ literal_formula (complement l) ∷ [] in
-    let moved : map (formula_puts 0 ts) parts ≡ (map literal_formula (map (literal_filled ts) ks) ++ literal_formula (complement (literal_filled ts l)) ∷ []) =
-    parts-filled ts ks (complement l) h ∙ ap (λ m. map literal_formula (map (literal_filled ts) ks) ++ literal_formula m ∷ []) (sym (complement-filled ts l)) in
-    formula_puts-not 0 ts (joined (literal_formula k) parts) ∙ ap Not (formula_puts-joined 0 ts (literal_formula k) parts ∙ (λ i. joined (formula_puts-literal ts k h i) (moved i)))
+trigger_atom_before : (g : Ground) (e : LayerEnd) (s : Sym) (ts : List Term) → IsEndIn g e → IsAtomBelow g e.atoms (AtomPiece s ts) → Contains (take e.atoms (ground_atoms g)) (AtomPiece s ts)
+trigger_atom_before g e s ts h q =
+    let lt : q.place < length (ground_atoms g) = omega (arith, q.below, h.atoms, length-map g.atoms (atom_piece (ground_terms g))) in
+    let at : slice_get (ground_atoms g) q.place ≡ Some (get_or (ground_atoms g) q.place (AtomPiece s ts)) = slice_get-get_or (ground_atoms g) q.place (AtomPiece s ts) lt in
+    contains_take (ground_atoms g) e.atoms q.place (AtomPiece s ts) q.below (at ∙ ap Some (inverse (q.is ∙ ap piece_or_zero at)))
 
--- a quantified formula at closed terms
-pub quantified_out : (ax g : List Formula) (ts : List Term) (f : Formula) → list_all closed ts ≡ true → Derives ax g (quantified (length ts) f) → Derives ax g (formula_puts 0 ts f)
-quantified_out ax g [] f h d = d
-quantified_out ax g (t ∷ ts) f h d =
-    let p : (closed t ≡ true) × (list_all closed ts ≡ true) = and_parts (closed t) (list_all closed ts) h in
-    let inner : Derives ax g (formula_puts 0 ts (All f)) = quantified_out ax g ts (All f) p.1 d in
-    all_out ax g (formula_puts 1 ts f) t p.0 (subst (Derives ax g) (formula_puts-all 0 ts f) inner)
+trigger_atom_below : (g : Ground) (e : LayerEnd) (s : Sym) (ts : List Term) → Contains (take e.atoms (ground_atoms g)) (AtomPiece s ts) → IsAtomBelow g e.atoms (AtomPiece s ts)
+trigger_atom_below g e s ts w =
+    let r = take_contains (ground_atoms g) e.atoms (AtomPiece s ts) w in
+    record { place = r.0; below = r.1; is = inverse (ap piece_or_zero r.2) }
 
--- each formula derives
-abbrev pub EachDerives : List Formula → List Formula → List Formula → Type 0
-EachDerives ax g [] = Unit {0}
-EachDerives ax g (f ∷ fs) = Derives ax g f × EachDerives ax g fs
+-- the trigger of an instance, by its form
+pub told_terms : (g h : Ground) (c : Clause) (e : LayerEnd) (t : Term) → c.trigger ≡ trigger.Term t → IsEndIn g e → Grows g (IsInstancePiece c (IsTermBelow g e.terms)) h → Grows g (IsInstancePiece c (IsBefore g e)) h
+told_terms g h c e t q w a =
+    let piece : (ts : List Term) → trigger_filled ts c.trigger ≡ TermPiece (filled ts t) = λ ts. ap (trigger_filled ts) q in
+    grows_as g h (IsInstancePiece c (IsTermBelow g e.terms)) (IsInstancePiece c (IsBefore g e)) a
+    (λ p i. record {
+      terms = i.terms;
+      arity = i.arity;
+      nodes = i.nodes;
+      piece = i.piece;
+      trigger = subst (λ (z : Piece). IsBefore g e z) (inverse (piece i.terms)) (trigger_term_before g e (filled i.terms t) w (subst (λ (z : Piece). IsTermBelow g e.terms z) (piece i.terms) i.trigger));
+    })
+    (λ p i. record {
+      terms = i.terms;
+      arity = i.arity;
+      nodes = i.nodes;
+      piece = i.piece;
+      trigger = subst (λ (z : Piece). IsTermBelow g e.terms z) (inverse (piece i.terms)) (trigger_term_below g e (filled i.terms t) (subst (λ (z : Piece). IsBefore g e z) (piece i.terms) i.trigger));
+    })
 
-pub joined_in : (ax g : List Formula) (f : Formula) (fs : List Formula) → Derives ax g f → EachDerives ax g fs → Derives ax g (joined f fs)
-joined_in ax g f [] d e = d
-joined_in ax g f (k ∷ ks) d e = joined_in ax g (And f k) ks (and_in ax g f k d e.0) e.1
+pub told_atoms : (g h : Ground) (c : Clause) (e : LayerEnd) (s : Sym) (us : List Term) → c.trigger ≡ trigger.Atom s us → IsEndIn g e → Grows g (IsInstancePiece c (IsAtomBelow g e.atoms)) h → Grows g (IsInstancePiece c (IsBefore g e)) h
+told_atoms g h c e s us q w a =
+    let piece : (ts : List Term) → trigger_filled ts c.trigger ≡ AtomPiece s (map (filled ts) us) = λ ts. ap (trigger_filled ts) q in
+    grows_as g h (IsInstancePiece c (IsAtomBelow g e.atoms)) (IsInstancePiece c (IsBefore g e)) a
+    (λ p i. record {
+      terms = i.terms;
+      arity = i.arity;
+      nodes = i.nodes;
+      piece = i.piece;
+      trigger = subst (λ (z : Piece). IsBefore g e z) (inverse (piece i.terms)) (trigger_atom_before g e s (map (filled i.terms) us) w (subst (λ (z : Piece). IsAtomBelow g e.atoms z) (piece i.terms) i.trigger));
+    })
+    (λ p i. record {
+      terms = i.terms;
+      arity = i.arity;
+      nodes = i.nodes;
+      piece = i.piece;
+      trigger = subst (λ (z : Piece). IsAtomBelow g e.atoms z) (inverse (piece i.terms)) (trigger_atom_below g e s (map (filled i.terms) us) (subst (λ (z : Piece). IsBefore g e z) (piece i.terms) i.trigger));
+    })
 
--- the literal derives where its complement gives falsity
-pub by_complement : (ax g : List Formula) (l : Literal) → Derives ax (literal_formula (complement l) ∷ g) falsity → Derives ax g (literal_formula l)
-by_complement ax g (Atom true s ts) d = classical ax g (formula.Atom s ts) d
-by_complement ax g (Atom false s ts) d = not_in ax g (formula.Atom s ts) d
-by_complement ax g (Eq true t u) d = classical ax g (formula.Eq t u) d
-by_complement ax g (Eq false t u) d = not_in ax g (formula.Eq t u) d
+pub end_terms : (g : Ground) (e : LayerEnd) → IsEndIn g e → e.terms ≤ length g.terms
+end_terms g e h = h.terms
 
-each_under : (ax g : List Formula) (k : Formula) (ls : List Literal) (l : Formula) → EachDerives ax g (map literal_formula ls) → Derives ax (k ∷ g) l → EachDerives ax (k ∷ g) (map literal_formula ls ++ l ∷ [])
-each_under ax g k [] l e d = (d, tt)
-each_under ax g k (m ∷ ms) l e d = (under ax g k (literal_formula m) e.0, each_under ax g k ms l e.1 d)
+pub end_atoms : (g : Ground) (e : LayerEnd) → IsEndIn g e → e.atoms ≤ length g.atoms
+end_atoms g e h = h.atoms
 
-pub implication_out : (ax g : List Formula) (ls : List Literal) (l : Literal) → Derives ax g (implication ls l) → EachDerives ax g (map literal_formula ls) → Derives ax g (literal_formula l)
-implication_out ax g [] l d e = d
-implication_out ax g (k ∷ ks) l d e =
-    let c : Formula = literal_formula (complement l) in
-    let parts : List Formula = map literal_formula ks ++ c ∷ [] in
-    let all : Derives ax (c ∷ g) (joined (literal_formula k) parts) =
-    joined_in ax (c ∷ g) (literal_formula k) parts (under ax g c (literal_formula k) e.0) (each_under ax g c ks c e.1 (first ax g c)) in
-    by_complement ax g l (not_out ax (c ∷ g) (joined (literal_formula k) parts) falsity all (under ax g c (implication (k ∷ ks) l) d))
+pub ruleset clause_rules = (told_terms, told_atoms, end_terms, end_atoms)
+
+-- what stands before an end stays there
+take_extended : {A : Type 0} (xs ys : List A) (n : ℕ) → Extends xs ys → n ≤ length xs → take n ys ≡ take n xs
+take_extended xs ys n p le = ap (take n) p.1 ∙ take-append-le n xs p.0 le
+
+pub before_kept : (g h : Ground) (e : LayerEnd) → IsNumbered g → Extends g.terms h.terms → Extends g.atoms h.atoms → Extends g.equations h.equations → IsEndIn g e → (p : Piece) → IsBefore g e p → IsBefore h e p
+before_kept g h e n a b c w (TermPiece t) q = subst (λ (z : List Term). Contains z t) (inverse (take_extended (ground_terms g) (ground_terms h) e.terms (_, terms_grown g h a) (omega (arith, w.terms, entry_terms-length g.terms)))) q
+before_kept g h e n a b c w (AtomPiece s ts) q = subst (λ (z : List Piece). Contains z (AtomPiece s ts)) (inverse (take_extended (ground_atoms g) (ground_atoms h) e.atoms (atoms_extend g h n a b) (omega (arith, w.atoms, length-map g.atoms (atom_piece (ground_terms g)))))) q
+before_kept g h e n a b c w (EquationPiece t u) q = subst (λ (z : List Piece). Contains z (EquationPiece t u)) (inverse (take_extended (ground_equations g) (ground_equations h) e.equations (equations_extend g h n a c) (omega (arith, w.equations, length-map g.equations (equation_piece (ground_terms g)))))) q
+
+pub before_back : (g h : Ground) (e : LayerEnd) → IsNumbered g → Extends g.terms h.terms → Extends g.atoms h.atoms → Extends g.equations h.equations → IsEndIn g e → (p : Piece) → IsBefore h e p → IsBefore g e p
+before_back g h e n a b c w (TermPiece t) q = subst (λ (z : List Term). Contains z t) (take_extended (ground_terms g) (ground_terms h) e.terms (_, terms_grown g h a) (omega (arith, w.terms, entry_terms-length g.terms))) q
+before_back g h e n a b c w (AtomPiece s ts) q = subst (λ (z : List Piece). Contains z (AtomPiece s ts)) (take_extended (ground_atoms g) (ground_atoms h) e.atoms (atoms_extend g h n a b) (omega (arith, w.atoms, length-map g.atoms (atom_piece (ground_terms g))))) q
+before_back g h e n a b c w (EquationPiece t u) q = subst (λ (z : List Piece). Contains z (EquationPiece t u)) (take_extended (ground_equations g) (ground_equations h) e.equations (equations_extend g h n a c) (omega (arith, w.equations, length-map g.equations (equation_piece (ground_terms g))))) q
+
+pub end_kept : (g h : Ground) (Q : Piece → Type 0) (e : LayerEnd) → IsEndIn g e → Grows g Q h → IsEndIn h e
+end_kept g h Q e w a =
+    record {
+      terms = omega (arith, w.terms, ap length a.terms.1, length-append g.terms a.terms.0);
+      atoms = omega (arith, w.atoms, ap length a.atoms.1, length-append g.atoms a.atoms.0);
+      equations = omega (arith, w.equations, ap length a.equations.1, length-append g.equations a.equations.0);
+    }
+
+-- one clause after another
+pub clauses_none : (g : Ground) (old : Piece → Type 0) → IsNumbered g → Grows g (IsAddedBy [] old) g
+clauses_none g old n = grows_nothing g (IsAddedBy [] old) n (λ p q. contains_none q.clause q.among)
+
+pub clauses_more : (g h k : Ground) (cs : List Clause) (i : ℕ) (c : Clause) (e : LayerEnd) → IsNumbered g → IsEndIn g e → i < length cs → c ≡ get_or cs i c → Grows g (IsAddedBy (take i cs) (IsBefore g e)) h → Grows h (IsInstancePiece c (IsBefore h e)) k → Grows g (IsAddedBy (take (i + 1) cs) (IsBefore g e)) k
+clauses_more g h k cs i c e n w lt same a b =
+    let more : take (i + 1) cs ≡ take i cs ++ c ∷ [] = take_more cs i c lt ∙ ap (λ z. take i cs ++ z ∷ []) (inverse same) in
+    let to : (p : Piece) → IsAddedBy (take i cs) (IsBefore g e) p ⊎ IsInstancePiece c (IsBefore h e) p → IsAddedBy (take i cs ++ c ∷ []) (IsBefore g e) p = λ p q. elim q [
+      | inl x ↦ record { clause = x.clause; among = Contains-append_left (take i cs) (c ∷ []) x.clause x.among; instance = x.instance }
+      | inr y ↦ record { clause = c; among = Contains-append_right (take i cs) (c ∷ []) c (contains_first c []); instance = instance_as c (IsBefore h e) (IsBefore g e) p (before_back g h e n a.terms a.atoms a.equations w) y }
+    ] in
+    let from : (p : Piece) → IsAddedBy (take i cs ++ c ∷ []) (IsBefore g e) p → IsAddedBy (take i cs) (IsBefore g e) p ⊎ IsInstancePiece c (IsBefore h e) p = λ p q. elim (Contains-push_cases (take i cs) c q.clause q.among) [
+      | inl x ↦ inl (record { clause = q.clause; among = x; instance = q.instance })
+      | inr r ↦ inr (subst (λ (z : Clause). IsInstancePiece z (IsBefore h e) p) (inverse r) (instance_as q.clause (IsBefore g e) (IsBefore h e) p (before_kept g h e n a.terms a.atoms a.equations w) q.instance))
+    ] in
+    subst (λ (z : List Clause). Grows g (IsAddedBy z (IsBefore g e)) k) (inverse more)
+    (grows_as g k (λ p. IsAddedBy (take i cs) (IsBefore g e) p ⊎ IsInstancePiece c (IsBefore h e) p) (IsAddedBy (take i cs ++ c ∷ []) (IsBefore g e)) (grows_both g h k (IsAddedBy (take i cs) (IsBefore g e)) (IsInstancePiece c (IsBefore h e)) a b) to from)
+
+pub ruleset clauses_rules = (clauses_none, clauses_more, end_kept, numbered_after)

@@ -1,2 +1,13 @@
+pub mod VariableLemmas
+pub mod ListLemmas
+pub mod TableLemmas
+pub mod AddLemmas
+pub mod MatchLemmas
+pub mod TriggerLemmas
+pub mod NodeLemmas
+pub mod GrowthLemmas
+pub mod PieceLemmas
 pub mod InstanceLemmas
+pub mod LayerLemmas
+pub mod ClauseInstance
 pub mod FactsSound

@@ -6,3 +6,9 @@ pub mod Ground
 pub mod Facts
 pub mod ClauseFormula
 pub mod Laws
+pub mod Table
+pub mod Matches
+pub mod Growth
+pub mod Nodes
+pub mod Instances
+pub mod Making

@@ -1,5 +1,5 @@
 // Lists of clauses.
-ghost use Rattle.std.specs.Prelude.{◌≡◌, ◌<◌, [], ◌∷◌, ◌++◌, length, slice_get, Some, OnOk, OnErr};
+ghost use Rattle.std.specs.Prelude.{◌≡◌, ◌<◌, [], ◌∷◌, ◌++◌, length, slice_get, Some, IfOk, OnOk, OnErr};
 
 use crate::clause::Clause;
 use std::alloc::{AllocError, Global};
@@ -56,5 +56,16 @@ impl Clauses {
     {
         self.items.push(c)?;
         Ok(())
+    }
+
+    /// An equal list.
+    pub fn copy(&self, alloc: Global) -> Result<Clauses, AllocError>
+        ensures { IfOk result (λ items. items ≡ self.now) }
+    {
+        let mut out = Vec::new(alloc);
+        for item in &self.items {
+            out.push(item.copy(alloc)?)?;
+        }
+        Ok(Clauses { items: out })
     }
 }

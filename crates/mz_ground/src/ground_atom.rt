@@ -1,10 +1,33 @@
 // Ground atoms, by the places of their arguments.
+ghost use Rattle.std.specs.Prelude.{◌≡◌, ◌↔◌, IsTrue, IfOk};
+
 use crate::places::Places;
 use mz_logic::sym::Sym;
+use std::alloc::{AllocError, Global};
 
 /// A ground atom: a symbol with arguments, each by its place in the list of ground terms.
 #[derive(Drop)]
 pub struct GroundAtom {
     pub sym: Sym,
     pub args: Places,
+}
+
+impl GroundAtom {
+    /// Whether two entries are equal.
+    pub fn equals(&self, other: &GroundAtom) -> bool
+        ensures { IsTrue result ↔ (self.now ≡ other.now) }
+    {
+        self.sym.is(other.sym) && self.args.equals(&other.args)
+    }
+
+    /// An equal entry.
+    pub fn copy(&self, alloc: Global) -> Result<GroundAtom, AllocError>
+        ensures { IfOk result (λ e. e ≡ self.now) }
+    {
+        let args = self.args.copy(alloc)?;
+        Ok(GroundAtom {
+            sym: self.sym,
+            args,
+        })
+    }
 }

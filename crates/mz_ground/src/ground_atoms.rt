@@ -1,5 +1,6 @@
 // Lists of ground atoms.
-ghost use Rattle.std.specs.Prelude.{◌≡◌, ◌<◌, [], ◌∷◌, ◌++◌, length, slice_get, Some, OnOk, OnErr};
+ghost use Rattle.std.specs.Prelude.{◌≡◌, ◌<◌, ℕ, [], ◌∷◌, ◌++◌, length, slice_get, Some, MatchOption, IfOk, OnOk, OnErr};
+ghost use Rattle.mz_ground.specs.Table.{IsPlaced};
 
 use crate::ground_atom::GroundAtom;
 use std::alloc::{AllocError, Global};
@@ -56,5 +57,42 @@ impl GroundAtoms {
     {
         self.items.push(item)?;
         Ok(())
+    }
+
+    /// The place of an item, which is put at the end where the list lacks it.
+    pub fn place(&mut self, item: GroundAtom) -> Result<usize, AllocError>
+        ensures { IfOk result (λ k. IsPlaced self.old item self.new k) }
+    {
+        match self.find(&item) {
+            Some(place) => Ok(place),
+            None => {
+                let place = self.items.len();
+                self.push(item)?;
+                Ok(place)
+            }
+        }
+    }
+
+    /// The place of an item, if the list has it.
+    pub fn find(&self, item: &GroundAtom) -> Option<usize>
+        ensures { MatchOption result ((k : ℕ) → slice_get self.now k ≡ Some item.now → ⊥) (λ k. slice_get self.now k ≡ Some item.now) }
+    {
+        for k in 0..self.items.len() {
+            if self.items[k].equals(item) {
+                return Some(k);
+            }
+        }
+        None
+    }
+
+    /// An equal list.
+    pub fn copy(&self, alloc: Global) -> Result<GroundAtoms, AllocError>
+        ensures { IfOk result (λ items. items ≡ self.now) }
+    {
+        let mut out = Vec::new(alloc);
+        for item in &self.items {
+            out.push(item.copy(alloc)?)?;
+        }
+        Ok(GroundAtoms { items: out })
     }
 }

@@ -1,5 +1,5 @@
 // Lists of ends of layers.
-ghost use Rattle.std.specs.Prelude.{◌≡◌, ◌<◌, [], ◌∷◌, ◌++◌, length, slice_get, Some, OnOk, OnErr};
+ghost use Rattle.std.specs.Prelude.{◌≡◌, ◌<◌, [], ◌∷◌, ◌++◌, length, slice_get, Some, IfOk, OnOk, OnErr};
 
 use crate::layer_end::LayerEnd;
 use std::alloc::{AllocError, Global};
@@ -56,5 +56,16 @@ impl LayerEnds {
     {
         self.items.push(item)?;
         Ok(())
+    }
+
+    /// An equal list.
+    pub fn copy(&self, alloc: Global) -> Result<LayerEnds, AllocError>
+        ensures { IfOk result (λ items. items ≡ self.now) }
+    {
+        let mut out = Vec::new(alloc);
+        for item in &self.items {
+            out.push(*item)?;
+        }
+        Ok(LayerEnds { items: out })
     }
 }

@@ -14,5 +14,6 @@ pub mod ground_terms;
 pub mod laws;
 pub mod layer_end;
 pub mod layer_ends;
+pub mod piece_place;
 pub mod places;
 pub mod trigger;

@@ -1,5 +1,5 @@
 // Lists of places.
-ghost use Rattle.std.specs.Prelude.{◌≡◌, ◌<◌, [], ◌∷◌, ◌++◌, length, slice_get, Some, OnOk, OnErr};
+ghost use Rattle.std.specs.Prelude.{◌≡◌, ◌↔◌, [], ◌∷◌, ◌++◌, IfOk, OnOk, OnErr, IsTrue};
 
 use std::alloc::{AllocError, Global};
 use std::marker::Model;
@@ -42,5 +42,28 @@ impl Places {
     {
         self.items.push(place)?;
         Ok(())
+    }
+
+    /// Whether two lists are equal.
+    pub fn equals(&self, other: &Places) -> bool
+        ensures { IsTrue result ↔ (self.now ≡ other.now) }
+    {
+        if self.items.len() != other.items.len() {
+            return false;
+        }
+        for i in 0..self.items.len() {
+            if self.items[i] != other.items[i] {
+                return false;
+            }
+        }
+        true
+    }
+
+    /// An equal list.
+    pub fn copy(&self, alloc: Global) -> Result<Places, AllocError>
+        ensures { IfOk result (λ ps. ps ≡ self.now) }
+    {
+        let items = Vec::from_slice(alloc, self.items.as_slice())?;
+        Ok(Places { items })
     }
 }

@@ -1,0 +1,308 @@
+-- The layers of a ground part.
+use Rattle.std.proofs.Common.{◌≡◌, ◌<◌, ◌≤◌, ◌+◌, ℕ, zero, suc, List, [], ◌∷◌, ◌++◌, length, map, take, get_or, refl, sym as inverse, ap, ◌∙◌, subst, arith, ◌⊎◌, inl, inr, Option, Some, None, add-one}
+use Rattle.std.specs.Prelude.{Contains, slice_get, ◌↔◌, All}
+use Rattle.std.proofs.lemmas.List.{take_all, get_or-take, length-take-le, length-append, length-map, length_push}
+use Rattle.std.proofs.lemmas.List.Elements.{Contains-get_or}
+use Rattle.std.proofs.lemmas.Option.{none-some, slice_get-get_or}
+use Rattle.std.proofs.lemmas.Bool.{cases_lt}
+use Rattle.mz_logic.specs.declared.sym.Sym.{Sym}
+use Rattle.mz_logic.specs.Term as term
+use Rattle.mz_logic.specs.Term.{Term}
+use Rattle.mz_logic.specs.Formula.{Formula}
+use Rattle.mz_logic.specs.declared.literal.Literal.{Literal}
+use Rattle.mz_logic.specs.declared.literal.Literal.TheVariants as literals
+use Rattle.mz_logic.specs.declared.disjunct.Disjunct.{Disjunct}
+use Rattle.mz_ground.specs.Piece.{Piece, TermPiece, AtomPiece, EquationPiece, IsAtomPiece}
+use Rattle.mz_ground.specs.Instance.{filled, literal_filled, trigger_filled}
+use Rattle.mz_ground.specs.Layers.{InLayer, first_constant, of_literal, of_universal, earlier, added, further_layers}
+use Rattle.mz_ground.specs.Ground.{term_at, ground_terms, ground_atoms, ground_equations, atom_piece, equation_piece, end_of, end_or_none, IsDistinct, IsGround, most_terms, most_atoms, AreTermsOf, AreAtomsOf, IsWithinTerms, IsWithinAtoms, PassesTerms, PassesAtoms, AreWithinBefore, HasTooManyTerms, HasTooManyAtoms, GroundFails, IsGroundWithinLimits}
+use Rattle.mz_ground.specs.Table.{Extends, IsTable, entry_terms}
+use Rattle.mz_ground.specs.Growth.{IsMember, IsNumbered, ReadsIn, Grows, IsPieceOf, IsPieceOfLiterals, IsPieceOfFormulas}
+use Rattle.mz_ground.specs.Instances.{IsInstancePiece, IsAddedBy, IsBefore, IsEndIn}
+use Rattle.mz_ground.specs.Making.{whole_end, HasLayer, IsFirst, IsFilling, IsFilled, IsClosed, ClosingFails}
+use Rattle.mz_ground.specs.declared.clause.Clause.{Clause}
+use Rattle.mz_ground.specs.declared.ground.Ground.{Ground}
+use Rattle.mz_ground.specs.declared.ground_term.GroundTerm.{GroundTerm}
+use Rattle.mz_ground.specs.declared.ground_term.GroundTerm.TheVariants as entry
+use Rattle.mz_ground.specs.declared.ground_atom.GroundAtom.{GroundAtom}
+use Rattle.mz_ground.specs.declared.ground_equation.GroundEquation.{GroundEquation}
+use Rattle.mz_ground.specs.declared.layer_end.LayerEnd.{LayerEnd}
+use Rattle.mz_ground.specs.declared.ground_fault.GroundFault.{GroundFault}
+use Rattle.mz_ground.specs.declared.ground_fault.GroundFault.TheVariants.{TooManyTerms, TooManyAtoms, Memory}
+use Rattle.mz_ground.proofs.ListLemmas.{contains_none, contains_first, contains_one, contains_get, contains_map, extends_itself}
+use Rattle.mz_ground.proofs.TableLemmas.{entry_terms-length}
+use Rattle.mz_ground.proofs.GrowthLemmas.{grows_both, member_grown}
+use Rattle.mz_ground.proofs.PieceLemmas.{filled-none, all_filled-none}
+use Rattle.mz_ground.proofs.InstanceLemmas.{instance_as, before_kept, before_back, end_kept, get_left, take_contains}
+
+-- what stands in a layer
+abbrev LayerCases : Disjunct → List Clause → ℕ → Piece → Type 0
+LayerCases d cs zero p = (TermPiece (term.Const 0) ≡ p) ⊎ (IsPieceOfLiterals d.literals p ⊎ IsPieceOfFormulas d.universals p)
+LayerCases d cs (suc n) p = InLayer d cs n p ⊎ IsAddedBy cs (InLayer d cs n) p
+
+layer_cases : (d : Disjunct) (cs : List Clause) {n : ℕ} {p : Piece} → InLayer d cs n p → LayerCases d cs n p
+layer_cases d cs first_constant = inl refl
+layer_cases d cs (of_literal l p c h k) = inr (inl (record { literal = l; among = c; piece = record { has = h; is_closed = k } }))
+layer_cases d cs (of_universal f p c h k) = inr (inr (record { formula = f; among = c; piece = record { has = h; is_closed = k } }))
+layer_cases d cs (earlier n p i) = inl i
+layer_cases d cs (added n c ts l p among arity trig nodes lit h k) = inr (record { clause = c; among = among; instance = record { terms = ts; arity = arity; trigger = trig; nodes = nodes; piece = record { literal = l; among = lit; piece = record { has = h; is_closed = k } } } })
+
+layer_added : (d : Disjunct) (cs : List Clause) (n : ℕ) (p : Piece) → IsAddedBy cs (InLayer d cs n) p → InLayer d cs (suc n) p
+layer_added d cs n p a = added n a.clause a.instance.terms a.instance.piece.literal p a.among a.instance.arity a.instance.trigger a.instance.nodes a.instance.piece.among a.instance.piece.piece.has a.instance.piece.piece.is_closed
+
+-- the constant 0 alone
+zero_earlier : (i k : ℕ) (s : Sym) (args : List ℕ) → slice_get (entry.Const 0 ∷ []) i ≡ Some (entry.App s args) → Contains args k → k < i
+zero_earlier zero k s args e w = cc
+zero_earlier (suc i) k s args e w = absurd (none-some (entry.App s args) e)
+
+distinct_short : {A : Type 0} (xs : List A) → length xs ≤ 1 → IsDistinct xs
+distinct_short xs le = λ i j x lt within e. omega (arith, lt, within)
+
+pub first_numbered : (g : Ground) → IsFirst g → IsNumbered g
+first_numbered g f =
+    let m : Ground = record { terms = entry.Const 0 ∷ []; atoms = []; equations = []; ends = [] } in
+    let n : IsNumbered m = record {
+      table = record { earlier = zero_earlier; distinct = distinct_short (entry_terms (entry.Const 0 ∷ [])) (omega arith) };
+      atoms_within = λ a k w v. absurd (contains_none a w);
+      equations_within = λ e w. absurd (contains_none e w);
+      distinct_atoms = distinct_short [] (omega arith);
+      distinct_equations = distinct_short [] (omega arith);
+    } in
+    let path : m ≡ g = λ i. record { terms = inverse f.terms i; atoms = inverse f.atoms i; equations = inverse f.equations i; ends = inverse f.ends i } in
+    subst IsNumbered path n
+
+first_terms : (g : Ground) → IsFirst g → ground_terms g ≡ term.Const 0 ∷ []
+first_terms g f = ap entry_terms f.terms
+
+first_atoms : (g : Ground) → IsFirst g → ground_atoms g ≡ []
+first_atoms g f = ap (map (atom_piece (ground_terms g))) f.atoms
+
+first_equations : (g : Ground) → IsFirst g → ground_equations g ≡ []
+first_equations g f = ap (map (equation_piece (ground_terms g))) f.equations
+
+first_members : (g : Ground) → IsFirst g → (p : Piece) → IsMember g p → TermPiece (term.Const 0) ≡ p
+first_members g f (TermPiece t) w = ap TermPiece (contains_one (term.Const 0) t (subst (λ (z : List Term). Contains z t) (first_terms g f) w))
+first_members g f (AtomPiece s ts) w = absurd (contains_none (AtomPiece s ts) (subst (λ (z : List Piece). Contains z (AtomPiece s ts)) (first_atoms g f) w))
+first_members g f (EquationPiece t u) w = absurd (contains_none (EquationPiece t u) (subst (λ (z : List Piece). Contains z (EquationPiece t u)) (first_equations g f) w))
+
+first_has : (g : Ground) → IsFirst g → IsMember g (TermPiece (term.Const 0))
+first_has g f = subst (λ (z : List Term). Contains z (term.Const 0)) (inverse (first_terms g f)) (contains_first (term.Const 0) [])
+
+literal_filled-none : (l : Literal) → literal_filled [] l ≡ l
+literal_filled-none (literals.Atom positive s us) = ap (literals.Atom positive s) (all_filled-none us)
+literal_filled-none (literals.Eq positive t u) = λ i. literals.Eq positive (filled-none t i) (filled-none u i)
+
+all_literals-none : (ls : List Literal) → map (literal_filled []) ls ≡ ls
+all_literals-none [] = refl
+all_literals-none (l ∷ ls) = λ i. literal_filled-none l i ∷ all_literals-none ls i
+
+pub told_base : (d : Disjunct) (g h k : Ground) → IsFirst g → ((ts : List Term) → ReadsIn g [] ts → Grows g (IsPieceOfLiterals (map (literal_filled ts) d.literals)) h) → (IsNumbered h → Grows h (IsPieceOfFormulas d.universals) k) → (cs : List Clause) → IsFilling d cs k 0
+told_base d g h k f a b cs =
+    let read : ReadsIn g [] [] = record { numbered = first_numbered g f; within = λ j w. absurd (contains_none j w); terms = refl } in
+    let x : Grows g (IsPieceOfLiterals d.literals) h = subst (λ (ls : List Literal). Grows g (IsPieceOfLiterals ls) h) (all_literals-none d.literals) (a [] read) in
+    let y : Grows h (IsPieceOfFormulas d.universals) k = b x.numbered in
+    let both : Grows g (λ p. IsPieceOfLiterals d.literals p ⊎ IsPieceOfFormulas d.universals p) k = grows_both g h k (IsPieceOfLiterals d.literals) (IsPieceOfFormulas d.universals) x y in
+    record {
+      numbered = both.numbered;
+      count = ap length (both.ends ∙ f.ends);
+      layers = λ m lt. absurd (omega (arith, lt));
+      sound = λ p w. elim (both.sound p w) [
+        | inl v ↦ subst (λ (z : Piece). InLayer d cs 0 z) (first_members g f p v) first_constant
+        | inr q ↦ elim q [
+          | inl l ↦ of_literal l.literal p l.among l.piece.has l.piece.is_closed
+          | inr u ↦ of_universal u.formula p u.among u.piece.has u.piece.is_closed
+        ]
+      ];
+      complete = λ le p i. elim (layer_cases d cs i) [
+        | inl e ↦ subst (λ (z : Piece). IsMember k z) e (member_grown g k (first_numbered g f) both.terms both.atoms both.equations (TermPiece (term.Const 0)) (first_has g f))
+        | inr q ↦ both.complete le p q
+      ];
+    }
+
+pub ruleset first_rules = (first_numbered)
+
+pub ruleset base_rules = (told_base)
+
+-- all members stand before the end of all
+whole_terms : (g : Ground) → take (whole_end g).terms (ground_terms g) ≡ ground_terms g
+whole_terms g = take_all (length g.terms) (ground_terms g) (omega (arith, entry_terms-length g.terms))
+
+whole_atoms : (g : Ground) → take (whole_end g).atoms (ground_atoms g) ≡ ground_atoms g
+whole_atoms g = take_all (length g.atoms) (ground_atoms g) (omega (arith, length-map g.atoms (atom_piece (ground_terms g))))
+
+whole_equations : (g : Ground) → take (whole_end g).equations (ground_equations g) ≡ ground_equations g
+whole_equations g = take_all (length g.equations) (ground_equations g) (omega (arith, length-map g.equations (equation_piece (ground_terms g))))
+
+member_before : (g : Ground) (p : Piece) → IsMember g p → IsBefore g (whole_end g) p
+member_before g (TermPiece t) w = subst (λ (z : List Term). Contains z t) (inverse (whole_terms g)) w
+member_before g (AtomPiece s ts) w = subst (λ (z : List Piece). Contains z (AtomPiece s ts)) (inverse (whole_atoms g)) w
+member_before g (EquationPiece t u) w = subst (λ (z : List Piece). Contains z (EquationPiece t u)) (inverse (whole_equations g)) w
+
+before_member : (g : Ground) (p : Piece) → IsBefore g (whole_end g) p → IsMember g p
+before_member g (TermPiece t) w = subst (λ (z : List Term). Contains z t) (whole_terms g) w
+before_member g (AtomPiece s ts) w = subst (λ (z : List Piece). Contains z (AtomPiece s ts)) (whole_atoms g) w
+before_member g (EquationPiece t u) w = subst (λ (z : List Piece). Contains z (EquationPiece t u)) (whole_equations g) w
+
+pub whole_in : (g : Ground) → IsEndIn g (whole_end g)
+whole_in g = record { terms = omega arith; atoms = omega arith; equations = omega arith }
+
+-- a layer is still there when more has been put behind it
+layer_kept : (d : Disjunct) (cs : List Clause) (g h : Ground) (m : ℕ) (Q : Piece → Type 0) → IsNumbered g → Grows g Q h → HasLayer d cs g m (end_of g m) → HasLayer d cs h m (end_of h m)
+layer_kept d cs g h m Q n a l =
+    let e : LayerEnd = end_of g m in
+    let same : end_of h m ≡ e = ap (λ z. end_or_none (slice_get z m)) a.ends in
+    let kept : HasLayer d cs h m e = record {
+      within = end_kept g h Q e l.within a;
+      members = λ p. (λ w. (l.members p).0 (before_back g h e n a.terms a.atoms a.equations l.within p w), λ i. before_kept g h e n a.terms a.atoms a.equations l.within p ((l.members p).1 i));
+      terms = l.terms;
+      atoms = l.atoms;
+    } in
+    subst (HasLayer d cs h m) (inverse same) kept
+
+added_as : (cs : List Clause) (P Q : Piece → Type 0) (p : Piece) → ((q : Piece) → P q → Q q) → IsAddedBy cs P p → IsAddedBy cs Q p
+added_as cs P Q p h a = record { clause = a.clause; among = a.among; instance = instance_as a.clause P Q p h a.instance }
+
+last_layer : (d : Disjunct) (cs : List Clause) (g : Ground) (n : ℕ) → IsFilled d cs g n → HasLayer d cs g n (whole_end g)
+last_layer d cs g n f = subst (HasLayer d cs g n) f.last (f.layers n (omega arith))
+
+pub told_next : (d : Disjunct) (cs : List Clause) (g h : Ground) (n m : ℕ) → m ≡ n + 1 → IsFilled d cs g n → Grows g (IsAddedBy cs (IsBefore g (whole_end g))) h → IsFilling d cs h m
+told_next d cs g h n m q f a =
+    let l : HasLayer d cs g n (whole_end g) = last_layer d cs g n f in
+    let next : IsFilling d cs h (suc n) = record {
+      numbered = a.numbered;
+      count = ap length a.ends ∙ f.count;
+      layers = λ j lt. layer_kept d cs g h j (IsAddedBy cs (IsBefore g (whole_end g))) f.numbered a (f.layers j lt);
+      sound = λ p w. elim (a.sound p w) [
+        | inl v ↦ earlier n p ((l.members p).0 (member_before g p v))
+        | inr r ↦ layer_added d cs n p (added_as cs (IsBefore g (whole_end g)) (InLayer d cs n) p (λ s v. (l.members s).0 v) r)
+      ];
+      complete = λ le p i. elim (layer_cases d cs i) [
+        | inl j ↦ member_grown g h f.numbered a.terms a.atoms a.equations p (before_member g p ((l.members p).1 j))
+        | inr r ↦ a.complete le p (added_as cs (InLayer d cs n) (IsBefore g (whole_end g)) p (λ s v. (l.members s).1 v) r)
+      ];
+    } in
+    subst (IsFilling d cs h) (inverse (q ∙ add-one n)) next
+
+-- closing a layer
+get_end : {A : Type 0} (xs : List A) (x : A) → slice_get (xs ++ x ∷ []) (length xs) ≡ Some x
+get_end [] x = refl
+get_end (y ∷ ys) x = get_end ys x
+
+pub told_filled : (d : Disjunct) (cs : List Clause) (g h : Ground) (n : ℕ) → IsFilling d cs g n → IsClosed g h → IsFilled d cs h n
+told_filled d cs g h n f c =
+    let e : LayerEnd = whole_end g in
+    let m : Ground = record { terms = g.terms; atoms = g.atoms; equations = g.equations; ends = g.ends ++ e ∷ [] } in
+    let path : m ≡ h = λ i. record { terms = inverse c.terms i; atoms = inverse c.atoms i; equations = inverse c.equations i; ends = inverse c.ends i } in
+    let here : end_of m n ≡ e = ap (λ k. end_or_none (slice_get (g.ends ++ e ∷ []) k)) (inverse f.count) ∙ ap end_or_none (get_end g.ends e) in
+    let old : (j : ℕ) → j < n → end_of m j ≡ end_of g j = λ j lt. ap end_or_none (get_left g.ends (e ∷ []) j (omega (arith, lt, f.count))) in
+    let last : HasLayer d cs m n e = record { within = whole_in m; members = λ p. (λ w. f.sound p (before_member g p w), λ i. member_before g p (f.complete c.few_terms p i)); terms = c.few_terms; atoms = c.few_atoms } in
+    let before : (j : ℕ) → j < n → HasLayer d cs m j (end_of m j) = λ j lt.
+    let l = f.layers j lt in
+    let r : HasLayer d cs m j (end_of g j) = record { within = record { terms = l.within.terms; atoms = l.within.atoms; equations = l.within.equations }; members = l.members; terms = l.terms; atoms = l.atoms } in
+    subst (HasLayer d cs m j) (inverse (old j lt)) r in
+    let numbered' : IsNumbered m = record { table = f.numbered.table; atoms_within = f.numbered.atoms_within; equations_within = f.numbered.equations_within; distinct_atoms = f.numbered.distinct_atoms; distinct_equations = f.numbered.distinct_equations } in
+    let all : IsFilled d cs m n = record {
+      numbered = numbered';
+      count = length_push g.ends e ∙ omega (arith, f.count);
+      last = here;
+      layers = λ j lt. elim (cases_lt j n) [
+        | inl l ↦ before j l
+        | inr l ↦ let q : n ≡ j = omega (arith, lt, l) in subst (λ (k : ℕ). HasLayer d cs m k (end_of m k)) q (subst (HasLayer d cs m n) (inverse here) last)
+      ];
+    } in
+    subst (λ (z : Ground). IsFilled d cs z n) path all
+
+-- why there is no ground part
+distinct_take : {A : Type 0} (xs : List A) (n : ℕ) → IsDistinct xs → n ≤ length xs → IsDistinct (take n xs)
+distinct_take xs n h le = λ i j x lt within e.
+    let size : length (take n xs) ≡ n = length-take-le n xs le in
+    let lj : j < n = omega (arith, within, size) in
+    let li : i < n = omega (arith, lt, lj) in
+    h i j x lt (omega (arith, lj, le)) (inverse (get_or-take n xs i x li) ∙ e ∙ get_or-take n xs j x lj)
+
+atom_only : (ts : List Term) (items : List GroundAtom) (p : Piece) → Contains (map (atom_piece ts) items) p → IsAtomPiece p
+atom_only ts items p w = let m = contains_map (atom_piece ts) items p w in subst IsAtomPiece m.2 tt
+
+within_terms : (d : Disjunct) (cs : List Clause) (g : Ground) (m : ℕ) (e : LayerEnd) → IsNumbered g → HasLayer d cs g m e → IsWithinTerms d cs m
+within_terms d cs g m e n l =
+    let le : e.terms ≤ length (ground_terms g) = omega (arith, l.within.terms, entry_terms-length g.terms) in
+    (take e.terms (ground_terms g), record { members = λ t. l.members (TermPiece t); distinct = distinct_take (ground_terms g) e.terms n.table.distinct le }, omega (arith, length-take-le e.terms (ground_terms g) le, l.terms))
+
+atoms_to : (d : Disjunct) (cs : List Clause) (g : Ground) (m : ℕ) (e : LayerEnd) → HasLayer d cs g m e → (p : Piece) → Contains (take e.atoms (ground_atoms g)) p → IsAtomPiece p → InLayer d cs m p
+atoms_to d cs g m e l (TermPiece t) w a = absurd a
+atoms_to d cs g m e l (AtomPiece s ts) w a = (l.members (AtomPiece s ts)).0 w
+atoms_to d cs g m e l (EquationPiece t u) w a = absurd a
+
+atoms_from : (d : Disjunct) (cs : List Clause) (g : Ground) (m : ℕ) (e : LayerEnd) → HasLayer d cs g m e → (p : Piece) → IsAtomPiece p → InLayer d cs m p → Contains (take e.atoms (ground_atoms g)) p
+atoms_from d cs g m e l (TermPiece t) a i = absurd a
+atoms_from d cs g m e l (AtomPiece s ts) a i = (l.members (AtomPiece s ts)).1 i
+atoms_from d cs g m e l (EquationPiece t u) a i = absurd a
+
+within_atoms : (d : Disjunct) (cs : List Clause) (g : Ground) (m : ℕ) (e : LayerEnd) → IsNumbered g → HasLayer d cs g m e → IsWithinAtoms d cs m
+within_atoms d cs g m e n l =
+    let le : e.atoms ≤ length (ground_atoms g) = omega (arith, l.within.atoms, length-map g.atoms (atom_piece (ground_terms g))) in
+    let only : (p : Piece) → Contains (take e.atoms (ground_atoms g)) p → IsAtomPiece p = λ p w. let r = take_contains (ground_atoms g) e.atoms p w in atom_only (ground_terms g) g.atoms p (contains_get (ground_atoms g) r.0 p r.2) in
+    (take e.atoms (ground_atoms g), record { members = λ p. (λ w. (only p w, atoms_to d cs g m e l p w (only p w)), λ a. atoms_from d cs g m e l p a.0 a.1); distinct = distinct_take (ground_atoms g) e.atoms n.distinct_atoms le }, omega (arith, length-take-le e.atoms (ground_atoms g) le, l.atoms))
+
+before_layers : (d : Disjunct) (cs : List Clause) (g : Ground) (n : ℕ) → IsFilling d cs g n → AreWithinBefore d cs n
+before_layers d cs g n f = λ m lt. (within_terms d cs g m (end_of g m) f.numbered (f.layers m lt), within_atoms d cs g m (end_of g m) f.numbered (f.layers m lt))
+
+atom_member : (g : Ground) (p : Piece) → IsAtomPiece p → Contains (ground_atoms g) p → IsMember g p
+atom_member g (TermPiece t) a w = absurd a
+atom_member g (AtomPiece s ts) a w = w
+atom_member g (EquationPiece t u) a w = absurd a
+
+pub told_fails : (d : Disjunct) (cs : List Clause) (g : Ground) (n : ℕ) (f : GroundFault) → IsFilling d cs g n → n ≤ 4 → ClosingFails g f → GroundFails d cs f
+told_fails d cs g n TooManyTerms h le lt = (
+  n,
+  record {
+    layer = le;
+    before = before_layers d cs g n h;
+    passes = (ground_terms g, h.numbered.table.distinct, λ k t within. h.sound (TermPiece (get_or (ground_terms g) k t)) (Contains-get_or (ground_terms g) k t within), omega (arith, lt, entry_terms-length g.terms));
+  },
+)
+told_fails d cs g n TooManyAtoms h le r = (
+  n,
+  record {
+    layer = le;
+    before = before_layers d cs g n h;
+    terms = (ground_terms g, record { members = λ t. (λ w. h.sound (TermPiece t) w, λ i. h.complete r.0 (TermPiece t) i); distinct = h.numbered.table.distinct }, omega (arith, r.0, entry_terms-length g.terms));
+    passes = (
+      ground_atoms g,
+      h.numbered.distinct_atoms,
+      λ k p within. (let w = Contains-get_or (ground_atoms g) k p within in let a = atom_only (ground_terms g) g.atoms (get_or (ground_atoms g) k p) w in (a, h.sound (get_or (ground_atoms g) k p) (atom_member g (get_or (ground_atoms g) k p) a w))),
+      omega (arith, r.1, length-map g.atoms (atom_piece (ground_terms g))),
+    );
+  },
+)
+told_fails d cs g n Memory h le r = tt
+
+pub told_ground : (d : Disjunct) (cs : List Clause) (g : Ground) → IsFilled d cs g 4 → IsGroundWithinLimits d cs g
+told_ground d cs g f =
+    let at : (n : ℕ) → n ≤ further_layers → HasLayer d cs g n (end_of g n) = λ n le. f.layers n (omega (arith, le)) in
+    let l : HasLayer d cs g 4 (whole_end g) = last_layer d cs g 4 f in (
+      record {
+        earlier = f.numbered.table.earlier;
+        atoms_within = f.numbered.atoms_within;
+        equations_within = f.numbered.equations_within;
+        layers = f.count;
+        terms = λ n t le. (at n le).members (TermPiece t);
+        atoms = λ n s ts le. (at n le).members (AtomPiece s ts);
+        equations = λ n t u le. (at n le).members (EquationPiece t u);
+        all = f.last;
+        distinct_terms = f.numbered.table.distinct;
+        distinct_atoms = f.numbered.distinct_atoms;
+        distinct_equations = f.numbered.distinct_equations;
+      },
+      l.terms,
+      l.atoms,
+    )
+
+pub filled_numbered : (d : Disjunct) (cs : List Clause) (g : Ground) (n : ℕ) → IsFilled d cs g n → IsNumbered g
+filled_numbered d cs g n f = f.numbered
+
+-- a ground part is one in which a trigger may be matched
+pub numbered_from_ground : (d : Disjunct) (cs : List Clause) (g : Ground) → IsGround d cs g → IsNumbered g
+numbered_from_ground d cs g h = record { table = record { earlier = h.earlier; distinct = h.distinct_terms }; atoms_within = h.atoms_within; equations_within = h.equations_within; distinct_atoms = h.distinct_atoms; distinct_equations = h.distinct_equations }
+
+pub ruleset ground_rules = (told_next, told_filled, told_fails, told_ground, whole_in, filled_numbered)

@@ -1,0 +1,151 @@
+-- The terms at which a term filled is the term at a place.
+use Rattle.std.proofs.Common.{◌≡◌, ◌<◌, ℕ, zero, suc, Bool, true, false, List, [], ◌∷◌, length, map, get_or, refl, sym, ap, ◌∙◌, subst, arith, ◌⊎◌, inl, inr, Option, Some, None}
+use Rattle.std.specs.Prelude.{Contains, slice_get, ◌||◌, nat_eq, option_map}
+use Rattle.std.specs.List.{list_any}
+use Rattle.std.proofs.lemmas.List.{length-map}
+use Rattle.std.proofs.lemmas.List.Elements.{Contains-get_or}
+use Rattle.std.proofs.lemmas.Option.{slice_get_within, same_Some, none-some}
+use Rattle.std.proofs.lemmas.Bool.{false≢true, eqb-true}
+use Rattle.mz_logic.specs.declared.sym.Sym.{Sym}
+use Rattle.mz_logic.specs.Term.{Term, Terms, Bound, Const, App, terms_of, terms_of-inj}
+use Rattle.mz_ground.specs.Instance.{index_filled, filled, args_filled}
+use Rattle.mz_ground.specs.Variables.{has_index, args_have_index}
+use Rattle.mz_ground.specs.Ground.{term_at, term_of_entry}
+use Rattle.mz_ground.specs.Table.{entry_terms, IsTable}
+use Rattle.mz_ground.specs.Matches.{IsValue, IsTermValue, AreTermsValue}
+use Rattle.mz_ground.specs.declared.ground_term.GroundTerm.{GroundTerm}
+use Rattle.mz_ground.specs.declared.ground_term.GroundTerm.TheVariants as entry
+use Rattle.mz_ground.proofs.ListLemmas.{contains_get}
+use Rattle.mz_ground.proofs.VariableLemmas.{args_have_index-terms_of}
+use Rattle.mz_ground.proofs.TableLemmas.{table_read, entry_at, term_at-inj, entry_terms-length}
+use Rattle.mz_ground.proofs.AddLemmas.{args_filled-terms_of, index_filled_at, index_filled_past}
+
+get-index_filled : (ts : List Term) (index : ℕ) → index < length ts → slice_get ts index ≡ Some (index_filled ts index)
+get-index_filled [] index lt = absurd (omega arith)
+get-index_filled (t ∷ ts) zero lt = refl
+get-index_filled (t ∷ ts) (suc index) lt = get-index_filled ts index (omega arith)
+
+pub value_bound : (es : List GroundTerm) (index n place : ℕ) (t : Term) → place < length es → t ≡ Bound n → n ≡ index → IsTermValue es index t place (Some place)
+value_bound es index n place t lt e q =
+    let at : (ts : List Term) → index < length ts → filled ts t ≡ term_at (entry_terms es) place → slice_get ts index ≡ Some (term_at (entry_terms es) place) = λ ts l h.
+    get-index_filled ts index l ∙ ap Some (ap (index_filled ts) (sym q) ∙ sym (ap (filled ts) e) ∙ h) in
+    record { value = (lt, at) }
+
+pub value_other : (es : List GroundTerm) (index n place : ℕ) (t : Term) → t ≡ Bound n → (n ≡ index → ⊥) → IsTermValue es index t place None
+value_other es index n place t e q = record { value = λ o ts l h. q (eqb-true n index (sym (ap (has_index index) e) ∙ o)) }
+
+pub value_const : (es : List GroundTerm) (index n place : ℕ) (t : Term) → t ≡ Const n → IsTermValue es index t place None
+value_const es index n place t e = record { value = λ o ts l h. absurd (false≢true (sym (ap (has_index index) e) ∙ o)) }
+
+-- an application filled, and the entry at the place
+pub app_entry : (es : List GroundTerm) → IsTable es → (ts : List Term) (r : Sym) (us : List Term) (t : Term) (place : ℕ) (e : GroundTerm) → t ≡ App r (terms_of us) → slice_get es place ≡ Some e → filled ts t ≡ term_at (entry_terms es) place → App r (terms_of (map (filled ts) us)) ≡ term_of_entry (entry_terms es) e
+app_entry es h ts r us t place e q g f = sym (ap (filled ts) q ∙ ap (App r) (args_filled-terms_of ts us)) ∙ f ∙ table_read es h place e g
+
+apart_const : (d : List Term) (r : Sym) (us : List Term) (n : ℕ) → App r (terms_of us) ≡ term_of_entry d (entry.Const n) → ⊥
+apart_const d r us n e = cc
+
+same_sym : (d : List Term) (r s : Sym) (us : List Term) (args : List ℕ) → App r (terms_of us) ≡ term_of_entry d (entry.App s args) → r ≡ s
+same_sym d r s us args e = cc
+
+same_args : (d : List Term) (r s : Sym) (us : List Term) (args : List ℕ) → App r (terms_of us) ≡ term_of_entry d (entry.App s args) → us ≡ map (term_at d) args
+same_args d r s us args e = let q : terms_of us ≡ terms_of (map (term_at d) args) = cc in terms_of-inj _ _ q
+
+pub value_app_const : (es : List GroundTerm) → IsTable es → (index place n : ℕ) (t : Term) (r : Sym) (us : List Term) → t ≡ App r (terms_of us) → slice_get es place ≡ Some (entry.Const n) → IsTermValue es index t place None
+value_app_const es h index place n t r us q g = record { value = λ o ts l f. apart_const (entry_terms es) r (map (filled ts) us) n (app_entry es h ts r us t place (entry.Const n) q g f) }
+
+pub value_app_other : (es : List GroundTerm) → IsTable es → (index place : ℕ) (t : Term) (r s : Sym) (us : List Term) (args : List ℕ) → t ≡ App r (terms_of us) → slice_get es place ≡ Some (entry.App s args) → (r ≡ s → ⊥) → IsTermValue es index t place None
+value_app_other es h index place t r s us args q g n = record { value = λ o ts l f. n (same_sym (entry_terms es) r s (map (filled ts) us) args (app_entry es h ts r us t place (entry.App s args) q g f)) }
+
+weaker_value : (es : List GroundTerm) (index : ℕ) (E F : List Term → Type 0) (b c : Bool) (r : Option ℕ) → ((ts : List Term) → F ts → E ts) → c ≡ b → IsValue es index E b r → IsValue es index F c r
+weaker_value es index E F b c None h q v = λ o ts l f. v (sym q ∙ o) ts l (h ts f)
+weaker_value es index E F b c (Some k) h q v = (v.0, λ ts l f. v.1 ts l (h ts f))
+
+pub value_app : (es : List GroundTerm) → IsTable es → (index place : ℕ) (t : Term) (r s : Sym) (us : List Term) (args : List ℕ) (o : Option ℕ) → t ≡ App r (terms_of us) → slice_get es place ≡ Some (entry.App s args) → AreTermsValue es index us args o → IsTermValue es index t place o
+value_app es h index place t r s us args o q g v =
+    let d : List Term = entry_terms es in
+    record {
+      value = weaker_value es index (λ ts. map (filled ts) us ≡ map (term_at d) args) (λ ts. filled ts t ≡ term_at d place) (list_any (has_index index) us) (has_index index t) o
+          (λ ts f. same_args d r s (map (filled ts) us) args (app_entry es h ts r us t place (entry.App s args) q g f))
+          (ap (has_index index) q ∙ args_have_index-terms_of index us) v.value;
+    }
+
+pub entry_args_within : (es : List GroundTerm) → IsTable es → (place : ℕ) (s : Sym) (args : List ℕ) → slice_get es place ≡ Some (entry.App s args) → (k : ℕ) → Contains args k → k < length es
+entry_args_within es h place s args g k w =
+    let a : k < place = h.earlier place k s args g w in
+    let b : place < length es = slice_get_within es place (entry.App s args) g in
+    omega arith
+
+pub values_length : (es : List GroundTerm) (index : ℕ) (us : List Term) (places : List ℕ) → (length us ≡ length places → ⊥) → AreTermsValue es index us places None
+values_length es index us places n = record { value = λ o ts l e. n (sym (length-map us (filled ts)) ∙ ap length e ∙ length-map places (term_at (entry_terms es))) }
+
+pub map_at : (ts : List Term) (d : List Term) (us : List Term) (places : List ℕ) (i : ℕ) (u : Term) → i < length us → map (filled ts) us ≡ map (term_at d) places → filled ts (get_or us i u) ≡ term_at d (get_or places i 0)
+map_at ts d [] places i u lt e = absurd (omega arith)
+map_at ts d (v ∷ us) [] i u lt e = cc
+map_at ts d (v ∷ us) (k ∷ places) zero u lt e = cc
+map_at ts d (v ∷ us) (k ∷ places) (suc i) u lt e = let q : map (filled ts) us ≡ map (term_at d) places = cc in map_at ts d us places i u (omega arith) q
+
+pub values_found : (es : List GroundTerm) (index : ℕ) (us : List Term) (places : List ℕ) (i k : ℕ) (u : Term) → i < length us → IsTermValue es index (get_or us i u) (get_or places i 0) (Some k) → AreTermsValue es index us places (Some k)
+values_found es index us places i k u lt v = record { value = (v.value.0, λ ts l e. v.value.1 ts l (map_at ts (entry_terms es) us places i u lt e)) }
+
+abbrev OccursAt : ℕ → List Term → Type 0
+OccursAt index us = (i : ℕ) × (i < length us) × (has_index index (get_or us i (Const 0)) ≡ true)
+
+occurs_split : (index : ℕ) (u : Term) (us : List Term) (b : Bool) → has_index index u ≡ b → (b || list_any (has_index index) us) ≡ true → (list_any (has_index index) us ≡ true → OccursAt index us) → OccursAt index (u ∷ us)
+occurs_split index u us true e o later = (0, omega arith, e)
+occurs_split index u us false e o later = let r : OccursAt index us = later o in (suc r.0, omega (arith, r.1), r.2)
+
+occurs_at : (index : ℕ) (us : List Term) → list_any (has_index index) us ≡ true → OccursAt index us
+occurs_at index [] o = absurd (false≢true o)
+occurs_at index (u ∷ us) o = occurs_split index u us (has_index index u) refl o (occurs_at index us)
+
+pub values_none : (es : List GroundTerm) (index : ℕ) (us : List Term) (places : List ℕ) → ((i : ℕ) (u : Term) → i < length us → IsTermValue es index (get_or us i u) (get_or places i 0) None) → AreTermsValue es index us places None
+values_none es index us places h =
+    record { value = λ o ts l e. let at = occurs_at index us o in (h at.0 (Const 0) at.1).value at.2 ts l (map_at ts (entry_terms es) us places at.0 (Const 0) at.1 e) }
+
+pub ruleset value_rules = (value_bound, value_other, value_const, value_app_const, value_app_other, value_app, entry_args_within, values_length, values_found, values_none)
+
+-- whether a term filled is the term at a place
+pub bound_is : (es : List GroundTerm) (args : List ℕ) (n k place : ℕ) (t : Term) → t ≡ Bound n → slice_get args n ≡ Some k → k ≡ place → filled (map (term_at (entry_terms es)) args) t ≡ term_at (entry_terms es) place
+bound_is es args n k place t e g q = ap (filled (map (term_at (entry_terms es)) args)) e ∙ index_filled_at es args n k g ∙ ap (term_at (entry_terms es)) q
+
+pub bound_place : (es : List GroundTerm) → IsTable es → (args : List ℕ) (n k place : ℕ) (t : Term) → t ≡ Bound n → slice_get args n ≡ Some k → ((j : ℕ) → Contains args j → j < length es) → place < length es → filled (map (term_at (entry_terms es)) args) t ≡ term_at (entry_terms es) place → k ≡ place
+bound_place es h args n k place t e g w lt f =
+    let size = entry_terms-length es in
+    let here : k < length es = w k (contains_get args n k g) in
+    term_at-inj (entry_terms es) h.distinct k place (omega (arith, size)) (omega (arith, size)) (sym (index_filled_at es args n k g) ∙ sym (ap (filled (map (term_at (entry_terms es)) args)) e) ∙ f)
+
+entry_no_index : (d : List Term) (e : GroundTerm) (j : ℕ) → Bound j ≡ term_of_entry d e → ⊥
+entry_no_index d (entry.Const n) j q = cc
+entry_no_index d (entry.App s args) j q = cc
+
+pub bound_past : (es : List GroundTerm) → IsTable es → (args : List ℕ) (n place : ℕ) (t : Term) → t ≡ Bound n → slice_get args n ≡ None → place < length es → filled (map (term_at (entry_terms es)) args) t ≡ term_at (entry_terms es) place → ⊥
+bound_past es h args n place t e g lt f =
+    let p = index_filled_past es args n g in
+    let d = entry_at es place lt in
+    entry_no_index (entry_terms es) d.0 p.0 (sym p.1 ∙ sym (ap (filled (map (term_at (entry_terms es)) args)) e) ∙ f ∙ table_read es h place d.0 d.1)
+
+pub const_is : (es : List GroundTerm) → IsTable es → (ts : List Term) (m n place : ℕ) (t : Term) → t ≡ Const m → slice_get es place ≡ Some (entry.Const n) → m ≡ n → filled ts t ≡ term_at (entry_terms es) place
+const_is es h ts m n place t e g q = ap (filled ts) e ∙ ap Const q ∙ sym (table_read es h place (entry.Const n) g)
+
+pub const_place : (es : List GroundTerm) → IsTable es → (ts : List Term) (m n place : ℕ) (t : Term) → t ≡ Const m → slice_get es place ≡ Some (entry.Const n) → filled ts t ≡ term_at (entry_terms es) place → m ≡ n
+const_place es h ts m n place t e g f = let q : Const m ≡ Const n = sym (ap (filled ts) e) ∙ f ∙ table_read es h place (entry.Const n) g in cc
+
+pub const_apart : (es : List GroundTerm) → IsTable es → (ts : List Term) (m place : ℕ) (s : Sym) (args : List ℕ) (t : Term) → t ≡ Const m → slice_get es place ≡ Some (entry.App s args) → filled ts t ≡ term_at (entry_terms es) place → ⊥
+const_apart es h ts m place s args t e g f = let q : Const m ≡ App s (terms_of (map (term_at (entry_terms es)) args)) = sym (ap (filled ts) e) ∙ f ∙ table_read es h place (entry.App s args) g in cc
+
+pub app_apart : (es : List GroundTerm) → IsTable es → (ts : List Term) (n place : ℕ) (r : Sym) (us : List Term) (t : Term) → t ≡ App r (terms_of us) → slice_get es place ≡ Some (entry.Const n) → filled ts t ≡ term_at (entry_terms es) place → ⊥
+app_apart es h ts n place r us t q g f = apart_const (entry_terms es) r (map (filled ts) us) n (app_entry es h ts r us t place (entry.Const n) q g f)
+
+pub app_is : (es : List GroundTerm) → IsTable es → (ts : List Term) (place : ℕ) (r s : Sym) (us : List Term) (args : List ℕ) (t : Term) → t ≡ App r (terms_of us) → slice_get es place ≡ Some (entry.App s args) → r ≡ s → map (filled ts) us ≡ map (term_at (entry_terms es)) args → filled ts t ≡ term_at (entry_terms es) place
+app_is es h ts place r s us args t q g e f = ap (filled ts) q ∙ ap (App r) (args_filled-terms_of ts us) ∙ (λ i. App (e i) (terms_of (f i))) ∙ sym (table_read es h place (entry.App s args) g)
+
+pub app_place_sym : (es : List GroundTerm) → IsTable es → (ts : List Term) (place : ℕ) (r s : Sym) (us : List Term) (args : List ℕ) (t : Term) → t ≡ App r (terms_of us) → slice_get es place ≡ Some (entry.App s args) → filled ts t ≡ term_at (entry_terms es) place → r ≡ s
+app_place_sym es h ts place r s us args t q g f = same_sym (entry_terms es) r s (map (filled ts) us) args (app_entry es h ts r us t place (entry.App s args) q g f)
+
+pub app_place_args : (es : List GroundTerm) → IsTable es → (ts : List Term) (place : ℕ) (r s : Sym) (us : List Term) (args : List ℕ) (t : Term) → t ≡ App r (terms_of us) → slice_get es place ≡ Some (entry.App s args) → filled ts t ≡ term_at (entry_terms es) place → map (filled ts) us ≡ map (term_at (entry_terms es)) args
+app_place_args es h ts place r s us args t q g f = same_args (entry_terms es) r s (map (filled ts) us) args (app_entry es h ts r us t place (entry.App s args) q g f)
+
+pub maps_length : (ts d us : List Term) (places : List ℕ) → map (filled ts) us ≡ map (term_at d) places → length us ≡ length places
+maps_length ts d us places e = sym (length-map us (filled ts)) ∙ ap length e ∙ length-map places (term_at d)
+
+pub ruleset filled_rules = (bound_is, bound_place, bound_past, const_is, const_place, const_apart, app_apart, app_is, app_place_sym, app_place_args, entry_args_within, maps_length, map_at)
