@@ -236,7 +236,7 @@ pub fn rules_of(
     clauses: &Clauses,
 ) -> Result<Rules, AllocError>
     requires layout { IsLayout g.now layout }
-    requires ground { IsGround d.now clauses.now g.now }
+    requires part { IsGround d.now clauses.now g.now }
     ensures { IfOk result (λ rs. (r : Rule) → Contains rs r ↔ IsRule d.now clauses.now g.now r) }
 {
     let mut rules = Rules::new(alloc);

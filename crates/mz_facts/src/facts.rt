@@ -198,7 +198,7 @@ pub fn close(
     clauses: &Clauses,
 ) -> Result<Facts, AllocError>
     requires { IsGround d.now clauses.now g.now }
-    ensures ground { IfOk result (λ f. f.ground ≡ g.now) }
+    ensures kept { IfOk result (λ f. f.ground ≡ g.now) }
     ensures facts { IfOk result (λ f. HoldsFacts d.now clauses.now f) }
 {
     let Numbering { nodes, layout } = numbered(alloc, g)?;
