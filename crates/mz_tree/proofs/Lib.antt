@@ -1,3 +1,4 @@
 pub mod AheadLemmas
 pub mod MarkLemmas
 pub mod MarkAll
+mod SpellLemmas

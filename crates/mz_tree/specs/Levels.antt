@@ -3,11 +3,12 @@
 use Rattle.std.specs.Prelude.{◌≡◌, ℕ, suc, List, [], ◌∷◌, ◌++◌, map, length, refl, codes, Option, Some, None}
 use Rattle.mz_base.specs.declared.place.Place.{Place}
 use Rattle.mz_base.specs.declared.symbol_kind.SymbolKind.TheVariants as symbols
+use Rattle.std.specs.List.{flat_map}
 use Rattle.std.proofs.Common.{ap, ◌∙◌}
 use Rattle.std.proofs.lemmas.List.{length-map}
 use Rattle.mz_forms.specs.Form.{each_append}
 use Rattle.mz_tree.specs.declared.marked_token.MarkedToken.{MarkedToken}
-use Rattle.mz_tree.specs.Spelled.{reserved, special, identifier, symbol, mode, list_comma, non_of}
+use Rattle.mz_tree.specs.Spelled.{reserved, special, identifier, symbol, mode, list_comma, non_of, reserved_if, maybe}
 use Rattle.mz_tree.specs.Trees.{TermData, PieceData, PrefixData, BeforeData, BaseData, TermsData, NextTermData, AdjectiveData, TypeData, DeclaredData, NextDeclaredData, FormulaData, DisjunctionData, NextConjunctionData, ConjunctionData, NextUnitData, UnitData, QuantifiedData, PieceList, PrefixList, BeforeList, NextTermList, AdjectiveList, NextDeclaredList, NextConjunctionList, NextUnitList, RunTerm, FunctorPiece, OperandPiece, SelectorPrefix, ChoiceOfPrefix, ChoiceOverPrefix, OperandBefore, IdentifierBase, SubjectBase, ArgumentBase, GroupBase, CallBase, CallWithBase, SelectorBase, AggregateBase, BracketsBase, BracesBase, SquaresBase, SetOfBase, ChoiceBase, ChoiceStructureBase, ListTerms, NextNextTerm, PlainAdjective, WithIdentifierAdjective, WithTermsAdjective, ModeType, ModeOfType, StructureType, StructureOverType, PlainDeclared, TypedDeclared, NextNextDeclared, PlainFormula, ImpliesFormula, IffFormula, ChainDisjunction, OrNextConjunction, ChainConjunction, AndNextUnit, NotUnit, ContradictionUnit, ThesisUnit, QuantifiedUnit, GroupUnit, PrivateUnit, PrivateWithUnit, PredicateUnit, PredicateRightUnit, PredicateLeftUnit, PredicateBothUnit, IsTypeUnit, IsAdjectivesUnit, ForQuantified, ForSuchQuantified, ForFurtherQuantified, ForSuchFurtherQuantified, ExistsQuantified, no_pieces, more_pieces, no_prefixs, more_prefixs, no_befores, more_befores, no_next_terms, more_next_terms, no_adjectives, more_adjectives, no_next_declareds, more_next_declareds, no_next_conjunctions, more_next_conjunctions, no_next_units, more_next_units}
 use Rattle.mz_tree.specs.Spell.{spell_term, spell_piece, spell_prefix, spell_before, spell_base, spell_terms, spell_next_term, spell_adjective, spell_type, spell_declared, spell_next_declared, spell_formula, spell_disjunction, spell_next_conjunction, spell_conjunction, spell_next_unit, spell_unit, spell_quantified, spell_piece_list, spell_prefix_list, spell_before_list, spell_next_term_list, spell_adjective_list, spell_next_declared_list, spell_next_conjunction_list, spell_next_unit_list}
 
@@ -19,8 +20,25 @@ pub non_each : (a : Option Place) → length (non_levels a) ≡ length (non_of a
 non_each None = refl
 non_each (Some p) = refl
 
-nested_each : (ls : List ℕ) (ss : List MarkedToken) → length ls ≡ length ss → length (map suc ls) ≡ length ss
+pub nested_each : (ls : List ℕ) (ss : List MarkedToken) → length ls ≡ length ss → length (map suc ls) ≡ length ss
 nested_each ls ss e = length-map ls suc ∙ e
+
+-- the levels of a word that may be left out
+abbrev pub levels_if : Option Place → List ℕ
+levels_if None = []
+levels_if (Some p) = 0 ∷ []
+
+pub each_if : (a : Option Place) (s : List ℕ) → length (levels_if a) ≡ length (reserved_if a s)
+each_if None s = refl
+each_if (Some p) s = refl
+
+pub each_maybe : {X : Type 0} (l : X → List ℕ) (s : X → List MarkedToken) → ((x : X) → length (l x) ≡ length (s x)) → (o : Option X) → length (maybe l o) ≡ length (maybe s o)
+each_maybe l s e None = refl
+each_maybe l s e (Some x) = e x
+
+pub each_flat : {X : Type 0} (l : X → List ℕ) (s : X → List MarkedToken) → ((x : X) → length (l x) ≡ length (s x)) → (xs : List X) → length (flat_map l xs) ≡ length (flat_map s xs)
+each_flat l s e [] = refl
+each_flat l s e (x ∷ xs) = each_append (l x) (flat_map l xs) (s x) (flat_map s xs) (e x) (each_flat l s e xs)
 
 abbrev mutual
   pub levels_term : TermData → List ℕ

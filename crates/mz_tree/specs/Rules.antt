@@ -1,7 +1,17 @@
 -- The rules beside the alternatives of the grammar.
-use Rattle.std.specs.Prelude.{◌≡◌, ◌≤◌, Bool, true, false}
+use Rattle.std.specs.Prelude.{◌≡◌, ◌≤◌, Bool, true, false, List, [], ◌∷◌, Option, Some, None}
 use Rattle.mz_tree.specs.declared.comma.Comma.{Comma}
 use Rattle.mz_tree.specs.Trees.{TermData, PieceData, BaseData, TermsData, AdjectiveData, TypeData, DeclaredData, FormulaData, DisjunctionData, ConjunctionData, UnitData, QuantifiedData, PieceList, PrefixList, NextTermList, AdjectiveList, NextDeclaredList, NextConjunctionList, NextUnitList, RunTerm, FunctorPiece, OperandPiece, SelectorPrefix, IdentifierBase, SubjectBase, ArgumentBase, GroupBase, CallBase, CallWithBase, SelectorBase, AggregateBase, BracketsBase, BracesBase, SquaresBase, SetOfBase, ChoiceBase, ChoiceStructureBase, ChoiceOfPrefix, ChoiceOverPrefix, ListTerms, NextNextTerm, PlainAdjective, WithIdentifierAdjective, WithTermsAdjective, ModeType, ModeOfType, StructureType, StructureOverType, PlainDeclared, TypedDeclared, NextNextDeclared, PlainFormula, ImpliesFormula, IffFormula, ChainDisjunction, OrNextConjunction, ChainConjunction, AndNextUnit, NotUnit, ContradictionUnit, ThesisUnit, QuantifiedUnit, GroupUnit, PrivateUnit, PrivateWithUnit, PredicateUnit, PredicateRightUnit, PredicateLeftUnit, PredicateBothUnit, IsTypeUnit, IsAdjectivesUnit, ForQuantified, ForSuchQuantified, ForFurtherQuantified, ForSuchFurtherQuantified, ExistsQuantified, no_pieces, more_pieces, no_prefixs, more_prefixs, no_next_terms, more_next_terms, no_adjectives, more_adjectives, no_next_declareds, more_next_declareds, no_next_conjunctions, more_next_conjunctions, no_next_units, more_next_units}
+
+-- each of the list is such
+abbrev pub Every : {X : Type 0} → (X → Type 0) → List X → Type 0
+Every Is [] = Unit {0}
+Every Is (x ∷ xs) = Is x × Every Is xs
+
+-- it is such, where there is one
+abbrev pub IfAny : {X : Type 0} → (X → Type 0) → Option X → Type 0
+IfAny Is None = Unit {0}
+IfAny Is (Some x) = Is x
 
 -- what stands last in a term
 pub data Last : Type 0 where

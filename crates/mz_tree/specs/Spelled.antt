@@ -5,7 +5,7 @@ use Rattle.mz_base.specs.declared.place.Place.{Place}
 use Rattle.mz_base.specs.declared.symbol_kind.SymbolKind.{SymbolKind}
 use Rattle.mz_base.specs.declared.symbol_kind.SymbolKind.TheVariants as symbols
 use Rattle.mz_base.specs.declared.token_kind.TokenKind.{TokenKind}
-use Rattle.mz_base.specs.declared.token_kind.TokenKind.TheVariants.{Reserved, Special, Symbol, Identifier}
+use Rattle.mz_base.specs.declared.token_kind.TokenKind.TheVariants.{Reserved, Special, Symbol, Identifier, Numeral}
 use Rattle.mz_tree.specs.declared.mark.Mark.{Mark}
 use Rattle.mz_tree.specs.declared.mark.Mark.TheVariants as marks
 use Rattle.mz_tree.specs.declared.marked_token.MarkedToken.{MarkedToken}
@@ -57,3 +57,20 @@ being_token b = reserved b.place (if b.long then codes "being" else codes "be")
 abbrev pub non_of : Option Place → List MarkedToken
 non_of None = []
 non_of (Some p) = reserved p (codes "non") ∷ []
+
+-- a word that may be left out
+abbrev pub reserved_if : Option Place → List ℕ → List MarkedToken
+reserved_if None s = []
+reserved_if (Some p) s = reserved p s ∷ []
+
+abbrev pub numeral : Word → MarkedToken
+numeral w = marked Numeral w.place w.spelling 0 marks.NotComma
+
+-- `=`, which is a predicate symbol
+abbrev pub equals_sign : Place → MarkedToken
+equals_sign p = marked (Symbol symbols.Predicate) p (codes "=") 0 marks.NotComma
+
+-- what a part that may be left out gives
+abbrev pub maybe : {X Y : Type 0} → (X → List Y) → Option X → List Y
+maybe f None = []
+maybe f (Some x) = f x

@@ -4,11 +4,14 @@
 mod ahead;
 pub mod being;
 pub mod comma;
+mod copies;
 pub mod lists;
 pub mod mark;
 pub mod marked_token;
 pub mod marks;
 mod outlook;
+pub mod put;
 pub mod role;
+mod spell;
 pub mod trees;
 pub mod word;

@@ -1,0 +1,268 @@
+//! The tokens that trees are spelled with.
+ghost use Rattle.std.specs.Prelude.{◌≡◌, ◌++◌, ◌∷◌, [], IfOk, codes};
+ghost use Rattle.mz_tree.specs.Spelled.{marked, reserved, special, identifier, symbol, functor, mode, argument, list_comma, comma_token, being_token, non_of, reserved_if, numeral, equals_sign};
+
+use crate::being::Being;
+use crate::comma::Comma;
+use crate::mark::Mark;
+use crate::marked_token::MarkedToken;
+use crate::word::Word;
+use mz_base::place::Place;
+use mz_base::symbol_kind::SymbolKind;
+use mz_base::text::Text;
+use mz_base::token::Token;
+use mz_base::token_kind::TokenKind;
+use std::alloc::{AllocError, Global};
+
+fn put(
+    alloc: Global,
+    out: &mut Vec<MarkedToken>,
+    kind: TokenKind,
+    place: Place,
+    spelling: &[u8],
+    mark: Mark,
+) -> Result<(), AllocError>
+    ensures { IfOk result (λ _. out.new.items ≡ out.old.items ++ marked kind place spelling.now 0 mark ∷ []) }
+{
+    let spelling = Text::from_slice(alloc, spelling)?;
+    let token = Token {
+        kind,
+        place,
+        spelling,
+        priority: 0,
+    };
+    out.push(MarkedToken { token, mark })?;
+    Ok(())
+}
+
+pub fn put_reserved(
+    alloc: Global,
+    out: &mut Vec<MarkedToken>,
+    place: Place,
+    word: &[u8],
+) -> Result<(), AllocError>
+    ensures { IfOk result (λ _. out.new.items ≡ out.old.items ++ reserved place word.now ∷ []) }
+{
+    put(alloc, out, TokenKind::Reserved, place, word, Mark::NotComma)
+}
+
+pub fn put_special(
+    alloc: Global,
+    out: &mut Vec<MarkedToken>,
+    place: Place,
+    word: &[u8],
+) -> Result<(), AllocError>
+    ensures { IfOk result (λ _. out.new.items ≡ out.old.items ++ special place word.now ∷ []) }
+{
+    put(alloc, out, TokenKind::Special, place, word, Mark::NotComma)
+}
+
+pub fn put_identifier(
+    alloc: Global,
+    out: &mut Vec<MarkedToken>,
+    word: &Word,
+) -> Result<(), AllocError>
+    ensures { IfOk result (λ _. out.new.items ≡ out.old.items ++ identifier word.now ∷ []) }
+{
+    put(
+        alloc,
+        out,
+        TokenKind::Identifier,
+        word.place,
+        word.spelling.as_slice(),
+        Mark::NotComma,
+    )
+}
+
+pub fn put_symbol(
+    alloc: Global,
+    out: &mut Vec<MarkedToken>,
+    kind: SymbolKind,
+    word: &Word,
+) -> Result<(), AllocError>
+    ensures { IfOk result (λ _. out.new.items ≡ out.old.items ++ symbol kind word.now ∷ []) }
+{
+    put(
+        alloc,
+        out,
+        TokenKind::Symbol(kind),
+        word.place,
+        word.spelling.as_slice(),
+        Mark::NotComma,
+    )
+}
+
+pub fn put_functor(
+    alloc: Global,
+    out: &mut Vec<MarkedToken>,
+    word: &Word,
+    priority: u8,
+) -> Result<(), AllocError>
+    ensures { IfOk result (λ _. out.new.items ≡ out.old.items ++ functor word.now priority ∷ []) }
+{
+    let spelling = word.spelling.copy(alloc)?;
+    let token = Token {
+        kind: TokenKind::Symbol(SymbolKind::Functor),
+        place: word.place,
+        spelling,
+        priority,
+    };
+    out.push(MarkedToken {
+        token,
+        mark: Mark::NotComma,
+    })?;
+    Ok(())
+}
+
+pub fn put_mode(alloc: Global, out: &mut Vec<MarkedToken>, word: &Word) -> Result<(), AllocError>
+    ensures { IfOk result (λ _. out.new.items ≡ out.old.items ++ mode word.now ∷ []) }
+{
+    if word.spelling.as_slice() == b"set".as_slice() {
+        put(
+            alloc,
+            out,
+            TokenKind::Reserved,
+            word.place,
+            word.spelling.as_slice(),
+            Mark::NotComma,
+        )
+    } else {
+        put_symbol(alloc, out, SymbolKind::Mode, word)
+    }
+}
+
+pub fn put_argument(
+    alloc: Global,
+    out: &mut Vec<MarkedToken>,
+    place: Place,
+    number: u8,
+) -> Result<(), AllocError>
+    ensures { IfOk result (λ _. out.new.items ≡ out.old.items ++ argument place number ∷ []) }
+{
+    if number == 10 {
+        put_special(alloc, out, place, b"$10")
+    } else if number < 10 {
+        put_special(alloc, out, place, &[b'$', b'0' + number])
+    } else {
+        put_special(alloc, out, place, b"$")
+    }
+}
+
+pub fn put_list_comma(
+    alloc: Global,
+    out: &mut Vec<MarkedToken>,
+    place: Place,
+) -> Result<(), AllocError>
+    ensures { IfOk result (λ _. out.new.items ≡ out.old.items ++ list_comma place ∷ []) }
+{
+    put(alloc, out, TokenKind::Special, place, b",", Mark::List)
+}
+
+pub fn put_comma(alloc: Global, out: &mut Vec<MarkedToken>, comma: Comma) -> Result<(), AllocError>
+    ensures { IfOk result (λ _. out.new.items ≡ out.old.items ++ comma_token comma ∷ []) }
+{
+    if comma.dividing {
+        put(
+            alloc,
+            out,
+            TokenKind::Special,
+            comma.place,
+            b",",
+            Mark::Dividing,
+        )
+    } else {
+        put(
+            alloc,
+            out,
+            TokenKind::Special,
+            comma.place,
+            b",",
+            Mark::List,
+        )
+    }
+}
+
+pub fn put_being(alloc: Global, out: &mut Vec<MarkedToken>, being: Being) -> Result<(), AllocError>
+    ensures { IfOk result (λ _. out.new.items ≡ out.old.items ++ being_token being ∷ []) }
+{
+    if being.long {
+        put_reserved(alloc, out, being.place, b"being")
+    } else {
+        put_reserved(alloc, out, being.place, b"be")
+    }
+}
+
+pub fn put_non(
+    alloc: Global,
+    out: &mut Vec<MarkedToken>,
+    place: Option<Place>,
+) -> Result<(), AllocError>
+    ensures { IfOk result (λ _. out.new.items ≡ out.old.items ++ non_of place) }
+{
+    match place {
+        Some(place) => put_reserved(alloc, out, place, b"non"),
+        None => Ok(()),
+    }
+}
+
+/// `where x is`, which binds the variable of a set term.
+pub fn put_bound(
+    alloc: Global,
+    out: &mut Vec<MarkedToken>,
+    first: Place,
+    name: &Word,
+    last: Place,
+) -> Result<(), AllocError>
+    ensures { IfOk result (λ _. out.new.items ≡ out.old.items ++ reserved first (codes "where") ∷ identifier name.now ∷ reserved last (codes "is") ∷ []) }
+{
+    put_reserved(alloc, out, first, b"where")?;
+    put_identifier(alloc, out, name)?;
+    put_reserved(alloc, out, last, b"is")?;
+    Ok(())
+}
+
+/// A word that may be left out.
+pub fn put_reserved_if(
+    alloc: Global,
+    out: &mut Vec<MarkedToken>,
+    place: Option<Place>,
+    word: &[u8],
+) -> Result<(), AllocError>
+    ensures { IfOk result (λ _. out.new.items ≡ out.old.items ++ reserved_if place word.now) }
+{
+    match place {
+        Some(place) => put_reserved(alloc, out, place, word),
+        None => Ok(()),
+    }
+}
+
+pub fn put_numeral(alloc: Global, out: &mut Vec<MarkedToken>, word: &Word) -> Result<(), AllocError>
+    ensures { IfOk result (λ _. out.new.items ≡ out.old.items ++ numeral word.now ∷ []) }
+{
+    put(
+        alloc,
+        out,
+        TokenKind::Numeral,
+        word.place,
+        word.spelling.as_slice(),
+        Mark::NotComma,
+    )
+}
+
+/// `=`, which is a predicate symbol.
+pub fn put_equals_sign(
+    alloc: Global,
+    out: &mut Vec<MarkedToken>,
+    place: Place,
+) -> Result<(), AllocError>
+    ensures { IfOk result (λ _. out.new.items ≡ out.old.items ++ equals_sign place ∷ []) }
+{
+    put(
+        alloc,
+        out,
+        TokenKind::Symbol(SymbolKind::Predicate),
+        place,
+        b"=",
+        Mark::NotComma,
+    )
+}
