@@ -6,7 +6,8 @@ use Rattle.std.proofs.lemmas.List.{length-reverse, get_or-reverse, get_or_defaul
 use Rattle.std.proofs.lemmas.List.Sums.{fails_before_first, prefix_len_stops, prefix_len-le-length}
 use Rattle.std.specs.List.{Contains, position, position_or_len, filter}
 use Rattle.std.specs.Str.{bytes_eq}
-use Rattle.mz_by.specs.Decides.{HasSameSides}
+use Rattle.mz_logic.specs.Term.{Const}
+use Rattle.mz_by.specs.ConstantEquation.{HasSameSides}
 use Rattle.mizv.specs.declared.theorem.Theorem.{Theorem}
 use Rattle.mizv.specs.FirstForm.{IsTheorem}
 use Rattle.mizv.specs.Outcome.{index_of, instance_of, has_same_sides, open_fault, faults_of}
@@ -76,3 +77,11 @@ closed_faults t h e =
     let plus : index_of t.variables t.left + 1 ≡ index_of t.variables t.right + 1 = cc in
     let same : index_of t.variables t.left ≡ index_of t.variables t.right = omega arith in
     faults_of-same t (index_of-inj t.variables t.left t.right h.left h.right same)
+
+-- a theorem whose sides are two identifiers is open
+open_faults_of : (t : Theorem) (b : Bool) → has_same_sides t ≡ b → ¬ HasSameSides (instance_of t) → faults_of (t ∷ []) ≡ open_fault t ∷ []
+open_faults_of t true e other = absurd (other (ap (λ name. Const (index_of t.variables name + 1)) (same_spelling t.left t.right e)))
+open_faults_of t false e other = ap (λ b. map open_fault (if not b then t ∷ [] else [])) e
+
+pub open_faults : (t : Theorem) → ¬ HasSameSides (instance_of t) → faults_of (t ∷ []) ≡ open_fault t ∷ []
+open_faults t other = open_faults_of t (has_same_sides t) refl other

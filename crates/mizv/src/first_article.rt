@@ -2,7 +2,7 @@
 ghost use Rattle.std.specs.Prelude.{◌≡◌, ◌<◌, ◌≤◌, ◌+◌, ◌++◌, ◌∷◌, [], List, All, IsNone, IfOk, IfSome, OnOk, length, map, reverse};
 ghost use Rattle.std.specs.List.{position, position_or_len};
 ghost use Rattle.std.specs.Str.{bytes_eq};
-ghost use Rattle.mz_by.specs.Decides.{Decides};
+ghost use Rattle.mz_by.specs.ConstantEquation.{DecidesEquation};
 ghost use Rattle.mizv.specs.declared.first_article.First.{First};
 ghost use Rattle.mizv.specs.declared.theorem.Theorem.{Theorem};
 ghost use Rattle.mizv.specs.FirstForm.{IsTheorem, HasFirstForm};
@@ -16,10 +16,11 @@ use mz_base::rule_code::RuleCode;
 use mz_base::text::Text;
 use mz_by::by::by;
 use mz_by::by_verdict::ByVerdict;
-use mz_by::problem::Problem;
+use mz_ground::clauses::Clauses;
 use mz_logic::formula::Formula;
 use mz_logic::formulas::Formulas;
 use mz_logic::term::Term;
+use mz_nf::problem::Problem;
 use std::alloc::{AllocError, Global};
 
 /// How many bytes a text of the first form has at most.
@@ -56,9 +57,10 @@ fn index_of(variables: &Identifiers, name: &Text) -> u32
 }
 
 /// The decision of the equation of a theorem, with a constant of its own for each variable.
-fn verdict_on(alloc: Global, theorem: &Theorem) -> ByVerdict
+#[tactic(auto, using(mz_by::proofs::ConstantEquation::constant_equation))]
+fn verdict_on(alloc: Global, theorem: &Theorem) -> Result<ByVerdict, AllocError>
     requires { IsTheorem theorem.now }
-    ensures { Decides (instance_of theorem.now) result }
+    ensures { IfOk result (λ v. DecidesEquation (instance_of theorem.now) v) }
 {
     let left = index_of(&theorem.variables, &theorem.left);
     let right = index_of(&theorem.variables, &theorem.right);
@@ -66,7 +68,8 @@ fn verdict_on(alloc: Global, theorem: &Theorem) -> ByVerdict
         premises: Formulas::new(alloc),
         conclusion: Formula::equation(Term::constant(left + 1), Term::constant(right + 1)),
     };
-    by(&problem)
+    let verdict = by(alloc, &problem, &Clauses::new(alloc))?;
+    Ok(verdict)
 }
 
 /// Adds the fault of a theorem, if it has one.
@@ -74,7 +77,21 @@ fn push_fault(alloc: Global, faults: &mut Vec<Fault>, theorem: &Theorem) -> Resu
     requires { IsTheorem theorem.now }
     ensures { OnOk result (faults.new.items ≡ faults.old.items ++ faults_of (theorem.now ∷ [])) }
 {
-    match verdict_on(alloc, theorem) {
+    let verdict = verdict_on(alloc, theorem)?;
+    push_verdict(faults, theorem, verdict)
+}
+
+/// Adds the fault of a theorem with this verdict, if it has one.
+fn push_verdict(
+    faults: &mut Vec<Fault>,
+    theorem: &Theorem,
+    verdict: ByVerdict,
+) -> Result<(), AllocError>
+    requires theorem { IsTheorem theorem.now }
+    requires decided { DecidesEquation (instance_of theorem.now) verdict }
+    ensures { OnOk result (faults.new.items ≡ faults.old.items ++ faults_of (theorem.now ∷ [])) }
+{
+    match verdict {
         ByVerdict::Closed => Ok(()),
         ByVerdict::Open { disjunct } => {
             faults.push(Fault {

@@ -1,1 +1,5 @@
-pub mod ReflexiveLemmas
+pub mod ClosedSound
+pub mod OneVerdict
+pub mod ConstantEquation
+pub mod ExamineLemmas
+pub mod LimitLemmas

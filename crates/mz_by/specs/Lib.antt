@@ -1,1 +1,4 @@
-pub mod Decides
+pub mod Verdict
+pub mod Examination
+pub mod Laws
+pub mod ConstantEquation

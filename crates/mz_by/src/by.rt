@@ -1,43 +1,116 @@
 //! The decision of a problem.
-ghost use Rattle.std.specs.Prelude.{◌≡◌, []};
-ghost use Rattle.mz_logic.specs.Derives.{Derives};
-ghost use Rattle.mz_by.specs.Decides.{IsConstantEquation, Decides};
+ghost use Rattle.std.specs.Prelude.{◌≡◌, ◌<◌, ◌≤◌, ◌^◌, IfOk, MatchOption, length, suc};
+ghost use Rattle.mz_by.specs.Laws.{HaveNoConstants, IsDerived};
+ghost use Rattle.mz_by.specs.Verdict.{IsClosedWithin, Decides, DecidesAll, IsVerdict};
+ghost use Rattle.mz_ground.specs.Ground.{IsGroundWithinLimits};
 
 use crate::by_verdict::ByVerdict;
-use crate::problem::Problem;
-use mz_logic::formula::FormulaNode;
+use crate::examination::Examination;
+use crate::examine::examine;
+use mz_base::limit::Limit;
+use mz_facts::facts::close;
+use mz_ground::clauses::Clauses;
+use mz_ground::ground::Ground;
+use mz_ground::ground_fault::GroundFault;
+use mz_ground::making::ground;
+use mz_logic::disjunct::Disjunct;
+use mz_logic::disjuncts::Disjuncts;
+use mz_nf::disjuncts::disjuncts;
+use mz_nf::nf_fault::NfFault;
+use mz_nf::problem::Problem;
+use std::alloc::{AllocError, Global};
 
-/// Decides a problem without premises whose conclusion is an equation of two constants.
+/// Decides a problem by clauses (`docs/LANGUAGE.md`, "What `by` can do").
 ///
-/// It is closed exactly where both constants are the same; else its only disjunct is open.
-pub fn by(p: &Problem) -> ByVerdict
-    requires premises { p.now.premises ≡ [] }
-    requires conclusion { IsConstantEquation p.now.conclusion }
-    ensures verdict { Decides p.now.conclusion result }
-    ensures derived { result ≡ ByVerdict.Closed → Derives [] p.now.premises p.now.conclusion }
+/// It is closed exactly where each of its disjuncts is closed within the limits; else it is over where it has more
+/// than 1,024 disjuncts, and else the first disjunct that isn't closed decides. The only other answer is want of
+/// memory. Where it is closed and the clauses have no constants, the conclusion derives from the premises and the
+/// clauses.
+#[tactic(auto, using(crate::proofs::ClosedSound::closed_derived))]
+pub fn by(alloc: Global, p: &Problem, clauses: &Clauses) -> Result<ByVerdict, AllocError>
+    ensures verdict { IfOk result (λ v. IsVerdict p.now clauses.now v) }
+    ensures derived { IfOk result (λ v. v ≡ ByVerdict.Closed → HaveNoConstants clauses.now → IsDerived p.now clauses.now) }
 {
-    match &p.conclusion.node {
-        FormulaNode::Eq(left, right) if left.equals(right) => ByVerdict::Closed,
-        _ => ByVerdict::Open { disjunct: 1 },
+    let verdict = decide_problem(alloc, p, clauses)?;
+    Ok(verdict)
+}
+
+/// The verdict on a problem.
+fn decide_problem(alloc: Global, p: &Problem, clauses: &Clauses) -> Result<ByVerdict, AllocError>
+    ensures { IfOk result (λ v. IsVerdict p.now clauses.now v) }
+{
+    match disjuncts(alloc, p) {
+        Ok(ds) => {
+            let verdict = decide_all(alloc, &ds, clauses)?;
+            Ok(verdict)
+        }
+        Err(NfFault::TooManyDisjuncts { count }) => Ok(ByVerdict::Over {
+            limit: Limit::Disjuncts,
+            number: count,
+        }),
+        Err(NfFault::Memory) => Err(AllocError),
     }
 }
 
-#[cfg(test)]
-mod tests {
-    use super::*;
-    use mz_logic::formula::Formula;
-    use mz_logic::formulas::Formulas;
-    use mz_logic::term::Term;
-
-    #[test]
-    fn an_equation_of_two_constants_is_closed_where_they_are_the_same(rt: HostRuntime) {
-        let open = ByVerdict::Open { disjunct: 1 };
-        for (left, right, want) in [(1, 1, ByVerdict::Closed), (1, 2, open), (0, 1, open)] {
-            let p = Problem {
-                premises: Formulas::new(rt.alloc()),
-                conclusion: Formula::equation(Term::constant(left), Term::constant(right)),
-            };
-            assert_eq!(rt; by(&p), want, "constants {left} and {right}");
+/// The verdict on the disjuncts of a problem.
+fn decide_all(alloc: Global, ds: &Disjuncts, clauses: &Clauses) -> Result<ByVerdict, AllocError>
+    requires { length ds.now ≤ 1024 }
+    ensures { IfOk result (λ v. DecidesAll clauses.now 1 ds.now v) }
+{
+    let mut number = 1;
+    for d in &ds.items {
+        match decide(alloc, d, clauses, number)? {
+            Some(verdict) => return Ok(verdict),
+            None => number += 1,
         }
+    }
+    Ok(ByVerdict::Closed)
+}
+
+/// The verdict that a disjunct gives, or none where it is closed.
+fn decide(
+    alloc: Global,
+    d: &Disjunct,
+    clauses: &Clauses,
+    number: u32,
+) -> Result<Option<ByVerdict>, AllocError>
+    ensures { IfOk result (λ o. MatchOption o (IsClosedWithin d.now clauses.now) (Decides d.now clauses.now number)) }
+{
+    match ground(alloc, d, clauses) {
+        Ok(g) => decide_ground(alloc, d, clauses, &g, number),
+        Err(GroundFault::TooManyTerms) => Ok(Some(ByVerdict::Over {
+            limit: Limit::Terms,
+            number: 4097,
+        })),
+        Err(GroundFault::TooManyAtoms) => Ok(Some(ByVerdict::Over {
+            limit: Limit::Atoms,
+            number: 16385,
+        })),
+        Err(GroundFault::Memory) => Err(AllocError),
+    }
+}
+
+/// The same, with its ground part.
+fn decide_ground(
+    alloc: Global,
+    d: &Disjunct,
+    clauses: &Clauses,
+    g: &Ground,
+    number: u32,
+) -> Result<Option<ByVerdict>, AllocError>
+    requires { IsGroundWithinLimits d.now clauses.now g.now }
+    ensures { IfOk result (λ o. MatchOption o (IsClosedWithin d.now clauses.now) (Decides d.now clauses.now number)) }
+{
+    let facts = close(alloc, g, d, clauses)?;
+    if facts.contradictory() {
+        return Ok(None);
+    }
+    match examine(alloc, &facts, d)? {
+        Examination::Refuted => Ok(None),
+        Examination::Over { work } => Ok(Some(ByVerdict::Over {
+            limit: Limit::Work,
+            number: work,
+        })),
+        Examination::Open => Ok(Some(ByVerdict::Open { disjunct: number })),
     }
 }

@@ -3,4 +3,6 @@
 
 pub mod by;
 pub mod by_verdict;
-pub mod problem;
+pub mod examination;
+pub mod examine;
+pub mod laws;

@@ -1,8 +1,8 @@
 -- What putting the closed terms within a term among the entries leaves.
-use Rattle.std.proofs.Common.{◌≡◌, ◌<◌, ℕ, zero, suc, Bool, true, false, List, [], ◌∷◌, ◌++◌, length, map, refl, sym, ap, ◌∙◌, subst, arith, ◌⊎◌, inl, inr, Option, Some, None}
+use Rattle.std.proofs.Common.{◌≡◌, ◌<◌, ◌≤◌, ◌+◌, ℕ, zero, suc, Bool, true, false, List, [], ◌∷◌, ◌++◌, length, map, take, get_or, refl, sym, ap, ◌∙◌, subst, arith, ◌⊎◌, inl, inr, Option, Some, None}
 use Rattle.std.specs.Prelude.{Contains, slice_get, ◌&&◌, MatchOption, option_map}
 use Rattle.std.specs.List.{list_all}
-use Rattle.std.proofs.lemmas.List.{map_push}
+use Rattle.std.proofs.lemmas.List.{map_push, take_more, take_all}
 use Rattle.std.proofs.lemmas.List.Elements.{Contains-append_left, Contains-append_right, Contains-push_cases}
 use Rattle.std.proofs.lemmas.Option.{slice_get_within, same_Some, none-some, slice_get-map}
 use Rattle.std.proofs.lemmas.Bool.{false≢true, le-ltb}
@@ -253,5 +253,18 @@ each_has fs (u ∷ us) (k ∷ ks) h =
 pub all_told : (es fs : List GroundTerm) (ts us : List Term) (os : List (Option ℕ)) (r : Option (List ℕ)) → AddsEach es ts us os fs → MatchOption r (Contains os None) (λ ks. os ≡ map Some ks) → AddsTerms es ts us r fs
 all_told es fs ts us os None a h = record { added = a.added; found = each_lacks fs (map (filled ts) us) os a.found h }
 all_told es fs ts us os (Some ks) a h = record { added = a.added; found = each_has fs (map (filled ts) us) ks (subst (λ (xs : List (Option ℕ)). EachFound fs (map (filled ts) us) xs) h a.found) }
+
+-- the loop over the arguments
+pub told_each : (es fs gs : List GroundTerm) (args : List ℕ) (us : List Term) (i : ℕ) (os ps : List (Option ℕ)) (u : Term) (o : Option ℕ) → ((ts : List Term) → Reads es args ts → AddsEach es ts (take i us) os fs) → u ≡ get_or us i u → i < length us → ((vs : List Term) → Reads fs args vs → AddsTerm fs vs u o gs) → ps ≡ os ++ o ∷ [] → (ts : List Term) → Reads es args ts → AddsEach es ts (take (i + 1) us) ps gs
+told_each es fs gs args us i os ps u o a e lt b q ts r =
+    let same : take (i + 1) us ≡ take i us ++ u ∷ [] = take_more us i u lt ∙ ap (λ z. take i us ++ z ∷ []) (sym e) in
+    let c : AddsEach es ts (take i us ++ u ∷ []) (os ++ o ∷ []) gs = each_more es fs gs args ts (take i us) os u o r (a ts r) b in
+    subst (λ (z : List Term). AddsEach es ts z ps gs) (sym same) (subst (λ (z : List (Option ℕ)). AddsEach es ts (take i us ++ u ∷ []) z gs) (sym q) c)
+
+pub told_each_all : (es fs : List GroundTerm) (args : List ℕ) (us vs : List Term) (i : ℕ) (os ps : List (Option ℕ)) (o : Option (List ℕ)) → ((ts : List Term) → Reads es args ts → AddsEach es ts (take i us) os fs) → us ≡ vs → length us ≤ i → ps ≡ os → MatchOption o (Contains ps None) (λ ks. ps ≡ map Some ks) → (ts : List Term) → Reads es args ts → AddsTerms es ts vs o fs
+told_each_all es fs args us vs i os ps o a e le q h ts r =
+    let same : take i us ≡ vs = take_all i us le ∙ e in
+    let c : AddsEach es ts vs os fs = subst (λ (z : List Term). AddsEach es ts z os fs) same (a ts r) in
+    all_told es fs ts vs ps o (subst (λ (z : List (Option ℕ)). AddsEach es ts vs z fs) (sym q) c) h
 
 pub ruleset all_rules = (each_none, each_more, all_told)

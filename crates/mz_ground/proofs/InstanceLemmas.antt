@@ -1,7 +1,7 @@
 -- What putting the pieces of instances into a ground part leaves.
 use Rattle.std.proofs.Common.{◌≡◌, ◌<◌, ◌≤◌, ◌+◌, ℕ, zero, suc, List, [], ◌∷◌, ◌++◌, length, map, take, get_or, refl, sym as inverse, ap, ◌∙◌, subst, arith, ◌⊎◌, inl, inr, Option, Some, None}
 use Rattle.std.specs.Prelude.{Contains, slice_get}
-use Rattle.std.proofs.lemmas.List.{take-append-le, length-take-le, take-map, take_more, get_or-take, length-append, length-map}
+use Rattle.std.proofs.lemmas.List.{take_all, take-append-le, length-take-le, take-map, take_more, get_or-take, length-append, length-map}
 use Rattle.std.proofs.lemmas.List.Elements.{Contains-append_left, Contains-append_right, Contains-push_cases}
 use Rattle.std.proofs.lemmas.Option.{slice_get-get_or, none-some, same_Some}
 use Rattle.std.proofs.lemmas.Bool.{cases_lt}
@@ -59,6 +59,16 @@ told_unmatched g c at n m = grows_nothing g (IsInstancePiece c (IsPieceAt g at))
 
 pub matched_places : (g : Ground) (c : Clause) (p : Piece) (places : List ℕ) → IsMatch g c p (Some places) → (k : ℕ) → Contains places k → k < length g.terms
 matched_places g c p places m k w = m.within k w
+
+-- the same, where the places were read
+pub places_within : (g : Ground) (c : Clause) (p : Piece) (r : Option (List ℕ)) (places xs : List ℕ) → r ≡ Some places → xs ≡ places → IsMatch g c p r → (k : ℕ) → Contains xs k → k < length g.terms
+places_within g c p r places xs q e m k w = matched_places g c p places (subst (IsMatch g c p) q m) k (subst (λ (z : List ℕ). Contains z k) e w)
+
+pub added_as_read : (g h : Ground) (c : Clause) (at : PiecePlace) (r : Option (List ℕ)) (places xs ys : List ℕ) → r ≡ Some places → xs ≡ places → ys ≡ places → IsNumbered g → IsMatch g c (piece_at g at) r → instance_nodes c (map (term_at (entry_terms g.terms)) xs) ≤ most_nodes → ((ts : List Term) → ReadsIn g ys ts → Grows g (IsPieceOfLiterals (premises_at c ts ++ conclusion_at c ts ∷ [])) h) → Grows g (IsInstancePiece c (IsPieceAt g at)) h
+added_as_read g h c at r places xs ys q e f n m le a = told_added g h c at places n (subst (IsMatch g c (piece_at g at)) q m) (subst (λ (z : List ℕ). instance_nodes c (map (term_at (entry_terms g.terms)) z) ≤ most_nodes) e le) (λ ts s. a ts (subst (λ (z : List ℕ). ReadsIn g z ts) (inverse f) s))
+
+pub too_large_as_read : (g : Ground) (c : Clause) (at : PiecePlace) (r : Option (List ℕ)) (places xs : List ℕ) → r ≡ Some places → xs ≡ places → IsNumbered g → IsMatch g c (piece_at g at) r → (instance_nodes c (map (term_at (entry_terms g.terms)) xs) ≤ most_nodes → ⊥) → Grows g (IsInstancePiece c (IsPieceAt g at)) g
+too_large_as_read g c at r places xs q e n m small = told_too_large g c at places n (subst (IsMatch g c (piece_at g at)) q m) (λ le. small (subst (λ (z : List ℕ). instance_nodes c (map (term_at (entry_terms g.terms)) z) ≤ most_nodes) (inverse e) le))
 
 pub ruleset match_rules = (told_added, told_too_large, told_unmatched, matched_places)
 
@@ -285,5 +295,8 @@ clauses_more g h k cs i c e n w lt same a b =
     ] in
     subst (λ (z : List Clause). Grows g (IsAddedBy z (IsBefore g e)) k) (inverse more)
     (grows_as g k (λ p. IsAddedBy (take i cs) (IsBefore g e) p ⊎ IsInstancePiece c (IsBefore h e) p) (IsAddedBy (take i cs ++ c ∷ []) (IsBefore g e)) (grows_both g h k (IsAddedBy (take i cs) (IsBefore g e)) (IsInstancePiece c (IsBefore h e)) a b) to from)
+
+pub clauses_all : (g h : Ground) (cs items : List Clause) (i : ℕ) (old : Piece → Type 0) → items ≡ cs → length items ≤ i → Grows g (IsAddedBy (take i items) old) h → Grows g (IsAddedBy cs old) h
+clauses_all g h cs items i old e le a = subst (λ (z : List Clause). Grows g (IsAddedBy z old) h) (take_all i items le ∙ e) a
 
 pub ruleset clauses_rules = (clauses_none, clauses_more, end_kept, numbered_after)

@@ -305,4 +305,11 @@ filled_numbered d cs g n f = f.numbered
 pub numbered_from_ground : (d : Disjunct) (cs : List Clause) (g : Ground) → IsGround d cs g → IsNumbered g
 numbered_from_ground d cs g h = record { table = record { earlier = h.earlier; distinct = h.distinct_terms }; atoms_within = h.atoms_within; equations_within = h.equations_within; distinct_atoms = h.distinct_atoms; distinct_equations = h.distinct_equations }
 
+-- the same, where the end and the number of layers were read
+pub next_as_read : (d : Disjunct) (cs : List Clause) (g h : Ground) (n : ℕ) (e : LayerEnd) → e ≡ whole_end g → IsFilled d cs g n → Grows g (IsAddedBy cs (IsBefore g e)) h → IsFilling d cs h (n + 1)
+next_as_read d cs g h n e q f a = told_next d cs g h n (n + 1) refl f (subst (λ (z : LayerEnd). Grows g (IsAddedBy cs (IsBefore g z)) h) q a)
+
+pub ground_as_read : (d : Disjunct) (cs : List Clause) (g : Ground) (n : ℕ) → n ≡ 4 → IsFilled d cs g n → IsGroundWithinLimits d cs g
+ground_as_read d cs g n q f = told_ground d cs g (subst (IsFilled d cs g) q f)
+
 pub ruleset ground_rules = (told_next, told_filled, told_fails, told_ground, whole_in, filled_numbered)

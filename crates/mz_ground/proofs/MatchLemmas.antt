@@ -1,5 +1,5 @@
 -- The terms at which a term filled is the term at a place.
-use Rattle.std.proofs.Common.{◌≡◌, ◌<◌, ℕ, zero, suc, Bool, true, false, List, [], ◌∷◌, length, map, get_or, refl, sym, ap, ◌∙◌, subst, arith, ◌⊎◌, inl, inr, Option, Some, None}
+use Rattle.std.proofs.Common.{◌≡◌, ◌<◌, ◌≤◌, ◌+◌, ◌*◌, ℕ, zero, suc, Bool, true, false, List, [], ◌∷◌, length, map, get_or, refl, sym, ap, ◌∙◌, subst, arith, ◌⊎◌, inl, inr, Option, Some, None}
 use Rattle.std.specs.Prelude.{Contains, slice_get, ◌||◌, nat_eq, option_map}
 use Rattle.std.specs.List.{list_any}
 use Rattle.std.proofs.lemmas.List.{length-map}
@@ -7,7 +7,7 @@ use Rattle.std.proofs.lemmas.List.Elements.{Contains-get_or}
 use Rattle.std.proofs.lemmas.Option.{slice_get_within, same_Some, none-some}
 use Rattle.std.proofs.lemmas.Bool.{false≢true, eqb-true}
 use Rattle.mz_logic.specs.declared.sym.Sym.{Sym}
-use Rattle.mz_logic.specs.Term.{Term, Terms, Bound, Const, App, terms_of, terms_of-inj}
+use Rattle.mz_logic.specs.Term.{Term, Terms, Bound, Const, App, terms_of, terms_of-inj, size_of, sizes_of}
 use Rattle.mz_ground.specs.Instance.{index_filled, filled, args_filled}
 use Rattle.mz_ground.specs.Variables.{has_index, args_have_index}
 use Rattle.mz_ground.specs.Ground.{term_at, term_of_entry}
@@ -101,6 +101,28 @@ occurs_at index (u ∷ us) o = occurs_split index u us (has_index index u) refl 
 pub values_none : (es : List GroundTerm) (index : ℕ) (us : List Term) (places : List ℕ) → ((i : ℕ) (u : Term) → i < length us → IsTermValue es index (get_or us i u) (get_or places i 0) None) → AreTermsValue es index us places None
 values_none es index us places h =
     record { value = λ o ts l e. let at = occurs_at index us o in (h at.0 (Const 0) at.1).value at.2 ts l (map_at ts (entry_terms es) us places at.0 (Const 0) at.1 e) }
+
+-- an argument is smaller than the list
+args_smaller : (us : List Term) (i : ℕ) (u : Term) → i < length us → size_of (get_or us i u) < sizes_of us
+args_smaller [] i u lt = absurd (omega arith)
+args_smaller (t ∷ ts) zero u lt = omega arith
+args_smaller (t ∷ ts) (suc i) u lt = omega (arith, args_smaller ts i u (omega arith))
+
+pub item_falls : (us vs : List Term) (i n : ℕ) (u : Term) → vs ≡ us → i < length vs → u ≡ get_or vs i u → 2 * (sizes_of us + 1) + 0 ≡ n → 2 * (size_of u + 1) + 0 < n
+item_falls us vs i n u e lt at d =
+    let one : size_of u < sizes_of vs = subst (λ (z : Term). size_of z < sizes_of vs) (sym at) (args_smaller vs i u lt) in
+    omega (arith, one, ap sizes_of e, d)
+
+-- the same of a list that is the one of the arguments
+pub values_found_in : (es : List GroundTerm) (index : ℕ) (us vs : List Term) (places : List ℕ) (i k : ℕ) (u : Term) (o : Option ℕ) → vs ≡ us → i < length vs → u ≡ get_or vs i u → o ≡ Some k → IsTermValue es index u (get_or places i 0) o → AreTermsValue es index us places (Some k)
+values_found_in es index us vs places i k u o e lt at q v =
+    let found : IsTermValue es index u (get_or places i 0) (Some k) = subst (λ (z : Option ℕ). IsTermValue es index u (get_or places i 0) z) q v in
+    let there : IsTermValue es index (get_or vs i u) (get_or places i 0) (Some k) = subst (λ (z : Term). IsTermValue es index z (get_or places i 0) (Some k)) at found in
+    subst (λ (z : List Term). AreTermsValue es index z places (Some k)) e (values_found es index vs places i k u lt there)
+
+pub values_none_in : (es : List GroundTerm) (index : ℕ) (us vs : List Term) (places : List ℕ) (n : ℕ) → vs ≡ us → length vs ≤ n → ((j : ℕ) (u : Term) → j < n → IsTermValue es index (get_or vs j u) (get_or places j 0) None) → AreTermsValue es index us places None
+values_none_in es index us vs places n e le h =
+    subst (λ (z : List Term). AreTermsValue es index z places None) e (values_none es index vs places (λ j u lt. h j u (omega arith)))
 
 pub ruleset value_rules = (value_bound, value_other, value_const, value_app_const, value_app_other, value_app, entry_args_within, values_length, values_found, values_none)
 

@@ -92,6 +92,11 @@ spent_over f xs i x n m lt e s t =
     (spent_past n (args_nodes (terms_of (map f (take (suc i) xs)))) r.0
     (spent_as n (args_nodes (terms_of (map f (take (suc i) xs)))) (args_nodes (terms_of (map f (take i xs))) + term_nodes (f x)) None r.2 (spent_both n (args_nodes (terms_of (map f (take i xs)))) (term_nodes (f x)) m None s t)))
 
+pub read_self : (xs : List ℕ) (i : ℕ) → get_or xs i 0 ≡ get_or xs i (get_or xs i 0)
+read_self [] i = refl
+read_self (x ∷ xs) zero = refl
+read_self (x ∷ xs) (suc i) = read_self xs i
+
 pub spent_nothing : (n : ℕ) → IsSpent n 0 (Some n)
 spent_nothing n = record { spent = omega arith }
 

@@ -1,8 +1,8 @@
 -- Pieces of formulas, and what putting them into a ground part leaves.
-use Rattle.std.proofs.Common.{◌≡◌, ◌<◌, ℕ, zero, suc, Bool, true, false, List, [], ◌∷◌, ◌++◌, length, map, refl, sym as inverse, ap, ◌∙◌, subst, arith, ◌⊎◌, inl, inr, Option, Some, None}
+use Rattle.std.proofs.Common.{◌≡◌, ◌<◌, ◌≤◌, ◌+◌, ℕ, zero, suc, Bool, true, false, List, [], ◌∷◌, ◌++◌, length, map, take, get_or, refl, sym as inverse, ap, ◌∙◌, subst, arith, ◌⊎◌, inl, inr, Option, Some, None}
 use Rattle.std.specs.Prelude.{Contains, slice_get, ◌&&◌}
 use Rattle.std.specs.List.{list_all}
-use Rattle.std.proofs.lemmas.List.{map_push, length-append}
+use Rattle.std.proofs.lemmas.List.{map_push, length-append, take_more, take_all}
 use Rattle.std.proofs.lemmas.List.Elements.{Contains-append_left, Contains-append_right, Contains-push_cases}
 use Rattle.std.proofs.lemmas.Bool.{false≢true}
 use Rattle.mz_logic.specs.declared.sym.Sym.{Sym}
@@ -121,6 +121,15 @@ atom_none g h args s us a ea ee en ts r =
     grows_as g h (IsTermOf vs) (IsPieceOf (Atom s vs)) (grows_terms g h vs r.numbered b.added ea ee en)
     (λ q c. atom_from_terms s vs q c) (λ q c. atom_to_terms s vs q b.found c)
 
+-- the same, where the places were computed
+pub told_atom_some : (g h : Ground) (args : List ℕ) (s : Sym) (us : List Term) (o : Option (List ℕ)) (ks : List ℕ) (k : ℕ) → o ≡ Some ks → ((ts : List Term) → Reads g.terms args ts → AddsTerms g.terms ts us o h.terms) → IsPlaced g.atoms (record { sym = s; args = ks }) h.atoms k → h.equations ≡ g.equations → h.ends ≡ g.ends → (ts : List Term) → ReadsIn g args ts → Grows g (IsPieceOf (Atom s (map (filled ts) us))) h
+told_atom_some g h args s us o ks k q a p ee en =
+    atom_some g h args s us ks k (subst (λ (z : Option (List ℕ)). (ts : List Term) → Reads g.terms args ts → AddsTerms g.terms ts us z h.terms) q a) p ee en
+
+pub told_atom_none : (g h : Ground) (args : List ℕ) (s : Sym) (us : List Term) (o : Option (List ℕ)) → o ≡ None → ((ts : List Term) → Reads g.terms args ts → AddsTerms g.terms ts us o h.terms) → h.atoms ≡ g.atoms → h.equations ≡ g.equations → h.ends ≡ g.ends → (ts : List Term) → ReadsIn g args ts → Grows g (IsPieceOf (Atom s (map (filled ts) us))) h
+told_atom_none g h args s us o q a ea ee en =
+    atom_none g h args s us (subst (λ (z : Option (List ℕ)). (ts : List Term) → Reads g.terms args ts → AddsTerms g.terms ts us z h.terms) q a) ea ee en
+
 -- pieces of an equation
 equation_from_terms : (t u : Term) (p : Piece) → IsTermOf (t ∷ u ∷ []) p → IsPieceOf (Eq t u) p
 equation_from_terms t u (TermPiece v) q =
@@ -193,6 +202,20 @@ pub equation_right : (g h : Ground) (es : List GroundTerm) (args : List ℕ) (t 
 equation_right g h es args t u k a b ea ee en ts r =
     let d : AddsTerm es ts u None h.terms = right_found g h es args t u k None a b ts r in
     equation_open g h (filled ts t) (filled ts u) r.numbered (sides g h es args t u k None a b ts r) (λ p q. apart (closed (filled ts u)) q d.found) ea ee en
+
+-- the same, where the places were computed
+abbrev AddsAt : List GroundTerm → List ℕ → Term → List GroundTerm → Option ℕ → Type 0
+AddsAt es args t fs o = (ts : List Term) → Reads es args ts → AddsTerm es ts t o fs
+
+pub told_equation_some : (g h : Ground) (es : List GroundTerm) (args : List ℕ) (t u : Term) (o p : Option ℕ) (k l place : ℕ) → o ≡ Some k → p ≡ Some l → ((ts : List Term) → Reads g.terms args ts → AddsTerm g.terms ts t o es) → ((ts : List Term) → Reads es args ts → AddsTerm es ts u p h.terms) → IsPlaced g.equations (record { left = k; right = l }) h.equations place → h.atoms ≡ g.atoms → h.ends ≡ g.ends → (ts : List Term) → ReadsIn g args ts → Grows g (IsPieceOf (Eq (filled ts t) (filled ts u))) h
+told_equation_some g h es args t u o p k l place eo ep a b =
+    equation_some g h es args t u k l place (subst (AddsAt g.terms args t es) eo a) (subst (AddsAt es args u h.terms) ep b)
+
+pub told_equation_left : (g h : Ground) (es : List GroundTerm) (args : List ℕ) (t u : Term) (o p : Option ℕ) → o ≡ None → ((ts : List Term) → Reads g.terms args ts → AddsTerm g.terms ts t o es) → ((ts : List Term) → Reads es args ts → AddsTerm es ts u p h.terms) → h.atoms ≡ g.atoms → h.equations ≡ g.equations → h.ends ≡ g.ends → (ts : List Term) → ReadsIn g args ts → Grows g (IsPieceOf (Eq (filled ts t) (filled ts u))) h
+told_equation_left g h es args t u o p eo a b = equation_left g h es args t u p (subst (AddsAt g.terms args t es) eo a) b
+
+pub told_equation_right : (g h : Ground) (es : List GroundTerm) (args : List ℕ) (t u : Term) (o p : Option ℕ) → p ≡ None → ((ts : List Term) → Reads g.terms args ts → AddsTerm g.terms ts t o es) → ((ts : List Term) → Reads es args ts → AddsTerm es ts u p h.terms) → h.atoms ≡ g.atoms → h.equations ≡ g.equations → h.ends ≡ g.ends → (ts : List Term) → ReadsIn g args ts → Grows g (IsPieceOf (Eq (filled ts t) (filled ts u))) h
+told_equation_right g h es args t u o p ep a b = equation_right g h es args t u o a (subst (AddsAt es args u h.terms) ep b)
 
 -- pieces of a negation are those of the formula
 pub grows_not : (g h : Ground) (f : Formula) → Grows g (IsPieceOf f) h → Grows g (IsPieceOf (Not f)) h
@@ -307,6 +330,23 @@ formulas_more g h k fs f a b =
       | inl c ↦ inl (record { formula = q.formula; among = c; piece = q.piece })
       | inr e ↦ inr (subst (λ (x : Formula). IsPieceOf x p) (inverse e) q.piece)
     ])
+
+-- the loop over literals, and the one over formulas
+pub told_literal_step : (g h k : Ground) (args : List ℕ) (ls : List literal.Literal) (i : ℕ) (l : literal.Literal) → ((ts : List Term) → ReadsIn g args ts → Grows g (IsPieceOfLiterals (map (literal_filled ts) (take i ls))) h) → l ≡ get_or ls i l → i < length ls → ((us : List Term) → ReadsIn h args us → Grows h (IsPieceOf (literal_formula (literal_filled us l))) k) → (ts : List Term) → ReadsIn g args ts → Grows g (IsPieceOfLiterals (map (literal_filled ts) (take (i + 1) ls))) k
+told_literal_step g h k args ls i l a e lt b ts r =
+    let same : take (i + 1) ls ≡ take i ls ++ l ∷ [] = take_more ls i l lt ∙ ap (λ z. take i ls ++ z ∷ []) (inverse e) in
+    subst (λ (z : List literal.Literal). Grows g (IsPieceOfLiterals (map (literal_filled ts) z)) k) (inverse same) (literals_step g h k args ts (take i ls) l r (a ts r) b)
+
+pub told_literals : (g h : Ground) (args : List ℕ) (ls ms : List literal.Literal) (i : ℕ) → ((ts : List Term) → ReadsIn g args ts → Grows g (IsPieceOfLiterals (map (literal_filled ts) (take i ls))) h) → ls ≡ ms → length ls ≤ i → (ts : List Term) → ReadsIn g args ts → Grows g (IsPieceOfLiterals (map (literal_filled ts) ms)) h
+told_literals g h args ls ms i a e le ts r = subst (λ (z : List literal.Literal). Grows g (IsPieceOfLiterals (map (literal_filled ts) z)) h) (take_all i ls le ∙ e) (a ts r)
+
+pub told_formula_step : (g h k : Ground) (fs : List Formula) (i : ℕ) (f : Formula) → (IsNumbered g → Grows g (IsPieceOfFormulas (take i fs)) h) → f ≡ get_or fs i f → i < length fs → (IsNumbered h → Grows h (IsPieceOf f) k) → IsNumbered g → Grows g (IsPieceOfFormulas (take (i + 1) fs)) k
+told_formula_step g h k fs i f a e lt b n =
+    let same : take (i + 1) fs ≡ take i fs ++ f ∷ [] = take_more fs i f lt ∙ ap (λ z. take i fs ++ z ∷ []) (inverse e) in
+    subst (λ (z : List Formula). Grows g (IsPieceOfFormulas z) k) (inverse same) (formulas_more g h k (take i fs) f (a n) b)
+
+pub told_formulas : (g h : Ground) (fs es : List Formula) (i : ℕ) → (IsNumbered g → Grows g (IsPieceOfFormulas (take i fs)) h) → fs ≡ es → length fs ≤ i → IsNumbered g → Grows g (IsPieceOfFormulas es) h
+told_formulas g h fs es i a e le n = subst (λ (z : List Formula). Grows g (IsPieceOfFormulas z) h) (take_all i fs le ∙ e) (a n)
 
 pub ruleset atom_rules = (atom_some, atom_none)
 

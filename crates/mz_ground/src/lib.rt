@@ -1,6 +1,8 @@
 // Clauses, the ground part of a disjunct, and the facts over it.
 #![tactic(auto)]
 
+pub mod add_pieces;
+pub mod add_terms;
 pub mod clause;
 pub mod clauses;
 pub mod ground;
@@ -11,9 +13,14 @@ pub mod ground_equations;
 pub mod ground_fault;
 pub mod ground_term;
 pub mod ground_terms;
+pub mod instances;
 pub mod laws;
 pub mod layer_end;
 pub mod layer_ends;
+pub mod making;
+pub mod matching;
+pub mod nodes;
 pub mod piece_place;
 pub mod places;
 pub mod trigger;
+pub mod trigger_matching;

@@ -1,0 +1,22 @@
+-- What a closed problem means.
+use Rattle.std.specs.Prelude.{◌≡◌, ℕ, false, List, [], ◌++◌, map}
+use Rattle.std.specs.List.{list_any}
+use Rattle.mz_logic.specs.Constants.{formula_mentions}
+use Rattle.mz_logic.specs.Derives.{Derives}
+use Rattle.mz_nf.specs.declared.problem.Problem.{Problem}
+use Rattle.mz_ground.specs.declared.clause.Clause.{Clause}
+use Rattle.mz_ground.specs.ClauseFormula.{clause_formula}
+use Rattle.mz_by.specs.declared.by_verdict.ByVerdict.{ByVerdict}
+use Rattle.mz_by.specs.Verdict.{IsVerdict}
+
+-- no clause, read as a formula, has a constant
+abbrev pub HaveNoConstants : List Clause → Type 0
+HaveNoConstants cs = (c : ℕ) → list_any (formula_mentions c) (map clause_formula cs) ≡ false
+
+-- the conclusion derives from the premises and the clauses, without axioms
+abbrev pub IsDerived : Problem → List Clause → Type 0
+IsDerived p cs = Derives [] (p.premises ++ map clause_formula cs) p.conclusion
+
+-- a problem has one verdict at most
+abbrev pub OneVerdictLaw : Type 0
+OneVerdictLaw = (p : Problem) (cs : List Clause) (v w : ByVerdict) → IsVerdict p cs v → IsVerdict p cs w → v ≡ w

@@ -1,0 +1,9 @@
+use Rattle.std.proofs.Common.{refl}
+use Rattle.mz_ground.proofs.PieceLemmas.{told_atom_none, told_atom_some}
+use Rattle.mz_ground.proofs.ground.Ground.add_atom.Goals as goal
+
+pub returns-in_ok-place-in-Some : goal.returns-in_ok-place-in-Some
+returns-in_ok-place-in-Some c = told_atom_some _ _ _ _ _ _ _ _ c.in-Some.is c.in_ok-places.ensures c.in_ok-place-in-Some.ensures refl refl
+
+pub returns-in-None : goal.returns-in-None
+returns-in-None c = told_atom_none _ _ _ _ _ _ c.in-None.is c.in_ok-places.ensures refl refl refl

@@ -1,0 +1,103 @@
+// The terms at which a trigger has a ground instance.
+ghost use Rattle.std.specs.Prelude.{◌≡◌, ◌↔◌, ◌<◌, ℕ, map, length, Contains, IsTrue};
+ghost use Rattle.mz_ground.specs.Ground.{term_at};
+ghost use Rattle.mz_ground.specs.Instance.{filled};
+ghost use Rattle.mz_ground.specs.Table.{IsTable, entry_terms};
+ghost use Rattle.mz_ground.specs.Matches.{IsTermValue, AreTermsValue};
+
+use crate::add_terms::place_for;
+use crate::ground_term::GroundTerm;
+use crate::ground_terms::GroundTerms;
+use mz_logic::term::{Term, TermNode, Terms};
+
+impl GroundTerms {
+    /// The place of the term that stands for the index wherever `t` filled is the term at the place.
+    #[cycle(value)]
+    #[tactic(auto, using(crate::proofs::MatchLemmas::value_rules))]
+    pub fn value_in(&self, index: u32, t: &Term, place: usize) -> Option<usize>
+        requires table { IsTable self.now }
+        requires within { place < length self.now }
+        ensures { IsTermValue self.now index t.now place result }
+    {
+        match &t.node {
+            TermNode::Bound(n) => { if *n == index { Some(place) } else { None } }
+            TermNode::Const(_) => None,
+            TermNode::App(r, us) => match self.get(place) {
+                GroundTerm::App { sym, args } => {
+                    if r.is(*sym) {
+                        self.value_among(index, us, args.as_slice())
+                    } else {
+                        None
+                    }
+                }
+                GroundTerm::Const(_) => None,
+            },
+        }
+    }
+
+    /// The place of the term that stands for the index wherever `us` filled are the terms at the places.
+    #[cycle(value)]
+    #[tactic(auto, using(crate::proofs::MatchLemmas::value_rules))]
+    pub fn value_among(&self, index: u32, us: &Terms, places: &[usize]) -> Option<usize>
+        requires table { IsTable self.now }
+        requires within { (k : ℕ) → Contains places.now k → k < length self.now }
+        ensures { AreTermsValue self.now index us.now places.now result }
+    {
+        if us.items.len() != places.len() {
+            return None;
+        }
+        for i in 0..places.len() {
+            if let Some(place) = self.value_in(index, &us.items[i], places[i]) {
+                return Some(place);
+            }
+        }
+        None
+    }
+
+    /// Whether `t`, filled by the terms at the places `args`, is the term at the place.
+    #[cycle(filled)]
+    #[tactic(auto, using(crate::proofs::MatchLemmas::filled_rules))]
+    pub fn is_filled(&self, args: &[usize], t: &Term, place: usize) -> bool
+        requires table { IsTable self.now }
+        requires args { (k : ℕ) → Contains args.now k → k < length self.now }
+        requires within { place < length self.now }
+        ensures { IsTrue result ↔ (filled (map (term_at (entry_terms self.now)) args.now) t.now ≡ term_at (entry_terms self.now) place) }
+    {
+        match &t.node {
+            TermNode::Bound(n) => match place_for(args, *n) {
+                Some(arg) => arg == place,
+                None => false,
+            },
+            TermNode::Const(m) => match self.get(place) {
+                GroundTerm::Const(n) => *m == *n,
+                GroundTerm::App { sym: _, args: _ } => false,
+            },
+            TermNode::App(r, us) => match self.get(place) {
+                GroundTerm::App { sym, args: places } => {
+                    r.is(*sym) && self.are_filled(args, us, places.as_slice())
+                }
+                GroundTerm::Const(_) => false,
+            },
+        }
+    }
+
+    /// Whether `us`, filled by the terms at the places `args`, are the terms at the places.
+    #[cycle(filled)]
+    #[tactic(auto, using(crate::proofs::MatchLemmas::filled_rules))]
+    pub fn are_filled(&self, args: &[usize], us: &Terms, places: &[usize]) -> bool
+        requires table { IsTable self.now }
+        requires args { (k : ℕ) → Contains args.now k → k < length self.now }
+        requires within { (k : ℕ) → Contains places.now k → k < length self.now }
+        ensures { IsTrue result ↔ (map (filled (map (term_at (entry_terms self.now)) args.now)) us.now ≡ map (term_at (entry_terms self.now)) places.now) }
+    {
+        if us.items.len() != places.len() {
+            return false;
+        }
+        for i in 0..places.len() {
+            if !self.is_filled(args, &us.items[i], places[i]) {
+                return false;
+            }
+        }
+        true
+    }
+}
