@@ -6,3 +6,5 @@ pub mod by_verdict;
 pub mod examination;
 pub mod examine;
 pub mod laws;
+#[cfg(test)]
+mod tests;
