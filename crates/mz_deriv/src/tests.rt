@@ -210,10 +210,11 @@ fn verdicts(alloc: Global, axioms: &Formulas, text: &str) -> Result<(bool, bool)
     Ok((node, check_derivation(axioms, &d)))
 }
 
-// Over the axioms `All(x = x)`, `All(P(x))`: whether the last node is right, and the whole tree.
+// Each row: a tree over the axioms `All(x = x)`, `All(P(x))`, whether its last node is right, and the whole tree.
 #[test]
-fn tells_right_trees(rt: HostRuntime) -> Result<(), Fail> {
+fn tells_right_trees_of_connectives(rt: HostRuntime) -> Result<(), Fail> {
     let alloc = rt.alloc();
+    let axioms = stack_of(alloc, "xx=A xPA")?.formulas;
     let rows = [
         ("1P 2P 1P h", true, true),
         ("2P 1P h", false, false),
@@ -233,6 +234,24 @@ fn tells_right_trees(rt: HostRuntime) -> Result<(), Fail> {
         ("1P 2P! 1P h 1P 2P! 2P! h 1P 2P! 3P o", false, false),
         ("1P! T! T! h T! 1P k", true, true),
         ("1P T! T! h T! 1P k", false, false),
+        ("2P T t T 2P 2P h 2P 2P u", true, true),
+        ("2P T t 2P T 2P h 2P 2P u", false, false),
+    ];
+    for (text, node_is_right, is_right) in rows {
+        assert_eq!(rt;
+            verdicts(alloc, &axioms, text)?,
+            (node_is_right, is_right),
+            "{text}"
+        );
+    }
+    Ok(())
+}
+
+#[test]
+fn tells_right_trees_of_quantifiers_and_equations(rt: HostRuntime) -> Result<(), Fail> {
+    let alloc = rt.alloc();
+    let axioms = stack_of(alloc, "xx=A xPA")?.formulas;
+    let rows = [
         ("11= e xx=A 1g", true, true),
         ("11= 11= e 11= xx=A 1g", false, false),
         ("11= e x1=A 1g", false, false),
@@ -243,8 +262,6 @@ fn tells_right_trees(rt: HostRuntime) -> Result<(), Fail> {
         ("xx= e", false, false),
         ("12= 11= 12= h 12= 11= 11= h 12= 11= 21= s", true, true),
         ("12= 2P 12= h 12= 2P 2P h 12= 2P 1P s", false, false),
-        ("2P T t T 2P 2P h 2P 2P u", true, true),
-        ("2P T t 2P T 2P h 2P 2P u", false, false),
         ("xPA 2q", true, true),
         ("xPA 1q", false, false),
         ("xx=A 0q", false, false),
@@ -252,11 +269,26 @@ fn tells_right_trees(rt: HostRuntime) -> Result<(), Fail> {
         ("xQA xQA h xy=AD xx=AA xx=AA v", false, false),
         ("1FP 1FP h xfd 1fP 1fP v", true, true),
         ("1FP 1FP h xfd 1P 1P v", false, false),
+    ];
+    for (text, node_is_right, is_right) in rows {
+        assert_eq!(rt;
+            verdicts(alloc, &axioms, text)?,
+            (node_is_right, is_right),
+            "{text}"
+        );
+    }
+    Ok(())
+}
+
+#[test]
+fn tells_where_a_tree_is_wrong(rt: HostRuntime) -> Result<(), Fail> {
+    let alloc = rt.alloc();
+    let axioms = stack_of(alloc, "xx=A xPA")?.formulas;
+    let rows = [
         ("T t T t T t T w", false, false),
         ("12= e 1P 12= w", true, false),
         ("12= e 1P 12= w 1P 2P 12= w", true, false),
     ];
-    let axioms = stack_of(alloc, "xx=A xPA")?.formulas;
     for (text, node_is_right, is_right) in rows {
         assert_eq!(rt;
             verdicts(alloc, &axioms, text)?,

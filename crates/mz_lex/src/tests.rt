@@ -409,41 +409,13 @@ fn reads_directives(rt: HostRuntime) -> Result<(), Fail> {
 fn joins_vocabularies(rt: HostRuntime) -> Result<(), Fail> {
     let most = attributes(rt.alloc(), 4_096)?;
     let both = b"environ vocabularies A, B; begin";
-    let rows: [(&[u8], &[u8], &[u8], Answer); 11] = [
-        (
-            b"O*\nO+ 256",
-            b"",
-            b"environ vocabularies A; begin",
-            Answer::BadPriority(1, 22, 2),
-        ),
-        (b"", b"R=", both, Answer::BadEntry(1, 25, 1)),
-        (b"", b"Rx\nRx", both, Answer::Repeated(1, 25, 2)),
-        (
-            b"",
-            b"",
-            b"environ vocabularies NOVOC; begin",
-            Answer::Absent(1, 22),
-        ),
-        (
-            b"",
-            b"",
-            b"environ vocabularies TARSKI_0; begin",
-            Answer::Absent(1, 22),
-        ),
-        (
-            b"",
-            b"",
-            b"environ vocabularies HIDDEN; theorems C; begin",
-            Answer::Fine(0),
-        ),
+    let again = b"environ vocabularies A, B, A; begin";
+    let hidden = b"environ vocabularies HIDDEN; theorems C; begin";
+    let rows: [(&[u8], &[u8], &[u8], Answer); 6] = [
+        (b"", b"", hidden, Answer::Fine(0)),
         (b"Rx", b"Ox", both, Answer::TwoKinds(1, 25)),
         (b"Rx", b"Rx", both, Answer::Fine(0)),
-        (
-            b"Rx\nOy",
-            b"Gz",
-            b"environ vocabularies A, B, A; begin",
-            Answer::Fine(0),
-        ),
+        (b"Rx\nOy", b"Gz", again, Answer::Fine(0)),
         (most.as_slice(), b"VaaA", both, Answer::Fine(0)),
         (
             most.as_slice(),
@@ -451,6 +423,25 @@ fn joins_vocabularies(rt: HostRuntime) -> Result<(), Fail> {
             both,
             Answer::TooManySymbols(1, 25),
         ),
+    ];
+    for (a, b, text, want) in rows {
+        assert_eq!(rt; table_answer(rt.alloc(), a, b, text)?, want);
+    }
+    Ok(())
+}
+
+#[test]
+fn tells_the_first_vocabulary_that_fails(rt: HostRuntime) -> Result<(), Fail> {
+    let both = b"environ vocabularies A, B; begin";
+    let one = b"environ vocabularies A; begin";
+    let no_text = b"environ vocabularies NOVOC; begin";
+    let built_in = b"environ vocabularies TARSKI_0; begin";
+    let rows: [(&[u8], &[u8], &[u8], Answer); 5] = [
+        (b"O*\nO+ 256", b"", one, Answer::BadPriority(1, 22, 2)),
+        (b"", b"R=", both, Answer::BadEntry(1, 25, 1)),
+        (b"", b"Rx\nRx", both, Answer::Repeated(1, 25, 2)),
+        (b"", b"", no_text, Answer::Absent(1, 22)),
+        (b"", b"", built_in, Answer::Absent(1, 22)),
     ];
     for (a, b, text, want) in rows {
         assert_eq!(rt; table_answer(rt.alloc(), a, b, text)?, want);
