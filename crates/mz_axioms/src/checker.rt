@@ -11,6 +11,7 @@ use mz_base::name::Name;
 use mz_base::vocabularies::Vocabularies;
 use mz_core::outcome::Outcome;
 use std::alloc::{AllocError, Global};
+use std::sync::Wait;
 use std::thread::Threads;
 
 /// What checks an article. Its outcome is a function of the article's name, its vocabularies, the exports
@@ -20,7 +21,7 @@ pub trait Checker: Sync {
     ghost outcome: { OutcomeOf };
 
     /// The outcome of the article. Threads that it starts are ended when it returns.
-    fn check<R: Threads + Sync>(
+    fn check<R: Threads + Wait + Sync>(
         &self,
         rt: &R,
         alloc: Global,

@@ -14,6 +14,7 @@ use mz_core::fault::{Fault, Faults};
 use mz_core::granted::grants;
 use mz_core::outcome::Outcome;
 use std::alloc::{AllocError, Global};
+use std::sync::Wait;
 use std::test::Fail;
 use std::thread::Threads;
 
@@ -93,7 +94,7 @@ impl Checker for Rejecting {
 
     ghost outcome = { rejects_all };
 
-    fn check<R: Threads + Sync>(
+    fn check<R: Threads + Wait + Sync>(
         &self,
         _rt: &R,
         alloc: Global,

@@ -6,7 +6,7 @@ use mz_base::limit::Limit;
 pub enum ByVerdict {
     /// It is.
     Closed,
-    /// It isn't: this disjunct, counted from 1, is the first that has no contradiction.
+    /// It isn't: this disjunct, counted from 1, is the first that isn't closed.
     Open { disjunct: u32 },
     /// A limit was passed, by this number.
     Over { limit: Limit, number: u64 },

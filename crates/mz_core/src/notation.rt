@@ -5,7 +5,8 @@ use mz_logic::literal::Literal;
 use mz_logic::term::Term;
 
 /// What a pattern reads to, under its loci: for a mode the type, for a predicate or an attribute the
-/// literal. The last argument of an attribute's literal is the subject.
+/// literal. A definition makes an attribute's literal with the subject as its last argument; a
+/// synonym may have any literal.
 #[derive(Drop)]
 pub enum Meaning {
     OfTerm(Term),
