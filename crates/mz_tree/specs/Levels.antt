@@ -1,5 +1,6 @@
--- How many constructs are open at each token of an expression. A construct is open from its first token on, and its last
--- token stands behind it.
+-- How many constructs are open at each token of an expression. A construct is open from its first token on: a bracket up to
+-- the token before the one that closes it, a `not` to the end of its unit, a quantifier to the end of its formula, and an
+-- operand of a chain to the end of the chain.
 use Rattle.std.specs.Prelude.{◌≡◌, ℕ, suc, List, [], ◌∷◌, ◌++◌, map, length, refl, codes, Option, Some, None}
 use Rattle.mz_base.specs.declared.place.Place.{Place}
 use Rattle.mz_base.specs.declared.symbol_kind.SymbolKind.TheVariants as symbols
@@ -104,14 +105,8 @@ abbrev mutual
   pub levels_disjunction : DisjunctionData → List ℕ
   levels_disjunction (ChainDisjunction a b) = levels_conjunction a ++ (levels_next_conjunction_list b)
 
-  pub levels_next_conjunction : NextConjunctionData → List ℕ
-  levels_next_conjunction (OrNextConjunction a b) = 0 ∷ (levels_conjunction b)
-
   pub levels_conjunction : ConjunctionData → List ℕ
   levels_conjunction (ChainConjunction a b) = levels_unit a ++ (levels_next_unit_list b)
-
-  pub levels_next_unit : NextUnitData → List ℕ
-  levels_next_unit (AndNextUnit a b) = 0 ∷ (levels_unit b)
 
   pub levels_unit : UnitData → List ℕ
   levels_unit (NotUnit a b) = 1 ∷ (map suc (levels_unit b))
@@ -234,14 +229,8 @@ mutual
   pub each_disjunction : (t : DisjunctionData) → length (levels_disjunction t) ≡ length (spell_disjunction t)
   each_disjunction (ChainDisjunction a b) = each_append (levels_conjunction a) (levels_next_conjunction_list b) (spell_conjunction a) (spell_next_conjunction_list b) (each_conjunction a) (each_next_conjunction_list b)
 
-  pub each_next_conjunction : (t : NextConjunctionData) → length (levels_next_conjunction t) ≡ length (spell_next_conjunction t)
-  each_next_conjunction (OrNextConjunction a b) = ap suc (each_conjunction b)
-
   pub each_conjunction : (t : ConjunctionData) → length (levels_conjunction t) ≡ length (spell_conjunction t)
   each_conjunction (ChainConjunction a b) = each_append (levels_unit a) (levels_next_unit_list b) (spell_unit a) (spell_next_unit_list b) (each_unit a) (each_next_unit_list b)
-
-  pub each_next_unit : (t : NextUnitData) → length (levels_next_unit t) ≡ length (spell_next_unit t)
-  each_next_unit (AndNextUnit a b) = ap suc (each_unit b)
 
   pub each_unit : (t : UnitData) → length (levels_unit t) ≡ length (spell_unit t)
   each_unit (NotUnit a b) = ap suc (nested_each (levels_unit b) (spell_unit b) (each_unit b))
