@@ -22,5 +22,7 @@ pub mod matching;
 pub mod nodes;
 pub mod piece_place;
 pub mod places;
+#[cfg(test)]
+mod tests;
 pub mod trigger;
 pub mod trigger_matching;
