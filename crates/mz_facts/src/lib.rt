@@ -20,3 +20,5 @@ mod pairs;
 mod rule;
 mod rules;
 mod signatures;
+#[cfg(test)]
+mod tests;
