@@ -16,7 +16,7 @@ use Rattle.mz_refute.specs.RowsAlike.{AlikeFormula}
 use Rattle.mz_refute.specs.RowsRefuted.{RowsRefute}
 use Rattle.mz_refute.specs.Matches.{Slots, match_rows, alike_formula}
 use Rattle.mz_refute.specs.Goals.{Goal, Refute, Leave, Meets, match_literal, IsLiteral, tail_of}
-use Rattle.mz_refute.specs.Frames.{Fits, Covered, Solvable, SomeSolvable, Stepped, Task, cost, cost_formula, cost_each, total, goal_of, task_of}
+use Rattle.mz_refute.specs.Frames.{Fits, Covered, Solvable, SomeSolvable, Stepped, Task, cost, cost_formula, cost_each, total, parts, goal_of, task_of}
 use Rattle.mz_refute.proofs.SomeLemmas.{some_map, some_left, some_right, some_cases, into_map, out_of_map, pull, witness}
 use Rattle.mz_refute.proofs.MatchLemmas.{row_found, row_finds, equal_found, equal_finds, flat_found, flat_finds}
 use Rattle.mz_refute.proofs.AlikeLemmas.{alike_found, alike_finds}
@@ -231,17 +231,21 @@ pub told_not : (rows : Head → List Row) (values : List ℕ) (us : List Formula
 told_not rows values us s r f gs es before after n e =
     one rows values us (Refute s (form.Not f) ∷ gs) (Refute (not s) f ∷ gs) es es before after (e ∙ ap (λ q. before ++ (Refute q f ∷ gs, es) ∷ []) n) (not_from rows values us s f gs es) (not_to rows values us s f gs es) (omega arith)
 
-pub told_either : (rows : Head → List Row) (values : List ℕ) (us : List Formula) (f g : Formula) (gs : List Goal) (es ds : List Slots) (before mid after : List Task) → ds ≡ es → mid ≡ before ++ (Refute true g ∷ gs, ds) ∷ [] → after ≡ mid ++ (Refute true f ∷ gs, es) ∷ [] → Stepped rows values us (Refute true (form.And f g) ∷ gs, es) before after false
-told_either rows values us f g gs es ds before mid after n e k =
-    two rows values us (Refute true (form.And f g) ∷ gs) (Refute true g ∷ gs) (Refute true f ∷ gs) es es es before mid after (e ∙ ap (λ cs. before ++ (Refute true g ∷ gs, cs) ∷ []) n) k (right_from rows values us f g gs es) (left_from rows values us f g gs es) (either_to rows values us f g gs es) (omega arith)
+pub told_frames : (f g : Formula) (gs : List Goal) (es ds : List Slots) (before mid after : List Task) → ds ≡ es → mid ≡ before ++ (Refute true g ∷ gs, ds) ∷ [] → after ≡ mid ++ (Refute true f ∷ gs, es) ∷ [] → after ≡ before ++ parts true f g gs es
+told_frames f g gs es ds before mid after n e k =
+    k ∙ ap (λ ts. ts ++ (Refute true f ∷ gs, es) ∷ []) (e ∙ ap (λ cs. before ++ (Refute true g ∷ gs, cs) ∷ []) n) ∙ append_assoc before ((Refute true g ∷ gs, es) ∷ []) ((Refute true f ∷ gs, es) ∷ [])
 
-pub told_both : (rows : Head → List Row) (values : List ℕ) (us : List Formula) (f g : Formula) (gs : List Goal) (es : List Slots) (before after : List Task) → after ≡ before ++ (Refute false f ∷ Refute false g ∷ gs, es) ∷ [] → Stepped rows values us (Refute false (form.And f g) ∷ gs, es) before after false
-told_both rows values us f g gs es before after e =
+pub ruleset part_rules = (told_frames)
+
+pub told_parts : (rows : Head → List Row) (values : List ℕ) (us : List Formula) (s : Bool) (f g : Formula) (gs : List Goal) (es : List Slots) (before after : List Task) → after ≡ before ++ parts s f g gs es → Stepped rows values us (Refute s (form.And f g) ∷ gs, es) before after false
+told_parts rows values us true f g gs es before after e =
+    two rows values us (Refute true (form.And f g) ∷ gs) (Refute true g ∷ gs) (Refute true f ∷ gs) es es es before (before ++ (Refute true g ∷ gs, es) ∷ []) after refl (e ∙ sym (append_assoc before ((Refute true g ∷ gs, es) ∷ []) ((Refute true f ∷ gs, es) ∷ []))) (right_from rows values us f g gs es) (left_from rows values us f g gs es) (either_to rows values us f g gs es) (omega arith)
+told_parts rows values us false f g gs es before after e =
     one rows values us (Refute false (form.And f g) ∷ gs) (Refute false f ∷ Refute false g ∷ gs) es es before after e (both_from rows values us f g gs es) (both_to rows values us f g gs es) (omega arith)
 
-pub told_all : (rows : Head → List Row) (values : List ℕ) (us : List Formula) (b : Formula) (gs : List Goal) (es ds : List Slots) (before after : List Task) → ds ≡ map (λ e. None ∷ e) es → after ≡ before ++ (Refute true b ∷ Leave ∷ gs, ds) ∷ [] → Stepped rows values us (Refute true (form.All b) ∷ gs, es) before after false
-told_all rows values us b gs es ds before after n e =
-    one rows values us (Refute true (form.All b) ∷ gs) (Refute true b ∷ Leave ∷ gs) es (map (λ e. None ∷ e) es) before after (e ∙ ap (λ cs. before ++ (Refute true b ∷ Leave ∷ gs, cs) ∷ []) n) (all_from rows values us b gs es) (all_to rows values us b gs es) (omega arith)
+pub told_all : (rows : Head → List Row) (values : List ℕ) (us : List Formula) (b : Formula) (gs : List Goal) (es : List Slots) (before after : List Task) → after ≡ before ++ (Refute true b ∷ Leave ∷ gs, map (λ e. None ∷ e) es) ∷ [] → Stepped rows values us (Refute true (form.All b) ∷ gs, es) before after false
+told_all rows values us b gs es before after e =
+    one rows values us (Refute true (form.All b) ∷ gs) (Refute true b ∷ Leave ∷ gs) es (map (λ e. None ∷ e) es) before after e (all_from rows values us b gs es) (all_to rows values us b gs es) (omega arith)
 
 pub told_literal : (rows : Head → List Row) (values : List ℕ) (us : List Formula) (s : Bool) (f : Formula) (gs : List Goal) (es init found single : List Slots) (e : Slots) (before mid after : List Task) → IsLiteral s f → es ≡ init ++ e ∷ [] → single ≡ e ∷ [] → found ≡ match_literal rows values us s f single → mid ≡ before ++ (Refute s f ∷ gs, init) ∷ [] → after ≡ mid ++ (gs, found) ∷ [] → Stepped rows values us (Refute s f ∷ gs, es) before after false
 told_literal rows values us s f gs es init found single e before mid after l q o n m k =
@@ -253,7 +257,7 @@ told_literal rows values us s f gs es init found single e before mid after l q o
     (λ h. elim (part_cases rows values us (Refute s f ∷ gs) init (e ∷ []) h) [ inl c ↦ inl c | inr c ↦ inr (literal_to rows values us s f gs (e ∷ []) l c) ])
     (last_costs rows values us s f gs init e l))
 
-pub ruleset step_rules = (told_empty, told_done, told_leave, told_not, told_either, told_both, told_all, told_literal)
+pub ruleset step_rules = (told_empty, told_done, told_leave, told_not, told_parts, told_all, told_literal)
 
 -- the whole search
 pub start_to : (rows : Head → List Row) (values : List ℕ) (us : List Formula) (f : Formula) (ts : List Task) → ts ≡ (Refute true f ∷ [], [] ∷ []) ∷ [] → RowsRefute rows values us true [] f → SomeSolvable rows values us ts

@@ -56,6 +56,11 @@ total rows values us (t ∷ ts) = cost rows values us t.0 t.1 + total rows value
 abbrev pub SomeSolvable : (Head → List Row) → List ℕ → List Formula → List Task → Type 0
 SomeSolvable rows values us ts = SomeOf (λ t. Solvable rows values us t.0 t.1) ts
 
+-- what refutes a conjunction of two formulas, or its negation where the sign is false
+abbrev pub parts : Bool → Formula → Formula → List Goal → List Slots → List Task
+parts true f g gs es = (Refute true g ∷ gs, es) ∷ (Refute true f ∷ gs, es) ∷ []
+parts false f g gs es = (Refute false f ∷ Refute false g ∷ gs, es) ∷ []
+
 -- a step found that the task is solvable, or put others in its place that are so exactly where it is
 unfoldable pub Stepped : (Head → List Row) → List ℕ → List Formula → Task → List Task → List Task → Bool → Type 0
 Stepped rows values us t before after true = Solvable rows values us t.0 t.1

@@ -3,7 +3,7 @@ ghost use Rattle.std.specs.Prelude.{◌≡◌, ◌+◌, ◌<◌, ◌^◌, ℕ, [
 ghost use Rattle.mz_logic.specs.Formula.{binders_of, formula_size};
 ghost use Rattle.mz_logic.specs.Term.{terms_of};
 ghost use Rattle.mz_logic.specs.Indices.{args_below};
-ghost use Rattle.mz_refute.specs.Matches.{is_index, keep_index, match_index, alike_term, alike_args, alike_formula, same_sign};
+ghost use Rattle.mz_refute.specs.Matches.{is_index, keep_index, match_index, alike_term, alike_args, alike_formula, same_sign, when};
 ghost use Rattle.mz_refute.specs.Table.{rows_of};
 
 use crate::assignment::Assignment;
@@ -151,6 +151,66 @@ fn is_same_sign(p: bool, q: bool) -> bool
     if p { q } else { !q }
 }
 
+/// The assignments, or none where they aren't kept.
+fn copied_when(alloc: Global, keep: bool, es: &Assignments) -> Result<Assignments, AllocError>
+    ensures { IfOk result (λ out. out ≡ when keep es.now) }
+{
+    if keep {
+        es.copy(alloc)
+    } else {
+        Ok(Assignments::new(alloc))
+    }
+}
+
+/// The assignments that extend one of `es` and at which the sides of two equations are alike, or none where the
+/// signs differ.
+fn alike_equations(
+    alloc: Global,
+    table: &Table,
+    depth: usize,
+    same: bool,
+    t: &Term,
+    u: &Term,
+    v: &Term,
+    w: &Term,
+    es: &Assignments,
+) -> Result<Assignments, AllocError>
+    ensures { IfOk result (λ out. out ≡ when same (alike_term (rows_of table.now) depth u.now w.now (alike_term (rows_of table.now) depth t.now v.now es.now))) }
+{
+    if same {
+        let left = alike_term(alloc, table, depth, t, v, es)?;
+        alike_term(alloc, table, depth, u, w, &left)
+    } else {
+        Ok(Assignments::new(alloc))
+    }
+}
+
+/// The assignments that extend one of `es` and at which the arguments of two atoms are alike, or none where the
+/// signs or the symbols differ.
+fn alike_atoms(
+    alloc: Global,
+    table: &Table,
+    depth: usize,
+    same: bool,
+    ts: &Terms,
+    us: &Terms,
+    es: &Assignments,
+) -> Result<Assignments, AllocError>
+    ensures { IfOk result (λ out. out ≡ when same (alike_args (rows_of table.now) depth (terms_of ts.now) (terms_of us.now) es.now)) }
+{
+    if same {
+        alike_args(alloc, table, depth, ts, us, es)
+    } else {
+        Ok(Assignments::new(alloc))
+    }
+}
+
+fn next_depth(depth: usize) -> Result<usize, AllocError>
+    ensures { IfOk result (λ n. n ≡ depth + 1) }
+{
+    depth.checked_add(1).ok_or(AllocError)
+}
+
 /// The assignments that extend one of `es` and at which the formulas, both under `depth` further
 /// binders, are alike up to double negation; the first is negated where `p` is false, and the second
 /// where `q` is.
@@ -166,46 +226,29 @@ pub fn alike_formula(
 ) -> Result<Assignments, AllocError>
     ensures { IfOk result (λ out. out ≡ alike_formula (rows_of table.now) depth p f.now q g.now es.now) }
 {
+    let same = is_same_sign(p, q);
     match (&f.node, &g.node) {
         (FormulaNode::Not(f), _) => alike_formula(alloc, table, depth, !p, f, q, g, es),
         (_, FormulaNode::Not(g)) => alike_formula(alloc, table, depth, p, f, !q, g, es),
-        (FormulaNode::Truth, FormulaNode::Truth) => {
-            if is_same_sign(p, q) {
-                es.copy(alloc)
-            } else {
-                Ok(Assignments::new(alloc))
-            }
-        }
+        (FormulaNode::Truth, FormulaNode::Truth) => copied_when(alloc, same, es),
         (FormulaNode::Eq(t, u), FormulaNode::Eq(v, w)) => {
-            if is_same_sign(p, q) {
-                let left = alike_term(alloc, table, depth, t, v, es)?;
-                alike_term(alloc, table, depth, u, w, &left)
-            } else {
-                Ok(Assignments::new(alloc))
-            }
+            alike_equations(alloc, table, depth, same, t, u, v, w, es)
         }
         (FormulaNode::Atom(r, ts), FormulaNode::Atom(s, us)) => {
-            if is_same_sign(p, q) && r.is(*s) {
-                alike_args(alloc, table, depth, ts, us, es)
-            } else {
-                Ok(Assignments::new(alloc))
-            }
+            alike_atoms(alloc, table, depth, same && r.is(*s), ts, us, es)
         }
         (FormulaNode::And(f, h), FormulaNode::And(g, k)) => {
-            if is_same_sign(p, q) {
-                let left = alike_formula(alloc, table, depth, true, f, true, g, es)?;
-                alike_formula(alloc, table, depth, true, h, true, k, &left)
-            } else {
-                Ok(Assignments::new(alloc))
+            if !same {
+                return Ok(Assignments::new(alloc));
             }
+            let left = alike_formula(alloc, table, depth, true, f, true, g, es)?;
+            alike_formula(alloc, table, depth, true, h, true, k, &left)
         }
         (FormulaNode::All(f), FormulaNode::All(g)) => {
-            if is_same_sign(p, q) {
-                let depth = depth.checked_add(1).ok_or(AllocError)?;
-                alike_formula(alloc, table, depth, true, f, true, g, es)
-            } else {
-                Ok(Assignments::new(alloc))
+            if !same {
+                return Ok(Assignments::new(alloc));
             }
+            alike_formula(alloc, table, next_depth(depth)?, true, f, true, g, es)
         }
         _ => Ok(Assignments::new(alloc)),
     }

@@ -1,8 +1,8 @@
 //! The search for classes of the variables that refute a formula.
-ghost use Rattle.std.specs.Prelude.{◌≡◌, ◌↔◌, ◌∷◌, [], true, IfOk, IsTrue, map, flat_map};
-ghost use Rattle.mz_refute.specs.Goals.{match_literal, IsLiteral, Refute};
+ghost use Rattle.std.specs.Prelude.{◌≡◌, ◌↔◌, ◌∷◌, ◌++◌, [], true, false, None, IfOk, OnOk, IsTrue, map, flat_map};
+ghost use Rattle.mz_refute.specs.Goals.{match_literal, IsLiteral, Refute, Leave};
 ghost use Rattle.mz_refute.specs.Matches.{alike_formula};
-ghost use Rattle.mz_refute.specs.Frames.{Stepped, task_of, goal_of};
+ghost use Rattle.mz_refute.specs.Frames.{Stepped, task_of, goal_of, parts};
 ghost use Rattle.mz_refute.specs.RowsRefuted.{RowsRefute};
 ghost use Rattle.mz_refute.specs.Table.{rows_of};
 ghost use Rattle.mz_logic.specs.Formula.{Eq, Atom};
@@ -146,6 +146,90 @@ fn step_literal<'a>(
     }
 }
 
+/// Puts a frame with one formula to refute, and then others, on a stack.
+fn push_formula<'a>(
+    alloc: Global,
+    stack: &mut Vec<Frame<'a>>,
+    assignments: Assignments,
+    positive: bool,
+    formula: &'a Formula,
+    rest: &[Goal<'a>],
+) -> Result<(), AllocError>
+    ensures { OnOk result (map task_of stack.new.items ≡ map task_of stack.old.items ++ (Refute positive formula.now ∷ map goal_of rest.now, assignments) ∷ []) }
+{
+    let first = [Goal::Refute { positive, formula }];
+    push_frame(alloc, stack, assignments, &first, rest)
+}
+
+/// Puts on a stack what is left to do for the conjunction of two formulas, or for its negation where
+/// `positive` is false: a frame for each part, or one frame for both.
+#[tactic(auto, using(crate::proofs::FrameLemmas::part_rules))]
+fn push_parts<'a>(
+    alloc: Global,
+    stack: &mut Vec<Frame<'a>>,
+    assignments: Assignments,
+    positive: bool,
+    g: &'a Formula,
+    h: &'a Formula,
+    rest: &[Goal<'a>],
+) -> Result<(), AllocError>
+    ensures { OnOk result (map task_of stack.new.items ≡ map task_of stack.old.items ++ parts positive g.now h.now (map goal_of rest.now) assignments) }
+{
+    if positive {
+        let same = assignments.copy(alloc)?;
+        push_formula(alloc, stack, same, true, h, rest)?;
+        push_formula(alloc, stack, assignments, true, g, rest)?;
+        Ok(())
+    } else {
+        push_both(alloc, stack, assignments, g, h, rest)
+    }
+}
+
+/// Puts a frame with the negations of two formulas to refute, and then others, on a stack.
+fn push_both<'a>(
+    alloc: Global,
+    stack: &mut Vec<Frame<'a>>,
+    assignments: Assignments,
+    g: &'a Formula,
+    h: &'a Formula,
+    rest: &[Goal<'a>],
+) -> Result<(), AllocError>
+    ensures { OnOk result (map task_of stack.new.items ≡ map task_of stack.old.items ++ (Refute false g.now ∷ Refute false h.now ∷ map goal_of rest.now, assignments) ∷ []) }
+{
+    let first = [
+        Goal::Refute {
+            positive: false,
+            formula: g,
+        },
+        Goal::Refute {
+            positive: false,
+            formula: h,
+        },
+    ];
+    push_frame(alloc, stack, assignments, &first, rest)
+}
+
+/// Puts a frame with the body of a quantifier to refute under a further variable, and then others, on a stack.
+fn push_body<'a>(
+    alloc: Global,
+    stack: &mut Vec<Frame<'a>>,
+    assignments: Assignments,
+    formula: &'a Formula,
+    rest: &[Goal<'a>],
+) -> Result<(), AllocError>
+    ensures { OnOk result (map task_of stack.new.items ≡ map task_of stack.old.items ++ (Refute true formula.now ∷ Leave ∷ map goal_of rest.now, map (λ e. None ∷ e) assignments) ∷ []) }
+{
+    let wide = assignments.widened(alloc)?;
+    let first = [
+        Goal::Refute {
+            positive: true,
+            formula,
+        },
+        Goal::Leave,
+    ];
+    push_frame(alloc, stack, wide, &first, rest)
+}
+
 #[tactic(auto, using(crate::proofs::FrameLemmas::step_rules))]
 fn step_formula<'a>(
     alloc: Global,
@@ -160,118 +244,20 @@ fn step_formula<'a>(
 ) -> Result<bool, AllocError>
     ensures { IfOk result (λ found. Stepped (rows_of table.now) values.now universals.now (Refute positive f.now ∷ map goal_of rest.now, assignments) (map task_of stack.old.items) (map task_of stack.new.items) found) }
 {
-    match &f.node {
-        FormulaNode::Not(g) => {
-            push_frame(
-                alloc,
-                stack,
-                assignments,
-                &[Goal::Refute {
-                    positive: !positive,
-                    formula: g,
-                }],
-                rest,
-            )?;
+    match (positive, &f.node) {
+        (_, FormulaNode::Not(g)) => {
+            push_formula(alloc, stack, assignments, !positive, g, rest)?;
             Ok(false)
         }
-        FormulaNode::And(g, h) => {
-            if positive {
-                let same = assignments.copy(alloc)?;
-                push_frame(
-                    alloc,
-                    stack,
-                    same,
-                    &[Goal::Refute {
-                        positive: true,
-                        formula: h,
-                    }],
-                    rest,
-                )?;
-                push_frame(
-                    alloc,
-                    stack,
-                    assignments,
-                    &[Goal::Refute {
-                        positive: true,
-                        formula: g,
-                    }],
-                    rest,
-                )?;
-                Ok(false)
-            } else {
-                push_frame(
-                    alloc,
-                    stack,
-                    assignments,
-                    &[
-                        Goal::Refute {
-                            positive: false,
-                            formula: g,
-                        },
-                        Goal::Refute {
-                            positive: false,
-                            formula: h,
-                        },
-                    ],
-                    rest,
-                )?;
-                Ok(false)
-            }
+        (_, FormulaNode::And(g, h)) => {
+            push_parts(alloc, stack, assignments, positive, g, h, rest)?;
+            Ok(false)
         }
-        FormulaNode::All(b) => {
-            if positive {
-                let wide = assignments.widened(alloc)?;
-                push_frame(
-                    alloc,
-                    stack,
-                    wide,
-                    &[
-                        Goal::Refute {
-                            positive: true,
-                            formula: b,
-                        },
-                        Goal::Leave,
-                    ],
-                    rest,
-                )?;
-                Ok(false)
-            } else {
-                step_literal(
-                    alloc,
-                    table,
-                    values,
-                    universals,
-                    assignments,
-                    false,
-                    f,
-                    rest,
-                    stack,
-                )
-            }
+        (true, FormulaNode::All(b)) => {
+            push_body(alloc, stack, assignments, b, rest)?;
+            Ok(false)
         }
-        FormulaNode::Truth => step_literal(
-            alloc,
-            table,
-            values,
-            universals,
-            assignments,
-            positive,
-            f,
-            rest,
-            stack,
-        ),
-        FormulaNode::Eq(_, _) => step_literal(
-            alloc,
-            table,
-            values,
-            universals,
-            assignments,
-            positive,
-            f,
-            rest,
-            stack,
-        ),
-        FormulaNode::Atom(_, _) => step_literal(
+        _ => step_literal(
             alloc,
             table,
             values,

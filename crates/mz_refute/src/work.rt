@@ -1,5 +1,6 @@
 //! The work of a refutation.
-ghost use Rattle.std.specs.Prelude.{◌≡◌, ◌+◌, ◌*◌, ◌≤◌, true, IfOk};
+ghost use Rattle.std.specs.Prelude.{◌≡◌, ◌+◌, ◌*◌, ◌≤◌, true, IfOk, length, if◌then◌else◌};
+ghost use Rattle.mz_refute.specs.declared.row.Head.TheVariants.{Holds, Fails};
 ghost use Rattle.mz_refute.specs.RowsWork.{rows_work, RowsAnswer};
 ghost use Rattle.mz_refute.specs.Table.{rows_of};
 ghost use Rattle.mz_refute.specs.Work.{held};
@@ -10,6 +11,7 @@ use crate::search::is_refuted;
 use crate::table::Table;
 use mz_logic::formula::{Formula, FormulaNode};
 use mz_logic::formulas::Formulas;
+use mz_logic::sym::Sym;
 use std::alloc::{AllocError, Global};
 
 /// Work stops at this number.
@@ -43,6 +45,18 @@ fn product(m: u64, n: u64) -> u64
     m.saturating_mul(n).min(MOST)
 }
 
+/// The work of an atom of the symbol, or of its negation where `positive` is false.
+fn atom_work(table: &Table, positive: bool, s: Sym) -> u64
+    ensures value { result ≡ (if positive then held (length (rows_of table.now (Fails s))) else held (length (rows_of table.now (Holds s)))) }
+    ensures most { result ≤ 1000000000 }
+{
+    if positive {
+        held(table.rows(Head::Fails(s)).len())
+    } else {
+        held(table.rows(Head::Holds(s)).len())
+    }
+}
+
 /// The work of a formula, or of its negation where `positive` is false.
 fn work(table: &Table, values: &[usize], universals: &Formulas, positive: bool, f: &Formula) -> u64
     ensures value { result ≡ rows_work (rows_of table.now) values.now universals.now positive f.now }
@@ -57,28 +71,14 @@ fn work(table: &Table, values: &[usize], universals: &Formulas, positive: bool, 
                 held(values.len())
             }
         }
-        FormulaNode::Atom(s, _) => {
-            if positive {
-                held(table.rows(Head::Fails(*s)).len())
-            } else {
-                held(table.rows(Head::Holds(*s)).len())
-            }
-        }
-        FormulaNode::Not(g) => {
-            if positive {
-                work(table, values, universals, false, g)
-            } else {
-                work(table, values, universals, true, g)
-            }
-        }
+        FormulaNode::Atom(s, _) => atom_work(table, positive, *s),
+        FormulaNode::Not(g) => work(table, values, universals, !positive, g),
         FormulaNode::And(g, h) => {
+            let left = work(table, values, universals, positive, g);
+            let right = work(table, values, universals, positive, h);
             if positive {
-                let left = work(table, values, universals, true, g);
-                let right = work(table, values, universals, true, h);
                 sum(left, right)
             } else {
-                let left = work(table, values, universals, false, g);
-                let right = work(table, values, universals, false, h);
                 product(left, right)
             }
         }
