@@ -53,4 +53,6 @@ pub mod structure_rows;
 pub mod term_case;
 pub mod term_cases;
 pub mod term_definiens;
+#[cfg(test)]
+mod tests;
 pub mod verdict;
