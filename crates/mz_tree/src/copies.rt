@@ -1,5 +1,7 @@
 //! Copies of trees.
 ghost use Rattle.std.specs.Prelude.{◌≡◌, IfOk};
+ghost use Rattle.mz_tree.specs.Trees.{BracketsBase};
+ghost use Rattle.mz_tree.specs.Views.{base_view, unit_view, quantified_view};
 
 use crate::lists::{
     AdjectiveTrees, BeforeTrees, NextConjunctionTrees, NextDeclaredTrees, NextTermTrees,
@@ -13,6 +15,7 @@ use crate::trees::{
     PrefixTree, QuantifiedNode, QuantifiedTree, TermNode, TermTree, TermsNode, TermsTree, TypeNode,
     TypeTree, UnitNode, UnitTree,
 };
+use crate::word::Word;
 use std::alloc::{AllocError, Global};
 
 impl TermTree {
@@ -120,88 +123,49 @@ impl BeforeTree {
 }
 
 impl BaseTree {
+    fn of(node: BaseNode) -> BaseTree
+        ensures { result ≡ base_view node }
+    {
+        BaseTree { node }
+    }
+
     /// An equal tree.
     #[cycle(copy)]
     pub fn copy(&self, alloc: Global) -> Result<BaseTree, AllocError>
         ensures { IfOk result (λ t. t ≡ self.now) }
     {
         match &self.node {
-            BaseNode::Identifier(a) => {
-                let a = a.copy(alloc)?;
-                let node = BaseNode::Identifier(a);
-                Ok(BaseTree { node })
-            }
-            BaseNode::Subject(a) => {
-                let node = BaseNode::Subject(*a);
-                Ok(BaseTree { node })
-            }
-            BaseNode::Argument(a, b) => {
-                let node = BaseNode::Argument(*a, *b);
-                Ok(BaseTree { node })
-            }
-            BaseNode::Group(a, b, c) => {
-                let b = b.boxed(alloc)?;
-                let node = BaseNode::Group(*a, b, *c);
-                Ok(BaseTree { node })
-            }
-            BaseNode::Call(a, b, c) => {
-                let a = a.copy(alloc)?;
-                let node = BaseNode::Call(a, *b, *c);
-                Ok(BaseTree { node })
-            }
+            BaseNode::Identifier(a) => Ok(Self::of(BaseNode::Identifier(a.copy(alloc)?))),
+            BaseNode::Subject(a) => Ok(Self::of(BaseNode::Subject(*a))),
+            BaseNode::Argument(a, b) => Ok(Self::of(BaseNode::Argument(*a, *b))),
+            BaseNode::Group(a, b, c) => Ok(Self::of(BaseNode::Group(*a, b.boxed(alloc)?, *c))),
+            BaseNode::Call(a, b, c) => Ok(Self::of(BaseNode::Call(a.copy(alloc)?, *b, *c))),
             BaseNode::CallWith(a, b, c, d) => {
                 let a = a.copy(alloc)?;
-                let c = c.boxed(alloc)?;
-                let node = BaseNode::CallWith(a, *b, c, *d);
-                Ok(BaseTree { node })
+                Ok(Self::of(BaseNode::CallWith(a, *b, c.boxed(alloc)?, *d)))
             }
-            BaseNode::Selector(a, b) => {
-                let b = b.copy(alloc)?;
-                let node = BaseNode::Selector(*a, b);
-                Ok(BaseTree { node })
-            }
+            BaseNode::Selector(a, b) => Ok(Self::of(BaseNode::Selector(*a, b.copy(alloc)?))),
             BaseNode::Aggregate(a, b, c, d) => {
                 let a = a.copy(alloc)?;
-                let c = c.boxed(alloc)?;
-                let node = BaseNode::Aggregate(a, *b, c, *d);
-                Ok(BaseTree { node })
+                Ok(Self::of(BaseNode::Aggregate(a, *b, c.boxed(alloc)?, *d)))
             }
-            BaseNode::Brackets(a, b, c) => {
-                let a = a.copy(alloc)?;
-                let b = b.boxed(alloc)?;
-                let c = c.copy(alloc)?;
-                let node = BaseNode::Brackets(a, b, c);
-                Ok(BaseTree { node })
-            }
-            BaseNode::Braces(a, b, c) => {
-                let b = b.boxed(alloc)?;
-                let node = BaseNode::Braces(*a, b, *c);
-                Ok(BaseTree { node })
-            }
-            BaseNode::Squares(a, b, c) => {
-                let b = b.boxed(alloc)?;
-                let node = BaseNode::Squares(*a, b, *c);
-                Ok(BaseTree { node })
-            }
+            BaseNode::Brackets(a, b, c) => b.copy_bracketed(alloc, a, c),
+            BaseNode::Braces(a, b, c) => Ok(Self::of(BaseNode::Braces(*a, b.boxed(alloc)?, *c))),
+            BaseNode::Squares(a, b, c) => Ok(Self::of(BaseNode::Squares(*a, b.boxed(alloc)?, *c))),
             BaseNode::SetOf(a, b, c, d, e, f, g, h, i) => {
                 let b = b.boxed(alloc)?;
                 let d = d.copy(alloc)?;
                 let f = f.boxed(alloc)?;
                 let h = h.boxed(alloc)?;
-                let node = BaseNode::SetOf(*a, b, *c, d, *e, f, *g, h, *i);
-                Ok(BaseTree { node })
+                Ok(Self::of(BaseNode::SetOf(*a, b, *c, d, *e, f, *g, h, *i)))
             }
             BaseNode::Choice(a, b, c) => {
                 let b = b.copy(alloc)?;
-                let c = c.copy(alloc)?;
-                let node = BaseNode::Choice(*a, b, c);
-                Ok(BaseTree { node })
+                Ok(Self::of(BaseNode::Choice(*a, b, c.copy(alloc)?)))
             }
             BaseNode::ChoiceStructure(a, b, c) => {
                 let b = b.copy(alloc)?;
-                let c = c.copy(alloc)?;
-                let node = BaseNode::ChoiceStructure(*a, b, c);
-                Ok(BaseTree { node })
+                Ok(Self::of(BaseNode::ChoiceStructure(*a, b, c.copy(alloc)?)))
             }
         }
     }
@@ -239,6 +203,22 @@ impl TermsTree {
         let copy = self.copy(alloc)?;
         let boxed = Box::new(alloc, copy)?;
         Ok(boxed)
+    }
+
+    /// The terms between copies of two brackets.
+    #[cycle(copy)]
+    fn copy_bracketed(
+        &self,
+        alloc: Global,
+        left: &Word,
+        right: &Word,
+    ) -> Result<BaseTree, AllocError>
+        ensures { IfOk result (λ t. t ≡ BracketsBase left.now self.now right.now) }
+    {
+        let left = left.copy(alloc)?;
+        let terms = self.copy(alloc)?;
+        let terms = Box::new(alloc, terms)?;
+        Ok(BaseTree::of(BaseNode::Brackets(left, terms, right.copy(alloc)?)))
     }
 }
 
@@ -510,82 +490,50 @@ impl NextUnitTree {
 }
 
 impl UnitTree {
+    fn of(node: UnitNode) -> UnitTree
+        ensures { result ≡ unit_view node }
+    {
+        UnitTree { node }
+    }
+
     /// An equal tree.
     #[cycle(copy)]
     pub fn copy(&self, alloc: Global) -> Result<UnitTree, AllocError>
         ensures { IfOk result (λ t. t ≡ self.now) }
     {
         match &self.node {
-            UnitNode::Not(a, b) => {
-                let b = b.boxed(alloc)?;
-                let node = UnitNode::Not(*a, b);
-                Ok(UnitTree { node })
-            }
-            UnitNode::Contradiction(a) => {
-                let node = UnitNode::Contradiction(*a);
-                Ok(UnitTree { node })
-            }
-            UnitNode::Thesis(a) => {
-                let node = UnitNode::Thesis(*a);
-                Ok(UnitTree { node })
-            }
-            UnitNode::Quantified(a) => {
-                let a = a.boxed(alloc)?;
-                let node = UnitNode::Quantified(a);
-                Ok(UnitTree { node })
-            }
-            UnitNode::Group(a, b, c) => {
-                let b = b.boxed(alloc)?;
-                let node = UnitNode::Group(*a, b, *c);
-                Ok(UnitTree { node })
-            }
-            UnitNode::Private(a, b, c) => {
-                let a = a.copy(alloc)?;
-                let node = UnitNode::Private(a, *b, *c);
-                Ok(UnitTree { node })
-            }
+            UnitNode::Not(a, b) => Ok(Self::of(UnitNode::Not(*a, b.boxed(alloc)?))),
+            UnitNode::Contradiction(a) => Ok(Self::of(UnitNode::Contradiction(*a))),
+            UnitNode::Thesis(a) => Ok(Self::of(UnitNode::Thesis(*a))),
+            UnitNode::Quantified(a) => Ok(Self::of(UnitNode::Quantified(a.boxed(alloc)?))),
+            UnitNode::Group(a, b, c) => Ok(Self::of(UnitNode::Group(*a, b.boxed(alloc)?, *c))),
+            UnitNode::Private(a, b, c) => Ok(Self::of(UnitNode::Private(a.copy(alloc)?, *b, *c))),
             UnitNode::PrivateWith(a, b, c, d) => {
                 let a = a.copy(alloc)?;
-                let c = c.boxed(alloc)?;
-                let node = UnitNode::PrivateWith(a, *b, c, *d);
-                Ok(UnitTree { node })
+                Ok(Self::of(UnitNode::PrivateWith(a, *b, c.boxed(alloc)?, *d)))
             }
-            UnitNode::Predicate(a) => {
-                let a = a.copy(alloc)?;
-                let node = UnitNode::Predicate(a);
-                Ok(UnitTree { node })
-            }
+            UnitNode::Predicate(a) => Ok(Self::of(UnitNode::Predicate(a.copy(alloc)?))),
             UnitNode::PredicateRight(a, b) => {
                 let a = a.copy(alloc)?;
-                let b = b.boxed(alloc)?;
-                let node = UnitNode::PredicateRight(a, b);
-                Ok(UnitTree { node })
+                Ok(Self::of(UnitNode::PredicateRight(a, b.boxed(alloc)?)))
             }
             UnitNode::PredicateLeft(a, b) => {
                 let a = a.boxed(alloc)?;
-                let b = b.copy(alloc)?;
-                let node = UnitNode::PredicateLeft(a, b);
-                Ok(UnitTree { node })
+                Ok(Self::of(UnitNode::PredicateLeft(a, b.copy(alloc)?)))
             }
             UnitNode::PredicateBoth(a, b, c) => {
                 let a = a.boxed(alloc)?;
                 let b = b.copy(alloc)?;
-                let c = c.boxed(alloc)?;
-                let node = UnitNode::PredicateBoth(a, b, c);
-                Ok(UnitTree { node })
+                Ok(Self::of(UnitNode::PredicateBoth(a, b, c.boxed(alloc)?)))
             }
             UnitNode::IsType(a, b, c) => {
                 let a = a.boxed(alloc)?;
-                let c = c.boxed(alloc)?;
-                let node = UnitNode::IsType(a, *b, c);
-                Ok(UnitTree { node })
+                Ok(Self::of(UnitNode::IsType(a, *b, c.boxed(alloc)?)))
             }
             UnitNode::IsAdjectives(a, b, c, d) => {
                 let a = a.boxed(alloc)?;
                 let c = c.boxed(alloc)?;
-                let d = d.copy(alloc)?;
-                let node = UnitNode::IsAdjectives(a, *b, c, d);
-                Ok(UnitTree { node })
+                Ok(Self::of(UnitNode::IsAdjectives(a, *b, c, d.copy(alloc)?)))
             }
         }
     }
@@ -601,6 +549,12 @@ impl UnitTree {
 }
 
 impl QuantifiedTree {
+    fn of(node: QuantifiedNode) -> QuantifiedTree
+        ensures { result ≡ quantified_view node }
+    {
+        QuantifiedTree { node }
+    }
+
     /// An equal tree.
     #[cycle(copy)]
     pub fn copy(&self, alloc: Global) -> Result<QuantifiedTree, AllocError>
@@ -610,39 +564,31 @@ impl QuantifiedTree {
             QuantifiedNode::For(a, b, c, d, e) => {
                 let b = b.boxed(alloc)?;
                 let c = c.copy(alloc)?;
-                let e = e.boxed(alloc)?;
-                let node = QuantifiedNode::For(*a, b, c, *d, e);
-                Ok(QuantifiedTree { node })
+                Ok(Self::of(QuantifiedNode::For(*a, b, c, *d, e.boxed(alloc)?)))
             }
             QuantifiedNode::ForSuch(a, b, c, d, e, f, g) => {
                 let b = b.boxed(alloc)?;
                 let c = c.copy(alloc)?;
                 let e = e.boxed(alloc)?;
                 let g = g.boxed(alloc)?;
-                let node = QuantifiedNode::ForSuch(*a, b, c, *d, e, *f, g);
-                Ok(QuantifiedTree { node })
+                Ok(Self::of(QuantifiedNode::ForSuch(*a, b, c, *d, e, *f, g)))
             }
             QuantifiedNode::ForFurther(a, b, c, d) => {
                 let b = b.boxed(alloc)?;
                 let c = c.copy(alloc)?;
-                let d = d.boxed(alloc)?;
-                let node = QuantifiedNode::ForFurther(*a, b, c, d);
-                Ok(QuantifiedTree { node })
+                Ok(Self::of(QuantifiedNode::ForFurther(*a, b, c, d.boxed(alloc)?)))
             }
             QuantifiedNode::ForSuchFurther(a, b, c, d, e, f) => {
                 let b = b.boxed(alloc)?;
                 let c = c.copy(alloc)?;
                 let e = e.boxed(alloc)?;
                 let f = f.boxed(alloc)?;
-                let node = QuantifiedNode::ForSuchFurther(*a, b, c, *d, e, f);
-                Ok(QuantifiedTree { node })
+                Ok(Self::of(QuantifiedNode::ForSuchFurther(*a, b, c, *d, e, f)))
             }
             QuantifiedNode::Exists(a, b, c, d, e) => {
                 let b = b.boxed(alloc)?;
                 let c = c.copy(alloc)?;
-                let e = e.boxed(alloc)?;
-                let node = QuantifiedNode::Exists(*a, b, c, *d, e);
-                Ok(QuantifiedTree { node })
+                Ok(Self::of(QuantifiedNode::Exists(*a, b, c, *d, e.boxed(alloc)?)))
             }
         }
     }

@@ -1,5 +1,6 @@
 //! The tokens that trees are spelled with.
 ghost use Rattle.std.specs.Prelude.{◌≡◌, ◌++◌, ◌∷◌, [], IfOk, codes};
+ghost use Rattle.mz_base.specs.declared.symbol_kind.SymbolKind.TheVariants as symbols;
 ghost use Rattle.mz_tree.specs.Spelled.{marked, reserved, special, identifier, symbol, functor, mode, argument, list_comma, comma_token, being_token, non_of, reserved_if, numeral, equals_sign};
 
 use crate::being::Being;
@@ -205,6 +206,36 @@ pub fn put_non(
     }
 }
 
+/// A name with nothing between the brackets behind it.
+pub fn put_empty(
+    alloc: Global,
+    out: &mut Vec<MarkedToken>,
+    name: &Word,
+    left: Place,
+    left_sign: &[u8],
+    right: Place,
+    right_sign: &[u8],
+) -> Result<(), AllocError>
+    ensures { IfOk result (λ _. out.new.items ≡ out.old.items ++ identifier name.now ∷ special left left_sign.now ∷ special right right_sign.now ∷ []) }
+{
+    put_identifier(alloc, out, name)?;
+    put_special(alloc, out, left, left_sign)?;
+    put_special(alloc, out, right, right_sign)
+}
+
+/// `the` and a selector.
+pub fn put_selector(
+    alloc: Global,
+    out: &mut Vec<MarkedToken>,
+    the: Place,
+    selector: &Word,
+) -> Result<(), AllocError>
+    ensures { IfOk result (λ _. out.new.items ≡ out.old.items ++ reserved the (codes "the") ∷ symbol symbols.Selector selector.now ∷ []) }
+{
+    put_reserved(alloc, out, the, b"the")?;
+    put_symbol(alloc, out, SymbolKind::Selector, selector)
+}
+
 /// `where x is`, which binds the variable of a set term.
 pub fn put_bound(
     alloc: Global,
@@ -217,8 +248,7 @@ pub fn put_bound(
 {
     put_reserved(alloc, out, first, b"where")?;
     put_identifier(alloc, out, name)?;
-    put_reserved(alloc, out, last, b"is")?;
-    Ok(())
+    put_reserved(alloc, out, last, b"is")
 }
 
 /// A word that may be left out.

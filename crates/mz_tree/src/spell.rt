@@ -1,7 +1,8 @@
 //! The tokens of trees.
 ghost use Rattle.std.specs.Prelude.{◌≡◌, ◌++◌, ◌∷◌, [], IfOk, codes};
 ghost use Rattle.std.specs.List.{flat_map};
-ghost use Rattle.mz_tree.specs.Spelled.{special};
+ghost use Rattle.mz_base.specs.declared.symbol_kind.SymbolKind.TheVariants as symbols;
+ghost use Rattle.mz_tree.specs.Spelled.{reserved, special, symbol};
 ghost use Rattle.mz_tree.specs.Spell.{spell_term, spell_piece, spell_prefix, spell_before, spell_base, spell_terms, spell_next_term, spell_adjective, spell_type, spell_declared, spell_next_declared, spell_formula, spell_disjunction, spell_next_conjunction, spell_conjunction, spell_next_unit, spell_unit, spell_quantified};
 
 use crate::lists::{
@@ -10,8 +11,8 @@ use crate::lists::{
 };
 use crate::marked_token::MarkedToken;
 use crate::put::{
-    put_argument, put_being, put_bound, put_comma, put_functor, put_identifier, put_list_comma,
-    put_mode, put_non, put_reserved, put_special, put_symbol,
+    put_argument, put_being, put_bound, put_comma, put_empty, put_functor, put_identifier,
+    put_list_comma, put_mode, put_non, put_reserved, put_selector, put_special, put_symbol,
 };
 use crate::trees::{
     AdjectiveNode, AdjectiveTree, BaseNode, BaseTree, BeforeNode, BeforeTree, ConjunctionNode,
@@ -21,6 +22,7 @@ use crate::trees::{
     PrefixTree, QuantifiedNode, QuantifiedTree, TermNode, TermTree, TermsNode, TermsTree, TypeNode,
     TypeTree, UnitNode, UnitTree,
 };
+use crate::word::Word;
 use mz_base::place::Place;
 use mz_base::symbol_kind::SymbolKind;
 use std::alloc::{AllocError, Global};
@@ -35,10 +37,24 @@ impl TermTree {
         match &self.node {
             TermNode::Run(a, b) => {
                 a.spell(alloc, out)?;
-                b.spell(alloc, out)?;
-                Ok(())
+                b.spell(alloc, out)
             }
         }
+    }
+
+    /// Adds its tokens and the `is` behind them.
+    #[cycle(spell)]
+    #[tactic(auto, using(crate::proofs::SpellLemmas::spell_rules))]
+    fn spell_subject(
+        &self,
+        alloc: Global,
+        out: &mut Vec<MarkedToken>,
+        is: Place,
+    ) -> Result<(), AllocError>
+        ensures { IfOk result (λ _. out.new.items ≡ out.old.items ++ spell_term self.now ++ reserved is (codes "is") ∷ []) }
+    {
+        self.spell(alloc, out)?;
+        put_reserved(alloc, out, is, b"is")
     }
 }
 
@@ -50,14 +66,10 @@ impl PieceTree {
         ensures { IfOk result (λ _. out.new.items ≡ out.old.items ++ spell_piece self.now) }
     {
         match &self.node {
-            PieceNode::Functor(a, b) => {
-                put_functor(alloc, out, a, *b)?;
-                Ok(())
-            }
+            PieceNode::Functor(a, b) => { put_functor(alloc, out, a, *b) }
             PieceNode::Operand(a, b) => {
                 a.spell(alloc, out)?;
-                b.spell(alloc, out)?;
-                Ok(())
+                b.spell(alloc, out)
             }
         }
     }
@@ -72,26 +84,20 @@ impl PrefixTree {
     {
         match &self.node {
             PrefixNode::Selector(a, b, c) => {
-                put_reserved(alloc, out, *a, b"the")?;
-                put_symbol(alloc, out, SymbolKind::Selector, b)?;
-                put_reserved(alloc, out, *c, b"of")?;
-                Ok(())
+                put_selector(alloc, out, *a, b)?;
+                put_reserved(alloc, out, *c, b"of")
             }
             PrefixNode::ChoiceOf(a, b, c, d, e) => {
-                put_reserved(alloc, out, *a, b"the")?;
-                b.spell(alloc, out)?;
+                b.spell_after_the(alloc, out, *a)?;
                 put_mode(alloc, out, c)?;
                 put_reserved(alloc, out, *d, b"of")?;
-                e.spell(alloc, out)?;
-                Ok(())
+                e.spell(alloc, out)
             }
             PrefixNode::ChoiceOver(a, b, c, d, e) => {
-                put_reserved(alloc, out, *a, b"the")?;
-                b.spell(alloc, out)?;
+                b.spell_after_the(alloc, out, *a)?;
                 put_symbol(alloc, out, SymbolKind::Structure, c)?;
                 put_reserved(alloc, out, *d, b"over")?;
-                e.spell(alloc, out)?;
-                Ok(())
+                e.spell(alloc, out)
             }
         }
     }
@@ -108,8 +114,7 @@ impl BeforeTree {
             BeforeNode::Operand(a, b, c) => {
                 a.spell(alloc, out)?;
                 b.spell(alloc, out)?;
-                put_list_comma(alloc, out, *c)?;
-                Ok(())
+                put_list_comma(alloc, out, *c)
             }
         }
     }
@@ -123,86 +128,37 @@ impl BaseTree {
         ensures { IfOk result (λ _. out.new.items ≡ out.old.items ++ spell_base self.now) }
     {
         match &self.node {
-            BaseNode::Identifier(a) => {
-                put_identifier(alloc, out, a)?;
-                Ok(())
-            }
-            BaseNode::Subject(a) => {
-                put_reserved(alloc, out, *a, b"it")?;
-                Ok(())
-            }
-            BaseNode::Argument(a, b) => {
-                put_argument(alloc, out, *a, *b)?;
-                Ok(())
-            }
-            BaseNode::Group(a, b, c) => {
-                put_special(alloc, out, *a, b"(")?;
-                b.spell(alloc, out)?;
-                put_special(alloc, out, *c, b")")?;
-                Ok(())
-            }
-            BaseNode::Call(a, b, c) => {
-                put_identifier(alloc, out, a)?;
-                put_special(alloc, out, *b, b"(")?;
-                put_special(alloc, out, *c, b")")?;
-                Ok(())
-            }
+            BaseNode::Identifier(a) => put_identifier(alloc, out, a),
+            BaseNode::Subject(a) => put_reserved(alloc, out, *a, b"it"),
+            BaseNode::Argument(a, b) => put_argument(alloc, out, *a, *b),
+            BaseNode::Group(a, b, c) => b.spell_between(alloc, out, *a, b"(", *c, b")"),
+            BaseNode::Call(a, b, c) => put_empty(alloc, out, a, *b, b"(", *c, b")"),
             BaseNode::CallWith(a, b, c, d) => {
                 put_identifier(alloc, out, a)?;
-                put_special(alloc, out, *b, b"(")?;
-                c.spell(alloc, out)?;
-                put_special(alloc, out, *d, b")")?;
-                Ok(())
+                c.spell_between(alloc, out, *b, b"(", *d, b")")
             }
-            BaseNode::Selector(a, b) => {
-                put_reserved(alloc, out, *a, b"the")?;
-                put_symbol(alloc, out, SymbolKind::Selector, b)?;
-                Ok(())
-            }
+            BaseNode::Selector(a, b) => put_selector(alloc, out, *a, b),
             BaseNode::Aggregate(a, b, c, d) => {
                 put_symbol(alloc, out, SymbolKind::Structure, a)?;
-                put_special(alloc, out, *b, b"(#")?;
-                c.spell(alloc, out)?;
-                put_special(alloc, out, *d, b"#)")?;
-                Ok(())
+                c.spell_between(alloc, out, *b, b"(#", *d, b"#)")
             }
-            BaseNode::Brackets(a, b, c) => {
-                put_symbol(alloc, out, SymbolKind::LeftBracket, a)?;
-                b.spell(alloc, out)?;
-                put_symbol(alloc, out, SymbolKind::RightBracket, c)?;
-                Ok(())
-            }
-            BaseNode::Braces(a, b, c) => {
-                put_special(alloc, out, *a, b"{")?;
-                b.spell(alloc, out)?;
-                put_special(alloc, out, *c, b"}")?;
-                Ok(())
-            }
-            BaseNode::Squares(a, b, c) => {
-                put_special(alloc, out, *a, b"[")?;
-                b.spell(alloc, out)?;
-                put_special(alloc, out, *c, b"]")?;
-                Ok(())
-            }
+            BaseNode::Brackets(a, b, c) => b.spell_bracketed(alloc, out, a, c),
+            BaseNode::Braces(a, b, c) => b.spell_between(alloc, out, *a, b"{", *c, b"}"),
+            BaseNode::Squares(a, b, c) => b.spell_between(alloc, out, *a, b"[", *c, b"]"),
             BaseNode::SetOf(a, b, c, d, e, f, g, h, i) => {
                 put_special(alloc, out, *a, b"{")?;
                 b.spell(alloc, out)?;
                 put_bound(alloc, out, *c, d, *e)?;
                 f.spell(alloc, out)?;
-                h.spell_last(alloc, out, *g, *i)?;
-                Ok(())
+                h.spell_between(alloc, out, *g, b":", *i, b"}")
             }
             BaseNode::Choice(a, b, c) => {
-                put_reserved(alloc, out, *a, b"the")?;
-                b.spell(alloc, out)?;
-                put_mode(alloc, out, c)?;
-                Ok(())
+                b.spell_after_the(alloc, out, *a)?;
+                put_mode(alloc, out, c)
             }
             BaseNode::ChoiceStructure(a, b, c) => {
-                put_reserved(alloc, out, *a, b"the")?;
-                b.spell(alloc, out)?;
-                put_symbol(alloc, out, SymbolKind::Structure, c)?;
-                Ok(())
+                b.spell_after_the(alloc, out, *a)?;
+                put_symbol(alloc, out, SymbolKind::Structure, c)
             }
         }
     }
@@ -218,10 +174,60 @@ impl TermsTree {
         match &self.node {
             TermsNode::List(a, b) => {
                 a.spell(alloc, out)?;
-                b.spell(alloc, out)?;
-                Ok(())
+                b.spell(alloc, out)
             }
         }
+    }
+
+    /// Adds its tokens between two special symbols.
+    #[cycle(spell)]
+    #[tactic(auto, using(crate::proofs::SpellLemmas::spell_rules))]
+    fn spell_between(
+        &self,
+        alloc: Global,
+        out: &mut Vec<MarkedToken>,
+        left: Place,
+        left_sign: &[u8],
+        right: Place,
+        right_sign: &[u8],
+    ) -> Result<(), AllocError>
+        ensures { IfOk result (λ _. out.new.items ≡ out.old.items ++ special left left_sign.now ∷ spell_terms self.now ++ special right right_sign.now ∷ []) }
+    {
+        put_special(alloc, out, left, left_sign)?;
+        self.spell(alloc, out)?;
+        put_special(alloc, out, right, right_sign)
+    }
+
+    /// Adds their tokens between two symbols of brackets.
+    #[cycle(spell)]
+    #[tactic(auto, using(crate::proofs::SpellLemmas::spell_rules))]
+    fn spell_bracketed(
+        &self,
+        alloc: Global,
+        out: &mut Vec<MarkedToken>,
+        left: &Word,
+        right: &Word,
+    ) -> Result<(), AllocError>
+        ensures { IfOk result (λ _. out.new.items ≡ out.old.items ++ symbol symbols.LeftBracket left.now ∷ spell_terms self.now ++ symbol symbols.RightBracket right.now ∷ []) }
+    {
+        put_symbol(alloc, out, SymbolKind::LeftBracket, left)?;
+        self.spell(alloc, out)?;
+        put_symbol(alloc, out, SymbolKind::RightBracket, right)
+    }
+
+    /// Adds their tokens and the predicate symbol behind them.
+    #[cycle(spell)]
+    #[tactic(auto, using(crate::proofs::SpellLemmas::spell_rules))]
+    fn spell_left(
+        &self,
+        alloc: Global,
+        out: &mut Vec<MarkedToken>,
+        predicate: &Word,
+    ) -> Result<(), AllocError>
+        ensures { IfOk result (λ _. out.new.items ≡ out.old.items ++ spell_terms self.now ++ symbol symbols.Predicate predicate.now ∷ []) }
+    {
+        self.spell(alloc, out)?;
+        put_symbol(alloc, out, SymbolKind::Predicate, predicate)
     }
 }
 
@@ -235,8 +241,7 @@ impl NextTermTree {
         match &self.node {
             NextTermNode::Next(a, b) => {
                 put_list_comma(alloc, out, *a)?;
-                b.spell(alloc, out)?;
-                Ok(())
+                b.spell(alloc, out)
             }
         }
     }
@@ -252,22 +257,17 @@ impl AdjectiveTree {
         match &self.node {
             AdjectiveNode::Plain(a, b) => {
                 put_non(alloc, out, *a)?;
-                put_symbol(alloc, out, SymbolKind::Attribute, b)?;
-                Ok(())
+                put_symbol(alloc, out, SymbolKind::Attribute, b)
             }
             AdjectiveNode::WithIdentifier(a, b, c) => {
                 put_non(alloc, out, *a)?;
                 put_identifier(alloc, out, b)?;
-                put_symbol(alloc, out, SymbolKind::Attribute, c)?;
-                Ok(())
+                put_symbol(alloc, out, SymbolKind::Attribute, c)
             }
             AdjectiveNode::WithTerms(a, b, c, d, e) => {
                 put_non(alloc, out, *a)?;
-                put_special(alloc, out, *b, b"(")?;
-                c.spell(alloc, out)?;
-                put_special(alloc, out, *d, b")")?;
-                put_symbol(alloc, out, SymbolKind::Attribute, e)?;
-                Ok(())
+                c.spell_between(alloc, out, *b, b"(", *d, b")")?;
+                put_symbol(alloc, out, SymbolKind::Attribute, e)
             }
         }
     }
@@ -283,27 +283,23 @@ impl TypeTree {
         match &self.node {
             TypeNode::Mode(a, b) => {
                 a.spell(alloc, out)?;
-                put_mode(alloc, out, b)?;
-                Ok(())
+                put_mode(alloc, out, b)
             }
             TypeNode::ModeOf(a, b, c, d) => {
                 a.spell(alloc, out)?;
                 put_mode(alloc, out, b)?;
                 put_reserved(alloc, out, *c, b"of")?;
-                d.spell(alloc, out)?;
-                Ok(())
+                d.spell(alloc, out)
             }
             TypeNode::Structure(a, b) => {
                 a.spell(alloc, out)?;
-                put_symbol(alloc, out, SymbolKind::Structure, b)?;
-                Ok(())
+                put_symbol(alloc, out, SymbolKind::Structure, b)
             }
             TypeNode::StructureOver(a, b, c, d) => {
                 a.spell(alloc, out)?;
                 put_symbol(alloc, out, SymbolKind::Structure, b)?;
                 put_reserved(alloc, out, *c, b"over")?;
-                d.spell(alloc, out)?;
-                Ok(())
+                d.spell(alloc, out)
             }
         }
     }
@@ -317,17 +313,29 @@ impl DeclaredTree {
         ensures { IfOk result (λ _. out.new.items ≡ out.old.items ++ spell_declared self.now) }
     {
         match &self.node {
-            DeclaredNode::Plain(a) => {
-                put_identifier(alloc, out, a)?;
-                Ok(())
-            }
+            DeclaredNode::Plain(a) => { put_identifier(alloc, out, a) }
             DeclaredNode::Typed(a, b, c) => {
                 put_identifier(alloc, out, a)?;
                 put_being(alloc, out, *b)?;
-                c.spell(alloc, out)?;
-                Ok(())
+                c.spell(alloc, out)
             }
         }
+    }
+
+    /// Adds a reserved word and its tokens.
+    #[cycle(spell)]
+    #[tactic(auto, using(crate::proofs::SpellLemmas::spell_rules))]
+    fn spell_after(
+        &self,
+        alloc: Global,
+        out: &mut Vec<MarkedToken>,
+        place: Place,
+        word: &[u8],
+    ) -> Result<(), AllocError>
+        ensures { IfOk result (λ _. out.new.items ≡ out.old.items ++ reserved place word.now ∷ spell_declared self.now) }
+    {
+        put_reserved(alloc, out, place, word)?;
+        self.spell(alloc, out)
     }
 }
 
@@ -341,8 +349,7 @@ impl NextDeclaredTree {
         match &self.node {
             NextDeclaredNode::Next(a, b) => {
                 put_comma(alloc, out, *a)?;
-                b.spell(alloc, out)?;
-                Ok(())
+                b.spell(alloc, out)
             }
         }
     }
@@ -356,41 +363,53 @@ impl FormulaTree {
         ensures { IfOk result (λ _. out.new.items ≡ out.old.items ++ spell_formula self.now) }
     {
         match &self.node {
-            FormulaNode::Plain(a) => {
-                a.spell(alloc, out)?;
-                Ok(())
-            }
+            FormulaNode::Plain(a) => { a.spell(alloc, out) }
             FormulaNode::Implies(a, b, c) => {
                 a.spell(alloc, out)?;
                 put_reserved(alloc, out, *b, b"implies")?;
-                c.spell(alloc, out)?;
-                Ok(())
+                c.spell(alloc, out)
             }
             FormulaNode::Iff(a, b, c) => {
                 a.spell(alloc, out)?;
                 put_reserved(alloc, out, *b, b"iff")?;
-                c.spell(alloc, out)?;
-                Ok(())
+                c.spell(alloc, out)
             }
         }
     }
 
-    /// Adds its tokens as the condition of a set term, with the colon and the brace around it.
+    /// Adds its tokens between two special symbols.
     #[cycle(spell)]
     #[tactic(auto, using(crate::proofs::SpellLemmas::spell_rules))]
-    fn spell_last(
+    fn spell_between(
         &self,
         alloc: Global,
         out: &mut Vec<MarkedToken>,
-        colon: Place,
-        brace: Place,
+        left: Place,
+        left_sign: &[u8],
+        right: Place,
+        right_sign: &[u8],
     ) -> Result<(), AllocError>
-        ensures { IfOk result (λ _. out.new.items ≡ out.old.items ++ special colon (codes ":") ∷ spell_formula self.now ++ special brace (codes "}") ∷ []) }
+        ensures { IfOk result (λ _. out.new.items ≡ out.old.items ++ special left left_sign.now ∷ spell_formula self.now ++ special right right_sign.now ∷ []) }
     {
-        put_special(alloc, out, colon, b":")?;
+        put_special(alloc, out, left, left_sign)?;
         self.spell(alloc, out)?;
-        put_special(alloc, out, brace, b"}")?;
-        Ok(())
+        put_special(alloc, out, right, right_sign)
+    }
+
+    /// Adds a reserved word and its tokens.
+    #[cycle(spell)]
+    #[tactic(auto, using(crate::proofs::SpellLemmas::spell_rules))]
+    fn spell_after(
+        &self,
+        alloc: Global,
+        out: &mut Vec<MarkedToken>,
+        place: Place,
+        word: &[u8],
+    ) -> Result<(), AllocError>
+        ensures { IfOk result (λ _. out.new.items ≡ out.old.items ++ reserved place word.now ∷ spell_formula self.now) }
+    {
+        put_reserved(alloc, out, place, word)?;
+        self.spell(alloc, out)
     }
 }
 
@@ -404,8 +423,7 @@ impl DisjunctionTree {
         match &self.node {
             DisjunctionNode::Chain(a, b) => {
                 a.spell(alloc, out)?;
-                b.spell(alloc, out)?;
-                Ok(())
+                b.spell(alloc, out)
             }
         }
     }
@@ -421,8 +439,7 @@ impl NextConjunctionTree {
         match &self.node {
             NextConjunctionNode::Or(a, b) => {
                 put_reserved(alloc, out, *a, b"or")?;
-                b.spell(alloc, out)?;
-                Ok(())
+                b.spell(alloc, out)
             }
         }
     }
@@ -438,8 +455,7 @@ impl ConjunctionTree {
         match &self.node {
             ConjunctionNode::Chain(a, b) => {
                 a.spell(alloc, out)?;
-                b.spell(alloc, out)?;
-                Ok(())
+                b.spell(alloc, out)
             }
         }
     }
@@ -455,8 +471,7 @@ impl NextUnitTree {
         match &self.node {
             NextUnitNode::And(a, b) => {
                 put_special(alloc, out, *a, b"&")?;
-                b.spell(alloc, out)?;
-                Ok(())
+                b.spell(alloc, out)
             }
         }
     }
@@ -472,72 +487,35 @@ impl UnitTree {
         match &self.node {
             UnitNode::Not(a, b) => {
                 put_reserved(alloc, out, *a, b"not")?;
-                b.spell(alloc, out)?;
-                Ok(())
+                b.spell(alloc, out)
             }
-            UnitNode::Contradiction(a) => {
-                put_reserved(alloc, out, *a, b"contradiction")?;
-                Ok(())
-            }
-            UnitNode::Thesis(a) => {
-                put_reserved(alloc, out, *a, b"thesis")?;
-                Ok(())
-            }
-            UnitNode::Quantified(a) => {
-                a.spell(alloc, out)?;
-                Ok(())
-            }
-            UnitNode::Group(a, b, c) => {
-                put_special(alloc, out, *a, b"(")?;
-                b.spell(alloc, out)?;
-                put_special(alloc, out, *c, b")")?;
-                Ok(())
-            }
-            UnitNode::Private(a, b, c) => {
-                put_identifier(alloc, out, a)?;
-                put_special(alloc, out, *b, b"[")?;
-                put_special(alloc, out, *c, b"]")?;
-                Ok(())
-            }
+            UnitNode::Contradiction(a) => put_reserved(alloc, out, *a, b"contradiction"),
+            UnitNode::Thesis(a) => put_reserved(alloc, out, *a, b"thesis"),
+            UnitNode::Quantified(a) => a.spell(alloc, out),
+            UnitNode::Group(a, b, c) => b.spell_between(alloc, out, *a, b"(", *c, b")"),
+            UnitNode::Private(a, b, c) => put_empty(alloc, out, a, *b, b"[", *c, b"]"),
             UnitNode::PrivateWith(a, b, c, d) => {
                 put_identifier(alloc, out, a)?;
-                put_special(alloc, out, *b, b"[")?;
-                c.spell(alloc, out)?;
-                put_special(alloc, out, *d, b"]")?;
-                Ok(())
+                c.spell_between(alloc, out, *b, b"[", *d, b"]")
             }
-            UnitNode::Predicate(a) => {
-                put_symbol(alloc, out, SymbolKind::Predicate, a)?;
-                Ok(())
-            }
+            UnitNode::Predicate(a) => put_symbol(alloc, out, SymbolKind::Predicate, a),
             UnitNode::PredicateRight(a, b) => {
                 put_symbol(alloc, out, SymbolKind::Predicate, a)?;
-                b.spell(alloc, out)?;
-                Ok(())
+                b.spell(alloc, out)
             }
-            UnitNode::PredicateLeft(a, b) => {
-                a.spell(alloc, out)?;
-                put_symbol(alloc, out, SymbolKind::Predicate, b)?;
-                Ok(())
-            }
+            UnitNode::PredicateLeft(a, b) => a.spell_left(alloc, out, b),
             UnitNode::PredicateBoth(a, b, c) => {
-                a.spell(alloc, out)?;
-                put_symbol(alloc, out, SymbolKind::Predicate, b)?;
-                c.spell(alloc, out)?;
-                Ok(())
+                a.spell_left(alloc, out, b)?;
+                c.spell(alloc, out)
             }
             UnitNode::IsType(a, b, c) => {
-                a.spell(alloc, out)?;
-                put_reserved(alloc, out, *b, b"is")?;
-                c.spell(alloc, out)?;
-                Ok(())
+                a.spell_subject(alloc, out, *b)?;
+                c.spell(alloc, out)
             }
             UnitNode::IsAdjectives(a, b, c, d) => {
-                a.spell(alloc, out)?;
-                put_reserved(alloc, out, *b, b"is")?;
+                a.spell_subject(alloc, out, *b)?;
                 c.spell(alloc, out)?;
-                d.spell(alloc, out)?;
-                Ok(())
+                d.spell(alloc, out)
             }
         }
     }
@@ -552,46 +530,31 @@ impl QuantifiedTree {
     {
         match &self.node {
             QuantifiedNode::For(a, b, c, d, e) => {
-                put_reserved(alloc, out, *a, b"for")?;
-                b.spell(alloc, out)?;
+                b.spell_after(alloc, out, *a, b"for")?;
                 c.spell(alloc, out)?;
-                put_reserved(alloc, out, *d, b"holds")?;
-                e.spell(alloc, out)?;
-                Ok(())
+                e.spell_after(alloc, out, *d, b"holds")
             }
             QuantifiedNode::ForSuch(a, b, c, d, e, f, g) => {
-                put_reserved(alloc, out, *a, b"for")?;
-                b.spell(alloc, out)?;
+                b.spell_after(alloc, out, *a, b"for")?;
                 c.spell(alloc, out)?;
-                put_reserved(alloc, out, *d, b"st")?;
-                e.spell(alloc, out)?;
-                put_reserved(alloc, out, *f, b"holds")?;
-                g.spell(alloc, out)?;
-                Ok(())
+                e.spell_after(alloc, out, *d, b"st")?;
+                g.spell_after(alloc, out, *f, b"holds")
             }
             QuantifiedNode::ForFurther(a, b, c, d) => {
-                put_reserved(alloc, out, *a, b"for")?;
-                b.spell(alloc, out)?;
+                b.spell_after(alloc, out, *a, b"for")?;
                 c.spell(alloc, out)?;
-                d.spell(alloc, out)?;
-                Ok(())
+                d.spell(alloc, out)
             }
             QuantifiedNode::ForSuchFurther(a, b, c, d, e, f) => {
-                put_reserved(alloc, out, *a, b"for")?;
-                b.spell(alloc, out)?;
+                b.spell_after(alloc, out, *a, b"for")?;
                 c.spell(alloc, out)?;
-                put_reserved(alloc, out, *d, b"st")?;
-                e.spell(alloc, out)?;
-                f.spell(alloc, out)?;
-                Ok(())
+                e.spell_after(alloc, out, *d, b"st")?;
+                f.spell(alloc, out)
             }
             QuantifiedNode::Exists(a, b, c, d, e) => {
-                put_reserved(alloc, out, *a, b"ex")?;
-                b.spell(alloc, out)?;
+                b.spell_after(alloc, out, *a, b"ex")?;
                 c.spell(alloc, out)?;
-                put_reserved(alloc, out, *d, b"st")?;
-                e.spell(alloc, out)?;
-                Ok(())
+                e.spell_after(alloc, out, *d, b"st")
             }
         }
     }
@@ -664,6 +627,21 @@ impl AdjectiveTrees {
             t.spell(alloc, out)?;
         }
         Ok(())
+    }
+
+    /// Adds `the` and their tokens.
+    #[cycle(spell)]
+    #[tactic(auto, using(crate::proofs::SpellLemmas::spell_rules))]
+    fn spell_after_the(
+        &self,
+        alloc: Global,
+        out: &mut Vec<MarkedToken>,
+        the: Place,
+    ) -> Result<(), AllocError>
+        ensures { IfOk result (λ _. out.new.items ≡ out.old.items ++ reserved the (codes "the") ∷ flat_map spell_adjective self.now) }
+    {
+        put_reserved(alloc, out, the, b"the")?;
+        self.spell(alloc, out)
     }
 }
 
