@@ -13,5 +13,7 @@ mod outlook;
 pub mod put;
 pub mod role;
 mod spell;
+#[cfg(test)]
+mod tests;
 pub mod trees;
 pub mod word;
