@@ -1,4 +1,1 @@
-pub mod AheadLemmas
-pub mod MarkLemmas
-pub mod MarkAll
 mod SpellLemmas

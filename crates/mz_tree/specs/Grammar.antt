@@ -3,9 +3,9 @@
 use Rattle.std.specs.Prelude.{◌≡◌, Bool, true, List, map}
 use Rattle.mz_base.specs.declared.token.Token.{Token}
 use Rattle.mz_forms.specs.Form.{Form}
-use Rattle.mz_tree.specs.Marks.{AreMarks}
-use Rattle.mz_tree.specs.Role.{role_of}
-use Rattle.mz_tree.specs.declared.marked_token.MarkedToken.{MarkedToken}
+use Rattle.mz_marks.specs.Marks.{AreMarks}
+use Rattle.mz_marks.specs.Role.{role_of}
+use Rattle.mz_marks.specs.declared.marked_token.MarkedToken.{MarkedToken}
 use Rattle.mz_tree.specs.Trees.{TermData, TermsData, TypeData, FormulaData}
 use Rattle.mz_tree.specs.Spell.{spell_term, spell_terms, spell_type, spell_formula}
 use Rattle.mz_tree.specs.Levels.{levels_term, levels_terms, levels_type, levels_formula, each_term, each_terms, each_type, each_formula}

@@ -1,13 +1,8 @@
-pub mod Ahead
 pub mod Codes
 pub mod Falls
 pub mod Grammar
-pub mod IsAhead
 pub mod Leaves
 pub mod Levels
-pub mod Marks
-pub mod Outlook
-pub mod Role
 pub mod Rules
 pub mod Spell
 pub mod Spelled

@@ -6,9 +6,9 @@ use Rattle.mz_base.specs.declared.symbol_kind.SymbolKind.{SymbolKind}
 use Rattle.mz_base.specs.declared.symbol_kind.SymbolKind.TheVariants as symbols
 use Rattle.mz_base.specs.declared.token_kind.TokenKind.{TokenKind}
 use Rattle.mz_base.specs.declared.token_kind.TokenKind.TheVariants.{Reserved, Special, Symbol, Identifier, Numeral}
-use Rattle.mz_tree.specs.declared.mark.Mark.{Mark}
-use Rattle.mz_tree.specs.declared.mark.Mark.TheVariants as marks
-use Rattle.mz_tree.specs.declared.marked_token.MarkedToken.{MarkedToken}
+use Rattle.mz_marks.specs.declared.mark.Mark.{Mark}
+use Rattle.mz_marks.specs.declared.mark.Mark.TheVariants as marks
+use Rattle.mz_marks.specs.declared.marked_token.MarkedToken.{MarkedToken}
 use Rattle.mz_tree.specs.declared.word.Word.{Word}
 use Rattle.mz_tree.specs.declared.comma.Comma.{Comma}
 use Rattle.mz_tree.specs.declared.being.Being.{Being}

@@ -5,14 +5,14 @@ ghost use Rattle.mz_tree.specs.Spelled.{marked, reserved, special, identifier, s
 
 use crate::being::Being;
 use crate::comma::Comma;
-use crate::mark::Mark;
-use crate::marked_token::MarkedToken;
 use crate::word::Word;
 use mz_base::place::Place;
 use mz_base::symbol_kind::SymbolKind;
 use mz_base::text::Text;
 use mz_base::token::Token;
 use mz_base::token_kind::TokenKind;
+use mz_marks::mark::Mark;
+use mz_marks::marked_token::MarkedToken;
 use std::alloc::{AllocError, Global};
 
 fn put(

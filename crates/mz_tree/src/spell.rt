@@ -9,7 +9,6 @@ use crate::lists::{
     AdjectiveTrees, BeforeTrees, NextConjunctionTrees, NextDeclaredTrees, NextTermTrees,
     NextUnitTrees, PieceTrees, PrefixTrees,
 };
-use crate::marked_token::MarkedToken;
 use crate::put::{
     put_argument, put_being, put_bound, put_comma, put_empty, put_functor, put_identifier,
     put_list_comma, put_mode, put_non, put_reserved, put_selector, put_special, put_symbol,
@@ -25,6 +24,7 @@ use crate::trees::{
 use crate::word::Word;
 use mz_base::place::Place;
 use mz_base::symbol_kind::SymbolKind;
+use mz_marks::marked_token::MarkedToken;
 use std::alloc::{AllocError, Global};
 
 impl TermTree {

@@ -2,8 +2,6 @@
 use crate::lists::{
     AdjectiveTrees, NextConjunctionTrees, NextTermTrees, NextUnitTrees, PieceTrees, PrefixTrees,
 };
-use crate::mark::Mark;
-use crate::marked_token::MarkedToken;
 use crate::trees::{
     AdjectiveNode, AdjectiveTree, BaseNode, BaseTree, ConjunctionNode, ConjunctionTree,
     DisjunctionNode, DisjunctionTree, FormulaNode, FormulaTree, NextTermNode, NextTermTree,
@@ -13,6 +11,8 @@ use crate::trees::{
 use crate::word::Word;
 use mz_base::place::Place;
 use mz_base::text::Text;
+use mz_marks::mark::Mark;
+use mz_marks::marked_token::MarkedToken;
 use std::alloc::{AllocError, Global};
 
 /// The words of tokens, each with a blank before it, and a dividing comma with `!` behind it.

@@ -1,13 +1,13 @@
 -- All marks that are computed are those of the definition.
 use Rattle.std.proofs.Common.{◌≡◌, ℕ, zero, suc, ◌<◌, Bool, true, false, ◌&&◌, ◌⊎◌, inl, inr, List, [], ◌∷◌, ◌++◌, take, drop, length, get_or, refl, sym, ap, subst, ◌∙◌, append_assoc, arith}
 use Rattle.std.specs.List.{list_all}
-use Rattle.mz_tree.specs.declared.role.Role.{Role}
-use Rattle.mz_tree.specs.declared.role.Role.TheVariants.{Identifier, Comma, Open, Close, Bracket, Being, Arrow, For, Reserve, Semicolon, Structure, Aggregate, Term, Other}
-use Rattle.mz_tree.specs.declared.mark.Mark.TheVariants as mark
-use Rattle.mz_tree.specs.Ahead.{begins, segment, reserve_segment}
-use Rattle.mz_tree.specs.Marks.{is_no_semicolon, InReserve, Divides, IsMark, AreMarks}
-use Rattle.mz_tree.specs.Outlook.{comma_with, outlook_with, settled, reserving_after, marks_from}
-use Rattle.mz_tree.proofs.MarkLemmas.{segment_sound, reserve_segment_sound, segment_complete, begins_is, Either}
+use Rattle.mz_marks.specs.declared.role.Role.{Role}
+use Rattle.mz_marks.specs.declared.role.Role.TheVariants.{Identifier, Comma, Open, Close, Bracket, Being, Arrow, For, Reserve, Semicolon, Structure, Aggregate, Term, Other}
+use Rattle.mz_marks.specs.declared.mark.Mark.TheVariants as mark
+use Rattle.mz_marks.specs.Ahead.{begins, segment, reserve_segment}
+use Rattle.mz_marks.specs.Marks.{is_no_semicolon, InReserve, Divides, IsMark, AreMarks}
+use Rattle.mz_marks.specs.Outlook.{comma_with, outlook_with, settled, reserving_after, marks_from}
+use Rattle.mz_marks.proofs.MarkLemmas.{segment_sound, reserve_segment_sound, segment_complete, begins_is, Either}
 
 -- the flag says whether the tokens before stand in a `reserve`
 pub record Tells (before : List Role) (reserving : Bool) : Type 0 where

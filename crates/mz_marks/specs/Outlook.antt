@@ -1,12 +1,12 @@
 -- The marks of commas, computed.
 use Rattle.std.specs.Prelude.{Bool, true, false, List, [], ◌∷◌}
-use Rattle.mz_tree.specs.declared.role.Role.{Role}
-use Rattle.mz_tree.specs.declared.role.Role.TheVariants.{Comma, Reserve, Semicolon}
-use Rattle.mz_tree.specs.declared.mark.Mark.{Mark}
-use Rattle.mz_tree.specs.declared.mark.Mark.TheVariants as mark
-use Rattle.mz_tree.specs.declared.outlook.Outlook.{Outlook}
-use Rattle.mz_tree.specs.declared.outlook.Outlook.TheVariants as outlook
-use Rattle.mz_tree.specs.Ahead.{begins, segment, reserve_segment}
+use Rattle.mz_marks.specs.declared.role.Role.{Role}
+use Rattle.mz_marks.specs.declared.role.Role.TheVariants.{Comma, Reserve, Semicolon}
+use Rattle.mz_marks.specs.declared.mark.Mark.{Mark}
+use Rattle.mz_marks.specs.declared.mark.Mark.TheVariants as mark
+use Rattle.mz_marks.specs.declared.outlook.Outlook.{Outlook}
+use Rattle.mz_marks.specs.declared.outlook.Outlook.TheVariants as outlook
+use Rattle.mz_marks.specs.Ahead.{begins, segment, reserve_segment}
 
 abbrev pub comma_with : Bool → Bool → Bool → Outlook
 comma_with false segment reserve_segment = outlook.Dividing

@@ -2,10 +2,10 @@
 -- follows; every other comma goes on a list.
 use Rattle.std.specs.Prelude.{◌≡◌, ℕ, ◌<◌, Bool, true, false, ◌⊎◌, List, [], ◌∷◌, ◌++◌, take, drop, length, get_or}
 use Rattle.std.specs.List.{list_all}
-use Rattle.mz_tree.specs.declared.role.Role.{Role}
-use Rattle.mz_tree.specs.declared.role.Role.TheVariants.{Identifier, Comma, Open, Close, Bracket, Being, Arrow, For, Reserve, Semicolon, Structure, Aggregate, Term}
-use Rattle.mz_tree.specs.declared.mark.Mark.{Mark}
-use Rattle.mz_tree.specs.declared.mark.Mark.TheVariants as mark
+use Rattle.mz_marks.specs.declared.role.Role.{Role}
+use Rattle.mz_marks.specs.declared.role.Role.TheVariants.{Identifier, Comma, Open, Close, Bracket, Being, Arrow, For, Reserve, Semicolon, Structure, Aggregate, Term}
+use Rattle.mz_marks.specs.declared.mark.Mark.{Mark}
+use Rattle.mz_marks.specs.declared.mark.Mark.TheVariants as mark
 
 -- the next token can begin a term, or no token is left; a symbol of a structure does so before `(#` or as the last token
 abbrev pub may_begin_term : List Role → Bool

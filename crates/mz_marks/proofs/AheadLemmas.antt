@@ -1,13 +1,13 @@
 -- What the program keeps while it goes over the tokens.
 use Rattle.std.proofs.Common.{◌≡◌, Bool, false, List, [], ◌∷◌, ◌++◌, reverse, refl, sym, ap, ◌∙◌, append_assoc}
 use Rattle.std.proofs.lemmas.List.{reverse-append}
-use Rattle.mz_tree.specs.declared.role.Role.{Role}
-use Rattle.mz_tree.specs.declared.mark.Mark.{Mark}
-use Rattle.mz_tree.specs.declared.outlook.Outlook.{Outlook}
-use Rattle.mz_tree.specs.declared.ahead.Ahead as rust
-use Rattle.mz_tree.specs.Ahead.{begins, segment, reserve_segment, first, begins_with, segment_with, tail_with, reserve_tail_with, arrows_with, matched_with}
-use Rattle.mz_tree.specs.IsAhead.{IsAhead, Meets}
-use Rattle.mz_tree.specs.Outlook.{outlook_with, outlooks, settled, reserving_after, marks_from}
+use Rattle.mz_marks.specs.declared.role.Role.{Role}
+use Rattle.mz_marks.specs.declared.mark.Mark.{Mark}
+use Rattle.mz_marks.specs.declared.outlook.Outlook.{Outlook}
+use Rattle.mz_marks.specs.declared.ahead.Ahead as rust
+use Rattle.mz_marks.specs.Ahead.{begins, segment, reserve_segment, first, begins_with, segment_with, tail_with, reserve_tail_with, arrows_with, matched_with}
+use Rattle.mz_marks.specs.IsAhead.{IsAhead, Meets}
+use Rattle.mz_marks.specs.Outlook.{outlook_with, outlooks, settled, reserving_after, marks_from}
 
 pub ahead_more : (r : Role) (s : List Role) (old new : rust.Ahead) → IsAhead s old → Meets r old new → IsAhead (r ∷ s) new
 ahead_more r s old new h m = record {

@@ -1,6 +1,6 @@
 use Rattle.std.proofs.Common.{length}
-use Rattle.mz_tree.proofs.AheadLemmas.{On}
-use Rattle.mz_tree.proofs.marks.marks_of.Given as goal
+use Rattle.mz_marks.proofs.AheadLemmas.{On}
+use Rattle.mz_marks.proofs.marks.marks_of.Given as goal
 
 abbrev pub invariant-on : goal.invariant-on
 invariant-on l = On l.fn.roles l.rest l.reserving l.outlooks.items l.marks.items

@@ -1,8 +1,8 @@
 //! The marks of commas.
 ghost use Rattle.std.specs.Prelude.{◌≡◌, IfOk, map, reverse};
-ghost use Rattle.mz_tree.specs.Marks.{AreMarks};
-ghost use Rattle.mz_tree.specs.Outlook.{outlooks};
-ghost use Rattle.mz_tree.specs.Role.{role_of};
+ghost use Rattle.mz_marks.specs.Marks.{AreMarks};
+ghost use Rattle.mz_marks.specs.Outlook.{outlooks};
+ghost use Rattle.mz_marks.specs.Role.{role_of};
 
 use crate::ahead::Ahead;
 use crate::mark::Mark;
@@ -20,7 +20,7 @@ pub struct Marks {
 
 impl Model for Marks {
     ghost use Rattle.std.specs.Prelude.{List};
-    ghost use Rattle.mz_tree.specs.declared.mark.Mark.{Mark};
+    ghost use Rattle.mz_marks.specs.declared.mark.Mark.{Mark};
 
     ghost Value = { List Mark };
 

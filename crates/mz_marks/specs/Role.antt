@@ -6,8 +6,8 @@ use Rattle.mz_base.specs.declared.symbol_kind.SymbolKind.TheVariants as symbol
 use Rattle.mz_base.specs.declared.token_kind.TokenKind.{TokenKind}
 use Rattle.mz_base.specs.declared.token_kind.TokenKind.TheVariants as kind
 use Rattle.mz_base.specs.declared.token.Token.{Token}
-use Rattle.mz_tree.specs.declared.role.Role.{Role}
-use Rattle.mz_tree.specs.declared.role.Role.TheVariants.{Identifier, Comma, Open, Close, Bracket, Being, Arrow, For, Reserve, Semicolon, Structure, Aggregate, Term, Other}
+use Rattle.mz_marks.specs.declared.role.Role.{Role}
+use Rattle.mz_marks.specs.declared.role.Role.TheVariants.{Identifier, Comma, Open, Close, Bracket, Being, Arrow, For, Reserve, Semicolon, Structure, Aggregate, Term, Other}
 
 -- functor symbols and left brackets begin a term, a symbol of a structure does so in places
 abbrev pub symbol_role : SymbolKind → Role

@@ -1,10 +1,10 @@
 use Rattle.std.proofs.Common.{◌≡◌, List, [], ◌∷◌, subst, refl, length, arith, rules}
-use Rattle.mz_tree.specs.declared.role.Role.{Role}
-use Rattle.mz_tree.specs.declared.mark.Mark.{Mark}
-use Rattle.mz_tree.specs.Marks.{AreMarks}
-use Rattle.mz_tree.proofs.AheadLemmas.{on_end}
-use Rattle.mz_tree.proofs.MarkAll.{marks_right}
-use Rattle.mz_tree.proofs.marks.marks_of.Goals as goal
+use Rattle.mz_marks.specs.declared.role.Role.{Role}
+use Rattle.mz_marks.specs.declared.mark.Mark.{Mark}
+use Rattle.mz_marks.specs.Marks.{AreMarks}
+use Rattle.mz_marks.proofs.AheadLemmas.{on_end}
+use Rattle.mz_marks.proofs.MarkAll.{marks_right}
+use Rattle.mz_marks.proofs.marks.marks_of.Goals as goal
 
 is_nil : (s : List Role) → length s ≡ 0 → s ≡ []
 is_nil [] e = refl

@@ -1,7 +1,7 @@
 //! What tokens are to the marks of commas.
 ghost use Rattle.std.specs.Prelude.{◌≡◌, IfOk, map};
 ghost use Rattle.std.specs.Str.{bytes_eq};
-ghost use Rattle.mz_tree.specs.Role.{symbol_role, reserved_role, special_role, is_argument, role_of};
+ghost use Rattle.mz_marks.specs.Role.{symbol_role, reserved_role, special_role, is_argument, role_of};
 
 use mz_base::symbol_kind::SymbolKind;
 use mz_base::token::Token;

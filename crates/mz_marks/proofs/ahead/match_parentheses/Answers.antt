@@ -1,7 +1,7 @@
 use Rattle.std.proofs.Common.{◌≡◌, ◌++◌, ◌∷◌, [], sym, ap, ◌∙◌}
-use Rattle.mz_tree.specs.Ahead.{front, top}
-use Rattle.mz_tree.proofs.MarkLemmas.{front_last, top_last}
-use Rattle.mz_tree.proofs.ahead.match_parentheses.Goals as goal
+use Rattle.mz_marks.specs.Ahead.{front, top}
+use Rattle.mz_marks.proofs.MarkLemmas.{front_last, top_last}
+use Rattle.mz_marks.proofs.ahead.match_parentheses.Goals as goal
 
 pub returns-in-Some-clause-arrows : goal.returns-in-Some-clause-arrows
 returns-in-Some-clause-arrows c =

@@ -1,8 +1,8 @@
 -- What the program knows of the tokens from one place on.
 use Rattle.std.specs.Prelude.{◌≡◌, List, Some}
-use Rattle.mz_tree.specs.declared.role.Role.{Role}
-use Rattle.mz_tree.specs.declared.ahead.Ahead as rust
-use Rattle.mz_tree.specs.Ahead.{first, begins, segment, tail, reserve_segment, reserve_tail, arrows, begins_with, segment_with, tail_with, reserve_tail_with, arrows_with, matched_with}
+use Rattle.mz_marks.specs.declared.role.Role.{Role}
+use Rattle.mz_marks.specs.declared.ahead.Ahead as rust
+use Rattle.mz_marks.specs.Ahead.{first, begins, segment, tail, reserve_segment, reserve_tail, arrows, begins_with, segment_with, tail_with, reserve_tail_with, arrows_with, matched_with}
 
 pub record IsAhead (s : List Role) (a : rust.Ahead) : Type 0 where
   pub first_is : a.first ≡ first s

@@ -1,6 +1,6 @@
 //! What the tokens behind a comma say of its mark.
 ghost use Rattle.std.specs.Prelude.{◌≡◌};
-ghost use Rattle.mz_tree.specs.Outlook.{settled, reserving_after, mark_with, outlook_with};
+ghost use Rattle.mz_marks.specs.Outlook.{settled, reserving_after, mark_with, outlook_with};
 
 use crate::mark::Mark;
 use crate::role::Role;

@@ -1,9 +1,9 @@
 -- The marks that are computed are those of the definition.
 use Rattle.std.proofs.Common.{◌≡◌, ℕ, zero, suc, ◌+◌, ◌≤◌, Bool, true, false, ◌⊎◌, inl, inr, List, [], ◌∷◌, ◌++◌, length, refl, sym, ap, subst, ◌∙◌, append_assoc, arith, length-append, Option}
-use Rattle.mz_tree.specs.declared.role.Role.{Role}
-use Rattle.mz_tree.specs.declared.role.Role.TheVariants.{Identifier, Comma, Open, Close, Bracket, Being, Arrow, For, Reserve, Semicolon, Structure, Aggregate, Term, Other}
-use Rattle.mz_tree.specs.Ahead.{first, is_arrow, begins, segment, tail, reserve_segment, reserve_tail, front, top, arrows, arrows_with}
-use Rattle.mz_tree.specs.Marks.{may_begin_term, is_parenthesis, Balanced, nothing, other, group, Idents, one, more, InReserve, EndsIdents, NewSegment}
+use Rattle.mz_marks.specs.declared.role.Role.{Role}
+use Rattle.mz_marks.specs.declared.role.Role.TheVariants.{Identifier, Comma, Open, Close, Bracket, Being, Arrow, For, Reserve, Semicolon, Structure, Aggregate, Term, Other}
+use Rattle.mz_marks.specs.Ahead.{first, is_arrow, begins, segment, tail, reserve_segment, reserve_tail, front, top, arrows, arrows_with}
+use Rattle.mz_marks.specs.Marks.{may_begin_term, is_parenthesis, Balanced, nothing, other, group, Idents, one, more, InReserve, EndsIdents, NewSegment}
 
 -- lists with a last member
 pub front_last : (xs : List Bool) (x : Bool) → front (xs ++ x ∷ []) ≡ xs

@@ -1,7 +1,7 @@
 //! What is known of the tokens from one place on, read from the last one to the first.
 ghost use Rattle.std.specs.Prelude.{◌≡◌, IfOk, [], Option};
-ghost use Rattle.mz_tree.specs.Ahead.{begins_with, segment_with, tail_with, reserve_tail_with, arrows_with, matched_with, is_arrow};
-ghost use Rattle.mz_tree.specs.IsAhead.{IsAhead, Meets};
+ghost use Rattle.mz_marks.specs.Ahead.{begins_with, segment_with, tail_with, reserve_tail_with, arrows_with, matched_with, is_arrow};
+ghost use Rattle.mz_marks.specs.IsAhead.{IsAhead, Meets};
 
 use crate::role::Role;
 use std::alloc::{AllocError, Global};

@@ -1,0 +1,5 @@
+pub mod Ahead
+pub mod IsAhead
+pub mod Marks
+pub mod Outlook
+pub mod Role
