@@ -6,7 +6,7 @@ use Rattle.std.proofs.lemmas.List.Elements.{All-nil, All-cons}
 use Rattle.std.specs.declared.alloc.AllocError.{AllocError}
 use Rattle.mz_base.specs.Place.{start, after, end_from}
 use Rattle.mz_base.specs.declared.place.Place.{Place}
-use Rattle.mizv.specs.declared.fault.Fault.{Fault}
+use Rattle.mz_core.specs.declared.fault.Fault.{Fault}
 use Rattle.mizv.specs.declared.word.Word.{Word}
 use Rattle.mizv.specs.declared.theorem.Theorem.{Theorem}
 use Rattle.mizv.specs.declared.first_article.First.{First}

@@ -13,7 +13,7 @@ use Rattle.std.specs.Option.{option_map}
 use Rattle.mz_io.specs.Shelf.{answer_of, text_limit, AgreesWith}
 use Rattle.mizv.specs.declared.first_article.First.{First}
 use Rattle.mizv.specs.declared.first_article.First.TheVariants.{Accepted, Rejected}
-use Rattle.mizv.specs.declared.verdict.Entry.{Entry}
+use Rattle.mz_core.specs.declared.verdict.Entry.{Entry}
 use Rattle.mizv.specs.Outcome.{Outcome}
 use Rattle.mizv.specs.Entry.{IsSaid, checked_entry}
 use Rattle.mizv.specs.Run.{IsText, IsEntry, IsLong, AsksLong, Reported, Written}

@@ -2,12 +2,12 @@
 use Rattle.std.specs.Prelude.{◌≡◌, ℕ, List, [], Option, Some, None, length}
 use Rattle.mz_base.specs.declared.name.Name.{Name}
 use Rattle.mz_logic.specs.Formula.{Formula}
-use Rattle.mizv.specs.declared.fault.Fault.{Fault}
+use Rattle.mz_core.specs.declared.fault.Fault.{Fault}
 use Rattle.mizv.specs.declared.first_article.First.{First}
 use Rattle.mizv.specs.declared.first_article.First.TheVariants as first
-use Rattle.mizv.specs.declared.verdict.Counts.{Counts}
-use Rattle.mizv.specs.declared.verdict.Entry.{Entry}
-use Rattle.mizv.specs.declared.verdict.Verdict.TheVariants.{Accepted, Rejected, Missing}
+use Rattle.mz_core.specs.declared.verdict.Counts.{Counts}
+use Rattle.mz_core.specs.declared.verdict.Entry.{Entry}
+use Rattle.mz_core.specs.declared.verdict.Verdict.TheVariants.{Accepted, Rejected, Missing}
 use Rattle.mizv.specs.Outcome.{Outcome}
 
 -- only theorems, and so many

@@ -9,7 +9,7 @@ use Rattle.mz_logic.specs.Term as term
 use Rattle.mz_logic.specs.Formula as formula
 use Rattle.mz_logic.specs.Formula.{Formula}
 use Rattle.mz_logic.specs.Derives.{Derives}
-use Rattle.mizv.specs.declared.fault.Fault.{Fault}
+use Rattle.mz_core.specs.declared.fault.Fault.{Fault}
 use Rattle.mizv.specs.declared.theorem.Theorem.{Theorem}
 use Rattle.mizv.specs.declared.first_article.First.{First}
 use Rattle.mizv.specs.declared.first_article.First.TheVariants.{Accepted, Rejected}

@@ -4,11 +4,11 @@ use Rattle.std.specs.List.{flat_map, concat}
 use Rattle.std.specs.Fmt.{decimal}
 use Rattle.mz_base.specs.Name.{text_of}
 use Rattle.mz_base.specs.RuleCode.{code_row}
-use Rattle.mizv.specs.declared.fault.Fault.{Fault}
-use Rattle.mizv.specs.declared.verdict.Counts.{Counts}
-use Rattle.mizv.specs.declared.verdict.Entry.{Entry}
-use Rattle.mizv.specs.declared.verdict.Verdict.{Verdict}
-use Rattle.mizv.specs.declared.verdict.Verdict.TheVariants.{Accepted, Rejected, Blocked, Cyclic, Missing}
+use Rattle.mz_core.specs.declared.fault.Fault.{Fault}
+use Rattle.mz_core.specs.declared.verdict.Counts.{Counts}
+use Rattle.mz_core.specs.declared.verdict.Entry.{Entry}
+use Rattle.mz_core.specs.declared.verdict.Verdict.{Verdict}
+use Rattle.mz_core.specs.declared.verdict.Verdict.TheVariants.{Accepted, Rejected, Blocked, Cyclic, Missing}
 
 -- the number after a space, for the codes that have one
 abbrev pub number_text : Bool → Option ℕ → List ℕ

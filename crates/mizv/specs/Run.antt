@@ -8,8 +8,8 @@ use Rattle.mz_io.specs.declared.file_kind.FileKind.TheVariants.{Article}
 use Rattle.mz_io.specs.File.{lookup}
 use Rattle.mz_io.specs.Shelf.{text_limit}
 use Rattle.mz_io.specs.Sink.{with_bytes}
-use Rattle.mizv.specs.declared.verdict.Entry.{Entry}
-use Rattle.mizv.specs.declared.verdict.Verdict.TheVariants as verdict
+use Rattle.mz_core.specs.declared.verdict.Entry.{Entry}
+use Rattle.mz_core.specs.declared.verdict.Verdict.TheVariants as verdict
 use Rattle.mizv.specs.Entry.{IsSaid}
 use Rattle.mizv.specs.Report.{report_text}
 

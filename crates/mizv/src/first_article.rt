@@ -8,7 +8,6 @@ ghost use Rattle.mizv.specs.declared.theorem.Theorem.{Theorem};
 ghost use Rattle.mizv.specs.FirstForm.{IsTheorem, HasFirstForm};
 ghost use Rattle.mizv.specs.Outcome.{index_of, instance_of, quantified, erased, faults_of, first_of, not_built, Outcome, Derived, ArePlacesIn};
 
-use crate::fault::{Fault, Faults};
 use crate::theorem::{Identifiers, Theorem, read_theorems};
 use crate::word::words;
 use mz_base::place::Place;
@@ -16,6 +15,7 @@ use mz_base::rule_code::RuleCode;
 use mz_base::text::Text;
 use mz_by::by::by;
 use mz_by::by_verdict::ByVerdict;
+use mz_core::fault::{Fault, Faults};
 use mz_ground::clauses::Clauses;
 use mz_logic::formula::Formula;
 use mz_logic::formulas::Formulas;
@@ -254,89 +254,69 @@ mod tests {
     }
 
     #[test]
-    fn texts_have_these_outcomes(rt: HostRuntime) -> Result<(), Fail> {
-        let not_built: &[Told] = &[(1, 1, 10, None)];
-        let rows: [(&[u8], &[Told], usize); 20] = [
-            (REFLEXIVE, &[], 1),
-            (
-                b"environ begin theorem for x,y being object holds x = y;",
-                &[(1, 55, 61, Some(1))],
-                0,
-            ),
-            (b"environ begin", &[], 0),
-            (b"environ begin theorem contradiction;", not_built, 0),
-            (
-                b"environ begin\ntheorem for x,y being object holds x = y;\ntheorem for x,y being object holds y = y;\ntheorem for x,y being object holds y=x;",
-                &[(2, 41, 61, Some(1)), (4, 39, 61, Some(1))],
-                0,
-            ),
+    fn texts_of_the_first_form_are_accepted(rt: HostRuntime) -> Result<(), Fail> {
+        let rows: [(&[u8], usize); 5] = [
+            (REFLEXIVE, 1),
+            (b"environ begin", 0),
             (
                 b"environ begin theorem for a,b,c,d,e,f,g,h being object holds h=h;",
-                &[],
                 1,
-            ),
-            (
-                b"environ begin theorem for a,b,c,d,e,f,g,h,i being object holds h=h;",
-                not_built,
-                0,
-            ),
-            (
-                b"environ begin theorem for being object holds x = x;",
-                not_built,
-                0,
             ),
             (
                 b"environ begin theorem for x,x being object holds x = x;",
-                &[],
                 1,
-            ),
-            (
-                b"environ begin theorem for x y being object holds x = x;",
-                not_built,
-                0,
-            ),
-            (
-                b"environ begin theorem for set being object holds set = set;",
-                not_built,
-                0,
-            ),
-            (
-                b"environ begin theorem for in being object holds in = in;",
-                not_built,
-                0,
-            ),
-            (
-                b"environ begin theorem for 12 being object holds 12 = 12;",
-                not_built,
-                0,
             ),
             (
                 b"environ begin theorem for 12' being object holds 12' = 12';",
-                &[],
                 1,
             ),
-            (
-                b"environ begin theorem for x being object holds x = y;",
-                not_built,
-                0,
-            ),
-            (
-                b"environ begin theorem for x being object holds x = x",
-                not_built,
-                0,
-            ),
-            (
-                b"environ begin theorem for x being object holds x = x;;",
-                not_built,
-                0,
-            ),
-            (b"begin environ", not_built, 0),
-            (b"environ", not_built, 0),
-            (b"", not_built, 0),
         ];
-        for (text, faults, formulas) in rows {
+        for (text, formulas) in rows {
             let first = first_article(rt.alloc(), text)?;
-            assert!(rt; has_outcome(&first, faults, formulas), "{text:?}");
+            assert!(rt; has_outcome(&first, &[], formulas), "{text:?}");
+        }
+        Ok(())
+    }
+
+    #[test]
+    fn two_identifiers_are_open_at_the_semicolon(rt: HostRuntime) -> Result<(), Fail> {
+        let rows: [(&[u8], &[Told]); 2] = [
+            (
+                b"environ begin theorem for x,y being object holds x = y;",
+                &[(1, 55, 61, Some(1))],
+            ),
+            (
+                b"environ begin\ntheorem for x,y being object holds x = y;\ntheorem for x,y being object holds y = y;\ntheorem for x,y being object holds y=x;",
+                &[(2, 41, 61, Some(1)), (4, 39, 61, Some(1))],
+            ),
+        ];
+        for (text, faults) in rows {
+            let first = first_article(rt.alloc(), text)?;
+            assert!(rt; has_outcome(&first, faults, 0), "{text:?}");
+        }
+        Ok(())
+    }
+
+    #[test]
+    fn other_texts_are_not_built(rt: HostRuntime) -> Result<(), Fail> {
+        let rows: [&[u8]; 13] = [
+            b"environ begin theorem contradiction;",
+            b"environ begin theorem for a,b,c,d,e,f,g,h,i being object holds h=h;",
+            b"environ begin theorem for being object holds x = x;",
+            b"environ begin theorem for x y being object holds x = x;",
+            b"environ begin theorem for set being object holds set = set;",
+            b"environ begin theorem for in being object holds in = in;",
+            b"environ begin theorem for 12 being object holds 12 = 12;",
+            b"environ begin theorem for x being object holds x = y;",
+            b"environ begin theorem for x being object holds x = x",
+            b"environ begin theorem for x being object holds x = x;;",
+            b"begin environ",
+            b"environ",
+            b"",
+        ];
+        for text in rows {
+            let first = first_article(rt.alloc(), text)?;
+            assert!(rt; has_outcome(&first, &[(1, 1, 10, None)], 0), "{text:?}");
         }
         Ok(())
     }

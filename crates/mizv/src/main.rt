@@ -1,7 +1,6 @@
 //! Checks an article and reports on it.
 #![tactic(auto)]
 
-pub mod fault;
 pub mod first_article;
 pub mod order;
 pub mod report;
@@ -9,7 +8,6 @@ pub mod run;
 #[cfg(test)]
 mod tests;
 pub mod theorem;
-pub mod verdict;
 pub mod word;
 
 use mz_base::status::Status;

@@ -5,10 +5,10 @@ ghost use Rattle.std.specs.Fmt.{decimal};
 ghost use Rattle.mz_base.specs.Name.{text_of};
 ghost use Rattle.mizv.specs.Report.{number_text, head_text, fault_text, accepted_text, rejected_text, verdict_text, faults_text, settled_text, entry_text, report_text, totals_text, totals_line, count_of, is_accepted, is_rejected, is_blocked, is_cyclic, is_missing};
 
-use crate::fault::{Fault, Faults};
-use crate::verdict::{Counts, Entry, Verdict, Verdicts};
 use mz_base::name::Name;
 use mz_base::text::Text;
+use mz_core::fault::{Fault, Faults};
+use mz_core::verdict::{Counts, Entry, Verdict, Verdicts};
 use std::alloc::{AllocError, Global};
 
 /// The fault's place and code, behind two spaces.

@@ -3,18 +3,18 @@ ghost use Rattle.std.specs.Prelude.{◌≡◌, ◌≢◌, ◌≤◌, ◌↔◌, 
 ghost use Rattle.mz_io.specs.Count.{Rose, counted};
 ghost use Rattle.mz_io.specs.declared.file.File.{File};
 ghost use Rattle.mz_base.specs.declared.status.Status.TheVariants as status;
-ghost use Rattle.mizv.specs.Entry.{IsSaid, missing_entry, checked_entry};
+ghost use Rattle.mizv.specs.Entry.{IsSaid, missing_entry, checked_entry, theorems_only};
 ghost use Rattle.mizv.specs.Order.{order_of};
 ghost use Rattle.mizv.specs.Run.{report_of, Written, Reported, AsksLong, IsCompletion, IsRefusalOfLong};
 
-use crate::fault::Faults;
 use crate::first_article::{First, first_article};
 use crate::order::read_words;
 use crate::report::report;
-use crate::verdict::{Counts, Entry, Verdict, Verdicts};
 use mz_base::name::Name;
 use mz_base::status::Status;
 use mz_base::text::Text;
+use mz_core::fault::Faults;
+use mz_core::verdict::{Counts, Entry, Verdict, Verdicts};
 use mz_io::fetch_fault::FetchFault;
 use mz_io::file_kind::FileKind;
 use mz_io::gate::Gate;
@@ -30,7 +30,7 @@ fn missing_entry(alloc: Global, name: Name) -> Entry
     Entry {
         name,
         verdict: Some(Verdict::Missing),
-        counts: Counts::theorems_only(0),
+        counts: theorems_only(0),
         faults: Faults::new(alloc),
     }
 }
@@ -44,14 +44,14 @@ fn checked_entry(alloc: Global, name: Name, outcome: First) -> Result<Entry, All
             Ok(Entry {
                 name,
                 verdict: Some(Verdict::Accepted),
-                counts: Counts::theorems_only(theorems),
+                counts: theorems_only(theorems),
                 faults: Faults::new(alloc),
             })
         }
         First::Rejected(faults) => Ok(Entry {
             name,
             verdict: Some(Verdict::Rejected),
-            counts: Counts::theorems_only(0),
+            counts: theorems_only(0),
             faults,
         }),
     }
@@ -75,6 +75,18 @@ fn entry_of(alloc: Global, name: Name, text: &Option<Text>) -> Result<Entry, All
     match text {
         None => Ok(missing_entry(alloc, name)),
         Some(text) => text_entry(alloc, name, text),
+    }
+}
+
+/// So many theorems, and no other item.
+fn theorems_only(theorems: u32) -> Counts
+    ensures { result ≡ theorems_only theorems }
+{
+    Counts {
+        theorems,
+        definitions: 0,
+        registrations: 0,
+        schemes: 0,
     }
 }
 

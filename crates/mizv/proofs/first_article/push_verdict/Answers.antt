@@ -3,7 +3,7 @@ use Rattle.mz_base.specs.declared.rule_code.RuleCode.TheVariants as code
 use Rattle.mz_by.specs.ConstantEquation.{DecidesEquation}
 use Rattle.mz_by.specs.declared.by_verdict.ByVerdict.TheVariants.{Open}
 use Rattle.mizv.specs.Outcome.{instance_of}
-use Rattle.mizv.specs.declared.fault.Fault.{Fault}
+use Rattle.mz_core.specs.declared.fault.Fault.{Fault}
 use Rattle.mizv.proofs.FaultLemmas.{closed_faults, open_faults}
 use Rattle.mizv.proofs.first_article.push_verdict.Goals as goal
 
