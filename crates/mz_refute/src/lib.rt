@@ -13,4 +13,6 @@ pub mod refuted;
 pub mod row;
 mod search;
 pub mod table;
+#[cfg(test)]
+mod tests;
 pub mod work;
