@@ -1,4 +1,6 @@
 // Small problems with their verdicts, worked out by hand from the rules.
+mod registrations;
+
 use crate::by::by;
 use crate::by_verdict::ByVerdict;
 use mz_base::limit::Limit;
