@@ -1,1 +1,2 @@
-mod SpellLemmas
+pub mod SpellLemmas
+pub mod Views

@@ -1,7 +1,8 @@
 -- The spelling of lists.
-use Rattle.std.proofs.Common.{◌≡◌, ℕ, zero, suc, ◌+◌, ◌<◌, List, [], ◌∷◌, ◌++◌, take, length, get_or, refl, sym, ap, ◌∙◌, append_assoc, arith, add-one}
+use Rattle.std.proofs.Common.{◌≡◌, List, [], ◌∷◌, ◌++◌, refl, ap, append_assoc}
 use Rattle.std.specs.List.{flat_map}
 use Rattle.mz_tree.specs.Trees.{PieceData, PrefixData, BeforeData, NextTermData, AdjectiveData, NextDeclaredData, NextConjunctionData, NextUnitData, pieces_of, prefixs_of, befores_of, next_terms_of, adjectives_of, next_declareds_of, next_conjunctions_of, next_units_of}
+use Rattle.mz_tree.proofs.Views.{term_of-is, operand_of-is, conjunction_of-is}
 use Rattle.mz_tree.specs.Spell.{spell_piece, spell_prefix, spell_before, spell_next_term, spell_adjective, spell_next_declared, spell_next_conjunction, spell_next_unit, spell_piece_list, spell_prefix_list, spell_before_list, spell_next_term_list, spell_adjective_list, spell_next_declared_list, spell_next_conjunction_list, spell_next_unit_list}
 
 pub spell_piece_list-pieces_of : (ts : List PieceData) → spell_piece_list (pieces_of ts) ≡ flat_map spell_piece ts
@@ -36,15 +37,4 @@ pub spell_next_unit_list-next_units_of : (ts : List NextUnitData) → spell_next
 spell_next_unit_list-next_units_of [] = refl
 spell_next_unit_list-next_units_of (t ∷ ts) = ap (λ z. spell_next_unit t ++ z) (spell_next_unit_list-next_units_of ts)
 
-pub flat_map_more : {X Y : Type 0} (f : X → List Y) (xs : List X) (i : ℕ) (d : X) → i < length xs → flat_map f (take (i + 1) xs) ≡ flat_map f (take i xs) ++ f (get_or xs i d)
-flat_map_more f [] i d h = absurd (omega (arith, h))
-flat_map_more f (x ∷ xs) zero d h = nil (f x)
-  where
-    nil : {Y : Type 0} (ys : List Y) → ys ++ [] ≡ ys
-    nil [] = refl
-    nil (y ∷ ys) = ap (λ z. y ∷ z) (nil ys)
-flat_map_more f (x ∷ xs) (suc i) d h =
-    let e : suc i + 1 ≡ suc (i + 1) = omega arith in
-    ap (λ n. flat_map f (take n (x ∷ xs))) e ∙ (ap (λ z. f x ++ z) (flat_map_more f xs i d (omega (arith, h))) ∙ sym (append_assoc (f x) (flat_map f (take i xs)) (f (get_or xs i d))))
-
-pub ruleset spell_rules = (append_assoc, spell_piece_list-pieces_of, spell_prefix_list-prefixs_of, spell_before_list-befores_of, spell_next_term_list-next_terms_of, spell_adjective_list-adjectives_of, spell_next_declared_list-next_declareds_of, spell_next_conjunction_list-next_conjunctions_of, spell_next_unit_list-next_units_of)
+pub ruleset spell_rules = (append_assoc, term_of-is, operand_of-is, conjunction_of-is, spell_piece_list-pieces_of, spell_prefix_list-prefixs_of, spell_before_list-befores_of, spell_next_term_list-next_terms_of, spell_adjective_list-adjectives_of, spell_next_declared_list-next_declareds_of, spell_next_conjunction_list-next_conjunctions_of, spell_next_unit_list-next_units_of)

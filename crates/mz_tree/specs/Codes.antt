@@ -1,15 +1,143 @@
 -- How the trees are stored and read back.
 use Rattle.std.specs.Prelude.{◌≡◌, ℕ, List, [], ◌∷◌, refl, Bool, true, false, Option, Some, None, if◌then◌else◌, ◌==◌}
 use Rattle.std.proofs.Common.{ap}
-use Rattle.std.specs.Coded.{Coded, code_by}
+use Rattle.std.specs.Coded.{Coded, code_by, coded×}
 use base.Stored.{Gv, gnil, gnum, gcons}
 use denote.Struct.Codes.{itself}
 use Rattle.mz_base.specs.declared.place.Place.{Place}
 use Rattle.mz_tree.specs.declared.word.Word.{Word}
 use Rattle.mz_tree.specs.declared.comma.Comma.{Comma}
 use Rattle.mz_tree.specs.declared.being.Being.{Being}
-use Rattle.mz_tree.specs.Leaves.{no_place, no_word, no_comma, numbers_gv, word_gv, bit, comma_gv, maybe_gv, being_gv}
-use Rattle.mz_tree.specs.Trees.{TermData, PieceData, PrefixData, BeforeData, BaseData, TermsData, NextTermData, AdjectiveData, TypeData, DeclaredData, NextDeclaredData, FormulaData, DisjunctionData, NextConjunctionData, ConjunctionData, NextUnitData, UnitData, QuantifiedData, PieceList, PrefixList, BeforeList, NextTermList, AdjectiveList, NextDeclaredList, NextConjunctionList, NextUnitList, RunTerm, FunctorPiece, OperandPiece, SelectorPrefix, ChoiceOfPrefix, ChoiceOverPrefix, OperandBefore, IdentifierBase, SubjectBase, ArgumentBase, GroupBase, CallBase, CallWithBase, SelectorBase, AggregateBase, BracketsBase, BracesBase, SquaresBase, SetOfBase, ChoiceBase, ChoiceStructureBase, ListTerms, NextNextTerm, PlainAdjective, WithIdentifierAdjective, WithTermsAdjective, ModeType, ModeOfType, StructureType, StructureOverType, PlainDeclared, TypedDeclared, NextNextDeclared, PlainFormula, ImpliesFormula, IffFormula, ChainDisjunction, OrNextConjunction, ChainConjunction, AndNextUnit, NotUnit, ContradictionUnit, ThesisUnit, QuantifiedUnit, GroupUnit, PrivateUnit, PrivateWithUnit, PredicateUnit, PredicateRightUnit, PredicateLeftUnit, PredicateBothUnit, IsTypeUnit, IsAdjectivesUnit, ForQuantified, ForSuchQuantified, ForFurtherQuantified, ForSuchFurtherQuantified, ExistsQuantified, no_pieces, more_pieces, no_prefixs, more_prefixs, no_befores, more_befores, no_next_terms, more_next_terms, no_adjectives, more_adjectives, no_next_declareds, more_next_declareds, no_next_conjunctions, more_next_conjunctions, no_next_units, more_next_units, term_gv, piece_gv, prefix_gv, before_gv, base_gv, terms_gv, next_term_gv, adjective_gv, type_gv, declared_gv, next_declared_gv, formula_gv, disjunction_gv, next_conjunction_gv, conjunction_gv, next_unit_gv, unit_gv, quantified_gv, piece_list_gv, prefix_list_gv, before_list_gv, next_term_list_gv, adjective_list_gv, next_declared_list_gv, next_conjunction_list_gv, next_unit_list_gv}
+use Rattle.mz_tree.specs.Leaves.{place_gv, no_place, no_word, no_comma, numbers_gv, word_gv, bit, comma_gv, maybe_gv, being_gv}
+use Rattle.mz_tree.specs.Trees.{DeclarationsData, AdjectivesData, TermData, PieceData, PrefixData, BeforeData, BaseData, TermsData, NextTermData, AdjectiveData, TypeData, DeclaredData, NextDeclaredData, FormulaData, DisjunctionData, NextConjunctionData, ConjunctionData, NextUnitData, UnitData, QuantifiedData, PieceList, PrefixList, BeforeList, NextTermList, AdjectiveList, NextDeclaredList, NextConjunctionList, NextUnitList, RunTerm, FunctorPiece, OperandPiece, SelectorPrefix, ChoiceOfPrefix, ChoiceOverPrefix, OperandBefore, IdentifierBase, SubjectBase, ArgumentBase, GroupBase, CallBase, CallWithBase, SelectorBase, AggregateBase, BracketsBase, BracesBase, SquaresBase, SetOfBase, ChoiceBase, ChoiceStructureBase, ListTerms, NextNextTerm, PlainAdjective, WithIdentifierAdjective, WithTermsAdjective, ModeType, ModeOfType, StructureType, StructureOverType, PlainDeclared, TypedDeclared, NextNextDeclared, PlainFormula, ImpliesFormula, IffFormula, ChainDisjunction, OrNextConjunction, ChainConjunction, AndNextUnit, NotUnit, ContradictionUnit, ThesisUnit, QuantifiedUnit, GroupUnit, PrivateUnit, PrivateWithUnit, PredicateUnit, PredicateRightUnit, PredicateLeftUnit, PredicateBothUnit, IsTypeUnit, IsAdjectivesUnit, ForQuantified, ForSuchQuantified, ForFurtherQuantified, ForSuchFurtherQuantified, ExistsQuantified, no_pieces, more_pieces, no_prefixs, more_prefixs, no_befores, more_befores, no_next_terms, more_next_terms, no_adjectives, more_adjectives, no_next_declareds, more_next_declareds, no_next_conjunctions, more_next_conjunctions, no_next_units, more_next_units}
+
+-- a tree is stored as a tree of numbers: its variant's number, then its fields
+abbrev mutual
+  pub term_gv : TermData → Gv
+  term_gv (RunTerm a b) = gcons (gnum 0) (gcons (piece_gv a) (gcons (piece_list_gv b) gnil))
+
+  pub piece_gv : PieceData → Gv
+  piece_gv (FunctorPiece a b) = gcons (gnum 0) (gcons (word_gv a) (gcons (gnum b) gnil))
+  piece_gv (OperandPiece a b) = gcons (gnum 1) (gcons (prefix_list_gv a) (gcons (base_gv b) gnil))
+
+  pub prefix_gv : PrefixData → Gv
+  prefix_gv (SelectorPrefix a b c) = gcons (gnum 0) (gcons (place_gv a) (gcons (word_gv b) (gcons (place_gv c) gnil)))
+  prefix_gv (ChoiceOfPrefix a b c d e) = gcons (gnum 1) (gcons (place_gv a) (gcons (adjective_list_gv b) (gcons (word_gv c) (gcons (place_gv d) (gcons (before_list_gv e) gnil)))))
+  prefix_gv (ChoiceOverPrefix a b c d e) = gcons (gnum 2) (gcons (place_gv a) (gcons (adjective_list_gv b) (gcons (word_gv c) (gcons (place_gv d) (gcons (before_list_gv e) gnil)))))
+
+  pub before_gv : BeforeData → Gv
+  before_gv (OperandBefore a b c) = gcons (gnum 0) (gcons (prefix_list_gv a) (gcons (base_gv b) (gcons (place_gv c) gnil)))
+
+  pub base_gv : BaseData → Gv
+  base_gv (IdentifierBase a) = gcons (gnum 0) (gcons (word_gv a) gnil)
+  base_gv (SubjectBase a) = gcons (gnum 1) (gcons (place_gv a) gnil)
+  base_gv (ArgumentBase a b) = gcons (gnum 2) (gcons (place_gv a) (gcons (gnum b) gnil))
+  base_gv (GroupBase a b c) = gcons (gnum 3) (gcons (place_gv a) (gcons (terms_gv b) (gcons (place_gv c) gnil)))
+  base_gv (CallBase a b c) = gcons (gnum 4) (gcons (word_gv a) (gcons (place_gv b) (gcons (place_gv c) gnil)))
+  base_gv (CallWithBase a b c d) = gcons (gnum 5) (gcons (word_gv a) (gcons (place_gv b) (gcons (terms_gv c) (gcons (place_gv d) gnil))))
+  base_gv (SelectorBase a b) = gcons (gnum 6) (gcons (place_gv a) (gcons (word_gv b) gnil))
+  base_gv (AggregateBase a b c d) = gcons (gnum 7) (gcons (word_gv a) (gcons (place_gv b) (gcons (terms_gv c) (gcons (place_gv d) gnil))))
+  base_gv (BracketsBase a b c) = gcons (gnum 8) (gcons (word_gv a) (gcons (terms_gv b) (gcons (word_gv c) gnil)))
+  base_gv (BracesBase a b c) = gcons (gnum 9) (gcons (place_gv a) (gcons (terms_gv b) (gcons (place_gv c) gnil)))
+  base_gv (SquaresBase a b c) = gcons (gnum 10) (gcons (place_gv a) (gcons (terms_gv b) (gcons (place_gv c) gnil)))
+  base_gv (SetOfBase a b c d e f g h i) = gcons (gnum 11) (gcons (place_gv a) (gcons (term_gv b) (gcons (place_gv c) (gcons (word_gv d) (gcons (place_gv e) (gcons (type_gv f) (gcons (place_gv g) (gcons (formula_gv h) (gcons (place_gv i) gnil)))))))))
+  base_gv (ChoiceBase a b c) = gcons (gnum 12) (gcons (place_gv a) (gcons (adjective_list_gv b) (gcons (word_gv c) gnil)))
+  base_gv (ChoiceStructureBase a b c) = gcons (gnum 13) (gcons (place_gv a) (gcons (adjective_list_gv b) (gcons (word_gv c) gnil)))
+
+  pub terms_gv : TermsData → Gv
+  terms_gv (ListTerms a b) = gcons (gnum 0) (gcons (term_gv a) (gcons (next_term_list_gv b) gnil))
+
+  pub next_term_gv : NextTermData → Gv
+  next_term_gv (NextNextTerm a b) = gcons (gnum 0) (gcons (place_gv a) (gcons (term_gv b) gnil))
+
+  pub adjective_gv : AdjectiveData → Gv
+  adjective_gv (PlainAdjective a b) = gcons (gnum 0) (gcons (maybe_gv a) (gcons (word_gv b) gnil))
+  adjective_gv (WithIdentifierAdjective a b c) = gcons (gnum 1) (gcons (maybe_gv a) (gcons (word_gv b) (gcons (word_gv c) gnil)))
+  adjective_gv (WithTermsAdjective a b c d e) = gcons (gnum 2) (gcons (maybe_gv a) (gcons (place_gv b) (gcons (terms_gv c) (gcons (place_gv d) (gcons (word_gv e) gnil)))))
+
+  pub type_gv : TypeData → Gv
+  type_gv (ModeType a b) = gcons (gnum 0) (gcons (adjective_list_gv a) (gcons (word_gv b) gnil))
+  type_gv (ModeOfType a b c d) = gcons (gnum 1) (gcons (adjective_list_gv a) (gcons (word_gv b) (gcons (place_gv c) (gcons (terms_gv d) gnil))))
+  type_gv (StructureType a b) = gcons (gnum 2) (gcons (adjective_list_gv a) (gcons (word_gv b) gnil))
+  type_gv (StructureOverType a b c d) = gcons (gnum 3) (gcons (adjective_list_gv a) (gcons (word_gv b) (gcons (place_gv c) (gcons (terms_gv d) gnil))))
+
+  pub declared_gv : DeclaredData → Gv
+  declared_gv (PlainDeclared a) = gcons (gnum 0) (gcons (word_gv a) gnil)
+  declared_gv (TypedDeclared a b c) = gcons (gnum 1) (gcons (word_gv a) (gcons (being_gv b) (gcons (type_gv c) gnil)))
+
+  pub next_declared_gv : NextDeclaredData → Gv
+  next_declared_gv (NextNextDeclared a b) = gcons (gnum 0) (gcons (comma_gv a) (gcons (declared_gv b) gnil))
+
+  pub formula_gv : FormulaData → Gv
+  formula_gv (PlainFormula a) = gcons (gnum 0) (gcons (disjunction_gv a) gnil)
+  formula_gv (ImpliesFormula a b c) = gcons (gnum 1) (gcons (disjunction_gv a) (gcons (place_gv b) (gcons (disjunction_gv c) gnil)))
+  formula_gv (IffFormula a b c) = gcons (gnum 2) (gcons (disjunction_gv a) (gcons (place_gv b) (gcons (disjunction_gv c) gnil)))
+
+  pub disjunction_gv : DisjunctionData → Gv
+  disjunction_gv (ChainDisjunction a b) = gcons (gnum 0) (gcons (conjunction_gv a) (gcons (next_conjunction_list_gv b) gnil))
+
+  pub next_conjunction_gv : NextConjunctionData → Gv
+  next_conjunction_gv (OrNextConjunction a b) = gcons (gnum 0) (gcons (place_gv a) (gcons (conjunction_gv b) gnil))
+
+  pub conjunction_gv : ConjunctionData → Gv
+  conjunction_gv (ChainConjunction a b) = gcons (gnum 0) (gcons (unit_gv a) (gcons (next_unit_list_gv b) gnil))
+
+  pub next_unit_gv : NextUnitData → Gv
+  next_unit_gv (AndNextUnit a b) = gcons (gnum 0) (gcons (place_gv a) (gcons (unit_gv b) gnil))
+
+  pub unit_gv : UnitData → Gv
+  unit_gv (NotUnit a b) = gcons (gnum 0) (gcons (place_gv a) (gcons (unit_gv b) gnil))
+  unit_gv (ContradictionUnit a) = gcons (gnum 1) (gcons (place_gv a) gnil)
+  unit_gv (ThesisUnit a) = gcons (gnum 2) (gcons (place_gv a) gnil)
+  unit_gv (QuantifiedUnit a) = gcons (gnum 3) (gcons (quantified_gv a) gnil)
+  unit_gv (GroupUnit a b c) = gcons (gnum 4) (gcons (place_gv a) (gcons (formula_gv b) (gcons (place_gv c) gnil)))
+  unit_gv (PrivateUnit a b c) = gcons (gnum 5) (gcons (word_gv a) (gcons (place_gv b) (gcons (place_gv c) gnil)))
+  unit_gv (PrivateWithUnit a b c d) = gcons (gnum 6) (gcons (word_gv a) (gcons (place_gv b) (gcons (terms_gv c) (gcons (place_gv d) gnil))))
+  unit_gv (PredicateUnit a) = gcons (gnum 7) (gcons (word_gv a) gnil)
+  unit_gv (PredicateRightUnit a b) = gcons (gnum 8) (gcons (word_gv a) (gcons (terms_gv b) gnil))
+  unit_gv (PredicateLeftUnit a b) = gcons (gnum 9) (gcons (terms_gv a) (gcons (word_gv b) gnil))
+  unit_gv (PredicateBothUnit a b c) = gcons (gnum 10) (gcons (terms_gv a) (gcons (word_gv b) (gcons (terms_gv c) gnil)))
+  unit_gv (IsTypeUnit a b c) = gcons (gnum 11) (gcons (term_gv a) (gcons (place_gv b) (gcons (type_gv c) gnil)))
+  unit_gv (IsAdjectivesUnit a b c d) = gcons (gnum 12) (gcons (term_gv a) (gcons (place_gv b) (gcons (adjective_gv c) (gcons (adjective_list_gv d) gnil))))
+
+  pub quantified_gv : QuantifiedData → Gv
+  quantified_gv (ForQuantified a b c d e) = gcons (gnum 0) (gcons (place_gv a) (gcons (declared_gv b) (gcons (next_declared_list_gv c) (gcons (place_gv d) (gcons (formula_gv e) gnil)))))
+  quantified_gv (ForSuchQuantified a b c d e f g) = gcons (gnum 1) (gcons (place_gv a) (gcons (declared_gv b) (gcons (next_declared_list_gv c) (gcons (place_gv d) (gcons (formula_gv e) (gcons (place_gv f) (gcons (formula_gv g) gnil)))))))
+  quantified_gv (ForFurtherQuantified a b c d) = gcons (gnum 2) (gcons (place_gv a) (gcons (declared_gv b) (gcons (next_declared_list_gv c) (gcons (quantified_gv d) gnil))))
+  quantified_gv (ForSuchFurtherQuantified a b c d e f) = gcons (gnum 3) (gcons (place_gv a) (gcons (declared_gv b) (gcons (next_declared_list_gv c) (gcons (place_gv d) (gcons (formula_gv e) (gcons (quantified_gv f) gnil))))))
+  quantified_gv (ExistsQuantified a b c d e) = gcons (gnum 4) (gcons (place_gv a) (gcons (declared_gv b) (gcons (next_declared_list_gv c) (gcons (place_gv d) (gcons (formula_gv e) gnil)))))
+
+  pub piece_list_gv : PieceList → Gv
+  piece_list_gv no_pieces = gnil
+  piece_list_gv (more_pieces t ts) = gcons (piece_gv t) (piece_list_gv ts)
+
+  pub prefix_list_gv : PrefixList → Gv
+  prefix_list_gv no_prefixs = gnil
+  prefix_list_gv (more_prefixs t ts) = gcons (prefix_gv t) (prefix_list_gv ts)
+
+  pub before_list_gv : BeforeList → Gv
+  before_list_gv no_befores = gnil
+  before_list_gv (more_befores t ts) = gcons (before_gv t) (before_list_gv ts)
+
+  pub next_term_list_gv : NextTermList → Gv
+  next_term_list_gv no_next_terms = gnil
+  next_term_list_gv (more_next_terms t ts) = gcons (next_term_gv t) (next_term_list_gv ts)
+
+  pub adjective_list_gv : AdjectiveList → Gv
+  adjective_list_gv no_adjectives = gnil
+  adjective_list_gv (more_adjectives t ts) = gcons (adjective_gv t) (adjective_list_gv ts)
+
+  pub next_declared_list_gv : NextDeclaredList → Gv
+  next_declared_list_gv no_next_declareds = gnil
+  next_declared_list_gv (more_next_declareds t ts) = gcons (next_declared_gv t) (next_declared_list_gv ts)
+
+  pub next_conjunction_list_gv : NextConjunctionList → Gv
+  next_conjunction_list_gv no_next_conjunctions = gnil
+  next_conjunction_list_gv (more_next_conjunctions t ts) = gcons (next_conjunction_gv t) (next_conjunction_list_gv ts)
+
+  pub next_unit_list_gv : NextUnitList → Gv
+  next_unit_list_gv no_next_units = gnil
+  next_unit_list_gv (more_next_units t ts) = gcons (next_unit_gv t) (next_unit_list_gv ts)
 
 abbrev pub some_piece : PieceData
 some_piece = FunctorPiece no_word 0
@@ -500,23 +628,8 @@ mutual
 abbrev pub term_code : Coded TermData
 term_code = code_by Gv itself term_gv term_back term_back-term_gv
 
-abbrev pub piece_code : Coded PieceData
-piece_code = code_by Gv itself piece_gv piece_back piece_back-piece_gv
-
-abbrev pub prefix_code : Coded PrefixData
-prefix_code = code_by Gv itself prefix_gv prefix_back prefix_back-prefix_gv
-
-abbrev pub before_code : Coded BeforeData
-before_code = code_by Gv itself before_gv before_back before_back-before_gv
-
-abbrev pub base_code : Coded BaseData
-base_code = code_by Gv itself base_gv base_back base_back-base_gv
-
 abbrev pub terms_code : Coded TermsData
 terms_code = code_by Gv itself terms_gv terms_back terms_back-terms_gv
-
-abbrev pub next_term_code : Coded NextTermData
-next_term_code = code_by Gv itself next_term_gv next_term_back next_term_back-next_term_gv
 
 abbrev pub adjective_code : Coded AdjectiveData
 adjective_code = code_by Gv itself adjective_gv adjective_back adjective_back-adjective_gv
@@ -527,26 +640,17 @@ type_code = code_by Gv itself type_gv type_back type_back-type_gv
 abbrev pub declared_code : Coded DeclaredData
 declared_code = code_by Gv itself declared_gv declared_back declared_back-declared_gv
 
-abbrev pub next_declared_code : Coded NextDeclaredData
-next_declared_code = code_by Gv itself next_declared_gv next_declared_back next_declared_back-next_declared_gv
-
 abbrev pub formula_code : Coded FormulaData
 formula_code = code_by Gv itself formula_gv formula_back formula_back-formula_gv
 
-abbrev pub disjunction_code : Coded DisjunctionData
-disjunction_code = code_by Gv itself disjunction_gv disjunction_back disjunction_back-disjunction_gv
+abbrev pub adjective_list_code : Coded AdjectiveList
+adjective_list_code = code_by Gv itself adjective_list_gv adjective_list_back adjective_list_back-adjective_list_gv
 
-abbrev pub next_conjunction_code : Coded NextConjunctionData
-next_conjunction_code = code_by Gv itself next_conjunction_gv next_conjunction_back next_conjunction_back-next_conjunction_gv
+abbrev pub next_declared_list_code : Coded NextDeclaredList
+next_declared_list_code = code_by Gv itself next_declared_list_gv next_declared_list_back next_declared_list_back-next_declared_list_gv
 
-abbrev pub conjunction_code : Coded ConjunctionData
-conjunction_code = code_by Gv itself conjunction_gv conjunction_back conjunction_back-conjunction_gv
+abbrev pub declarations_code : Coded DeclarationsData
+declarations_code = code_by (DeclaredData × NextDeclaredList) (coded× declared_code next_declared_list_code) (λ d. (d.first, d.more)) (λ p. record { first = p.0; more = p.1 }) (λ _. refl)
 
-abbrev pub next_unit_code : Coded NextUnitData
-next_unit_code = code_by Gv itself next_unit_gv next_unit_back next_unit_back-next_unit_gv
-
-abbrev pub unit_code : Coded UnitData
-unit_code = code_by Gv itself unit_gv unit_back unit_back-unit_gv
-
-abbrev pub quantified_code : Coded QuantifiedData
-quantified_code = code_by Gv itself quantified_gv quantified_back quantified_back-quantified_gv
+abbrev pub adjectives_code : Coded AdjectivesData
+adjectives_code = code_by (AdjectiveData × AdjectiveList) (coded× adjective_code adjective_list_code) (λ a. (a.first, a.more)) (λ p. record { first = p.0; more = p.1 }) (λ _. refl)

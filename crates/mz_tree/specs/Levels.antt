@@ -1,6 +1,6 @@
 -- How many constructs are open at each token of an expression. A construct is open from its first token on: a bracket up to
 -- the token before the one that closes it, a `not` to the end of its unit, a quantifier to the end of its formula, and an
--- operand of a chain to the end of the chain.
+-- operand of a chain but the first to the end of the chain.
 use Rattle.std.specs.Prelude.{◌≡◌, ℕ, suc, List, [], ◌∷◌, ◌++◌, map, length, refl, codes, Option, Some, None}
 use Rattle.mz_base.specs.declared.place.Place.{Place}
 use Rattle.mz_base.specs.declared.symbol_kind.SymbolKind.TheVariants as symbols
@@ -10,8 +10,8 @@ use Rattle.std.proofs.lemmas.List.{length-map}
 use Rattle.mz_forms.specs.Form.{each_append}
 use Rattle.mz_marks.specs.declared.marked_token.MarkedToken.{MarkedToken}
 use Rattle.mz_tree.specs.Spelled.{reserved, special, identifier, symbol, mode, list_comma, non_of, reserved_if, maybe}
-use Rattle.mz_tree.specs.Trees.{TermData, PieceData, PrefixData, BeforeData, BaseData, TermsData, NextTermData, AdjectiveData, TypeData, DeclaredData, NextDeclaredData, FormulaData, DisjunctionData, NextConjunctionData, ConjunctionData, NextUnitData, UnitData, QuantifiedData, PieceList, PrefixList, BeforeList, NextTermList, AdjectiveList, NextDeclaredList, NextConjunctionList, NextUnitList, RunTerm, FunctorPiece, OperandPiece, SelectorPrefix, ChoiceOfPrefix, ChoiceOverPrefix, OperandBefore, IdentifierBase, SubjectBase, ArgumentBase, GroupBase, CallBase, CallWithBase, SelectorBase, AggregateBase, BracketsBase, BracesBase, SquaresBase, SetOfBase, ChoiceBase, ChoiceStructureBase, ListTerms, NextNextTerm, PlainAdjective, WithIdentifierAdjective, WithTermsAdjective, ModeType, ModeOfType, StructureType, StructureOverType, PlainDeclared, TypedDeclared, NextNextDeclared, PlainFormula, ImpliesFormula, IffFormula, ChainDisjunction, OrNextConjunction, ChainConjunction, AndNextUnit, NotUnit, ContradictionUnit, ThesisUnit, QuantifiedUnit, GroupUnit, PrivateUnit, PrivateWithUnit, PredicateUnit, PredicateRightUnit, PredicateLeftUnit, PredicateBothUnit, IsTypeUnit, IsAdjectivesUnit, ForQuantified, ForSuchQuantified, ForFurtherQuantified, ForSuchFurtherQuantified, ExistsQuantified, no_pieces, more_pieces, no_prefixs, more_prefixs, no_befores, more_befores, no_next_terms, more_next_terms, no_adjectives, more_adjectives, no_next_declareds, more_next_declareds, no_next_conjunctions, more_next_conjunctions, no_next_units, more_next_units}
-use Rattle.mz_tree.specs.Spell.{spell_term, spell_piece, spell_prefix, spell_before, spell_base, spell_terms, spell_next_term, spell_adjective, spell_type, spell_declared, spell_next_declared, spell_formula, spell_disjunction, spell_next_conjunction, spell_conjunction, spell_next_unit, spell_unit, spell_quantified, spell_piece_list, spell_prefix_list, spell_before_list, spell_next_term_list, spell_adjective_list, spell_next_declared_list, spell_next_conjunction_list, spell_next_unit_list}
+use Rattle.mz_tree.specs.Trees.{DeclarationsData, AdjectivesData, TermData, PieceData, PrefixData, BeforeData, BaseData, TermsData, NextTermData, AdjectiveData, TypeData, DeclaredData, NextDeclaredData, FormulaData, DisjunctionData, NextConjunctionData, ConjunctionData, NextUnitData, UnitData, QuantifiedData, PieceList, PrefixList, BeforeList, NextTermList, AdjectiveList, NextDeclaredList, NextConjunctionList, NextUnitList, RunTerm, FunctorPiece, OperandPiece, SelectorPrefix, ChoiceOfPrefix, ChoiceOverPrefix, OperandBefore, IdentifierBase, SubjectBase, ArgumentBase, GroupBase, CallBase, CallWithBase, SelectorBase, AggregateBase, BracketsBase, BracesBase, SquaresBase, SetOfBase, ChoiceBase, ChoiceStructureBase, ListTerms, NextNextTerm, PlainAdjective, WithIdentifierAdjective, WithTermsAdjective, ModeType, ModeOfType, StructureType, StructureOverType, PlainDeclared, TypedDeclared, NextNextDeclared, PlainFormula, ImpliesFormula, IffFormula, ChainDisjunction, OrNextConjunction, ChainConjunction, AndNextUnit, NotUnit, ContradictionUnit, ThesisUnit, QuantifiedUnit, GroupUnit, PrivateUnit, PrivateWithUnit, PredicateUnit, PredicateRightUnit, PredicateLeftUnit, PredicateBothUnit, IsTypeUnit, IsAdjectivesUnit, ForQuantified, ForSuchQuantified, ForFurtherQuantified, ForSuchFurtherQuantified, ExistsQuantified, no_pieces, more_pieces, no_prefixs, more_prefixs, no_befores, more_befores, no_next_terms, more_next_terms, no_adjectives, more_adjectives, no_next_declareds, more_next_declareds, no_next_conjunctions, more_next_conjunctions, no_next_units, more_next_units}
+use Rattle.mz_tree.specs.Spell.{spell_declarations, spell_adjectives, spell_term, spell_piece, spell_prefix, spell_before, spell_base, spell_terms, spell_next_term, spell_adjective, spell_type, spell_declared, spell_next_declared, spell_formula, spell_disjunction, spell_next_conjunction, spell_conjunction, spell_next_unit, spell_unit, spell_quantified, spell_piece_list, spell_prefix_list, spell_before_list, spell_next_term_list, spell_adjective_list, spell_next_declared_list, spell_next_conjunction_list, spell_next_unit_list}
 
 abbrev pub non_levels : Option Place → List ℕ
 non_levels None = []
@@ -285,3 +285,15 @@ mutual
   pub each_next_unit_list : (ts : NextUnitList) → length (levels_next_unit_list ts) ≡ length (spell_next_unit_list ts)
   each_next_unit_list no_next_units = refl
   each_next_unit_list (more_next_units (AndNextUnit p x) ts) = ap suc (nested_each (levels_unit x ++ levels_next_unit_list ts) (spell_unit x ++ spell_next_unit_list ts) (each_append (levels_unit x) (levels_next_unit_list ts) (spell_unit x) (spell_next_unit_list ts) (each_unit x) (each_next_unit_list ts)))
+
+abbrev pub levels_declarations : DeclarationsData → List ℕ
+levels_declarations a = levels_declared a.first ++ levels_next_declared_list a.more
+
+abbrev pub levels_adjectives : AdjectivesData → List ℕ
+levels_adjectives a = levels_adjective a.first ++ levels_adjective_list a.more
+
+pub each_declarations : (a : DeclarationsData) → length (levels_declarations a) ≡ length (spell_declarations a)
+each_declarations a = each_append (levels_declared a.first) (levels_next_declared_list a.more) (spell_declared a.first) (spell_next_declared_list a.more) (each_declared a.first) (each_next_declared_list a.more)
+
+pub each_adjectives : (a : AdjectivesData) → length (levels_adjectives a) ≡ length (spell_adjectives a)
+each_adjectives a = each_append (levels_adjective a.first) (levels_adjective_list a.more) (spell_adjective a.first) (spell_adjective_list a.more) (each_adjective a.first) (each_adjective_list a.more)

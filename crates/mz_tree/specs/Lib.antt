@@ -1,8 +1,8 @@
 pub mod Codes
-pub mod Falls
 pub mod Grammar
 pub mod Leaves
 pub mod Levels
+pub mod Lists
 pub mod Rules
 pub mod Spell
 pub mod Spelled

@@ -1,7 +1,7 @@
 -- The rules beside the alternatives of the grammar.
 use Rattle.std.specs.Prelude.{◌≡◌, ◌≤◌, Bool, true, false, List, [], ◌∷◌, Option, Some, None}
 use Rattle.mz_tree.specs.declared.comma.Comma.{Comma}
-use Rattle.mz_tree.specs.Trees.{TermData, PieceData, BaseData, TermsData, AdjectiveData, TypeData, DeclaredData, FormulaData, DisjunctionData, ConjunctionData, UnitData, QuantifiedData, PieceList, PrefixList, NextTermList, AdjectiveList, NextDeclaredList, NextConjunctionList, NextUnitList, RunTerm, FunctorPiece, OperandPiece, SelectorPrefix, IdentifierBase, SubjectBase, ArgumentBase, GroupBase, CallBase, CallWithBase, SelectorBase, AggregateBase, BracketsBase, BracesBase, SquaresBase, SetOfBase, ChoiceBase, ChoiceStructureBase, ChoiceOfPrefix, ChoiceOverPrefix, ListTerms, NextNextTerm, PlainAdjective, WithIdentifierAdjective, WithTermsAdjective, ModeType, ModeOfType, StructureType, StructureOverType, PlainDeclared, TypedDeclared, NextNextDeclared, PlainFormula, ImpliesFormula, IffFormula, ChainDisjunction, OrNextConjunction, ChainConjunction, AndNextUnit, NotUnit, ContradictionUnit, ThesisUnit, QuantifiedUnit, GroupUnit, PrivateUnit, PrivateWithUnit, PredicateUnit, PredicateRightUnit, PredicateLeftUnit, PredicateBothUnit, IsTypeUnit, IsAdjectivesUnit, ForQuantified, ForSuchQuantified, ForFurtherQuantified, ForSuchFurtherQuantified, ExistsQuantified, no_pieces, more_pieces, no_prefixs, more_prefixs, no_next_terms, more_next_terms, no_adjectives, more_adjectives, no_next_declareds, more_next_declareds, no_next_conjunctions, more_next_conjunctions, no_next_units, more_next_units}
+use Rattle.mz_tree.specs.Trees.{DeclarationsData, AdjectivesData, TermData, PieceData, BaseData, TermsData, AdjectiveData, TypeData, DeclaredData, FormulaData, DisjunctionData, ConjunctionData, UnitData, QuantifiedData, PieceList, PrefixList, NextTermList, AdjectiveList, NextDeclaredList, NextConjunctionList, NextUnitList, RunTerm, FunctorPiece, OperandPiece, SelectorPrefix, IdentifierBase, SubjectBase, ArgumentBase, GroupBase, CallBase, CallWithBase, SelectorBase, AggregateBase, BracketsBase, BracesBase, SquaresBase, SetOfBase, ChoiceBase, ChoiceStructureBase, ChoiceOfPrefix, ChoiceOverPrefix, ListTerms, NextNextTerm, PlainAdjective, WithIdentifierAdjective, WithTermsAdjective, ModeType, ModeOfType, StructureType, StructureOverType, PlainDeclared, TypedDeclared, NextNextDeclared, PlainFormula, ImpliesFormula, IffFormula, ChainDisjunction, OrNextConjunction, ChainConjunction, AndNextUnit, NotUnit, ContradictionUnit, ThesisUnit, QuantifiedUnit, GroupUnit, PrivateUnit, PrivateWithUnit, PredicateUnit, PredicateRightUnit, PredicateLeftUnit, PredicateBothUnit, IsTypeUnit, IsAdjectivesUnit, ForQuantified, ForSuchQuantified, ForFurtherQuantified, ForSuchFurtherQuantified, ExistsQuantified, no_pieces, more_pieces, no_prefixs, more_prefixs, no_next_terms, more_next_terms, no_adjectives, more_adjectives, no_next_declareds, more_next_declareds, no_next_conjunctions, more_next_conjunctions, no_next_units, more_next_units}
 
 -- each of the list is such
 abbrev pub Every : {X : Type 0} → (X → Type 0) → List X → Type 0
@@ -239,3 +239,9 @@ abbrev mutual
   IsQuantified (ForFurtherQuantified a b c q) = IsDeclared b × AreDeclared b c × IsQuantified q
   IsQuantified (ForSuchFurtherQuantified a b c d e q) = IsDeclared b × AreDeclared b c × IsFormula e × IsQuantified q
   IsQuantified (ExistsQuantified a b c d f) = IsDeclared b × AreDeclared b c × IsFormula f
+
+abbrev pub AreDeclarations : DeclarationsData → Type 0
+AreDeclarations a = IsDeclared a.first × AreDeclared a.first a.more
+
+abbrev pub AreSomeAdjectives : Bool → AdjectivesData → Type 0
+AreSomeAdjectives f a = IsAdjective f a.first × AreAdjectives f a.more

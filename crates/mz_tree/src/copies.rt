@@ -1,716 +1,406 @@
 //! Copies of trees.
-ghost use Rattle.std.specs.Prelude.{◌≡◌, IfOk};
-ghost use Rattle.mz_tree.specs.Trees.{BracketsBase};
-ghost use Rattle.mz_tree.specs.Views.{base_view, unit_view, quantified_view};
+ghost use Rattle.std.specs.Prelude.{◌≡◌, IfOk, map};
+ghost use Rattle.mz_tree.specs.Views.{term_of, piece_of, operand_of, prefix_of, before_of, base_of, terms_of, adjective_of, type_of, declared_of, next_declared_of, formula_of, disjunction_of, conjunction_of, unit_of, quantified_of};
 
-use crate::lists::{
-    AdjectiveTrees, BeforeTrees, NextConjunctionTrees, NextDeclaredTrees, NextTermTrees,
-    NextUnitTrees, PieceTrees, PrefixTrees,
+use crate::chain::{Before, Chain, Next};
+use crate::nodes::{
+    AdjectiveNode, BaseNode, ConjunctionNode, DeclarationsNode, DeclaredNode, DisjunctionNode,
+    FormulaNode, OperandNode, PieceNode, PrefixNode, QuantifiedNode, TermNode, TermsNode, TypeNode,
+    UnitNode,
 };
-use crate::trees::{
-    AdjectiveNode, AdjectiveTree, BaseNode, BaseTree, BeforeNode, BeforeTree, ConjunctionNode,
-    ConjunctionTree, DeclaredNode, DeclaredTree, DisjunctionNode, DisjunctionTree, FormulaNode,
-    FormulaTree, NextConjunctionNode, NextConjunctionTree, NextDeclaredNode, NextDeclaredTree,
-    NextTermNode, NextTermTree, NextUnitNode, NextUnitTree, PieceNode, PieceTree, PrefixNode,
-    PrefixTree, QuantifiedNode, QuantifiedTree, TermNode, TermTree, TermsNode, TermsTree, TypeNode,
-    TypeTree, UnitNode, UnitTree,
-};
-use crate::word::Word;
 use std::alloc::{AllocError, Global};
 
-impl TermTree {
+impl TermNode {
     /// An equal tree.
     #[cycle(copy)]
-    pub fn copy(&self, alloc: Global) -> Result<TermTree, AllocError>
-        ensures { IfOk result (λ t. t ≡ self.now) }
+    pub fn copy(&self, alloc: Global) -> Result<TermNode, AllocError>
+        ensures { IfOk result (λ t. term_of t ≡ term_of self.now) }
     {
-        match &self.node {
-            TermNode::Run(a, b) => {
-                let a = a.boxed(alloc)?;
-                let b = b.copy(alloc)?;
-                let node = TermNode::Run(a, b);
-                Ok(TermTree { node })
-            }
+        let mut more = Vec::new(alloc);
+        for piece in &self.more {
+            more.push(piece.copy(alloc)?)?;
         }
-    }
-
-    #[cycle(copy)]
-    fn boxed(&self, alloc: Global) -> Result<Box<TermTree>, AllocError>
-        ensures { IfOk result (λ b. b.value ≡ self.now) }
-    {
-        let copy = self.copy(alloc)?;
-        let boxed = Box::new(alloc, copy)?;
-        Ok(boxed)
+        let first = self.first.copy(alloc)?;
+        Ok(TermNode { first, more })
     }
 }
 
-impl PieceTree {
+impl PieceNode {
     /// An equal tree.
     #[cycle(copy)]
-    pub fn copy(&self, alloc: Global) -> Result<PieceTree, AllocError>
-        ensures { IfOk result (λ t. t ≡ self.now) }
+    #[tactic(auto, using(crate::proofs::Views::piece_rules))]
+    pub fn copy(&self, alloc: Global) -> Result<PieceNode, AllocError>
+        ensures { IfOk result (λ t. piece_of t ≡ piece_of self.now) }
     {
-        match &self.node {
-            PieceNode::Functor(a, b) => {
-                let a = a.copy(alloc)?;
-                let node = PieceNode::Functor(a, *b);
-                Ok(PieceTree { node })
-            }
-            PieceNode::Operand(a, b) => {
-                let a = a.copy(alloc)?;
-                let b = b.boxed(alloc)?;
-                let node = PieceNode::Operand(a, b);
-                Ok(PieceTree { node })
-            }
+        match self {
+            PieceNode::Functor(a, b) => Ok(PieceNode::Functor(a.copy(alloc)?, *b)),
+            PieceNode::Operand(a) => Ok(PieceNode::Operand(Box::new(alloc, a.copy(alloc)?)?)),
         }
-    }
-
-    #[cycle(copy)]
-    fn boxed(&self, alloc: Global) -> Result<Box<PieceTree>, AllocError>
-        ensures { IfOk result (λ b. b.value ≡ self.now) }
-    {
-        let copy = self.copy(alloc)?;
-        let boxed = Box::new(alloc, copy)?;
-        Ok(boxed)
     }
 }
 
-impl PrefixTree {
+impl OperandNode {
     /// An equal tree.
     #[cycle(copy)]
-    pub fn copy(&self, alloc: Global) -> Result<PrefixTree, AllocError>
-        ensures { IfOk result (λ t. t ≡ self.now) }
+    pub fn copy(&self, alloc: Global) -> Result<OperandNode, AllocError>
+        ensures { IfOk result (λ t. operand_of t ≡ operand_of self.now) }
     {
-        match &self.node {
-            PrefixNode::Selector(a, b, c) => {
-                let b = b.copy(alloc)?;
-                let node = PrefixNode::Selector(*a, b, *c);
-                Ok(PrefixTree { node })
-            }
+        let mut prefixes = Vec::new(alloc);
+        for prefix in &self.prefixes {
+            prefixes.push(prefix.copy(alloc)?)?;
+        }
+        let base = self.base.copy(alloc)?;
+        Ok(OperandNode { prefixes, base })
+    }
+}
+
+#[cycle(copy)]
+fn copy_befores(
+    alloc: Global,
+    befores: &[Before<OperandNode>],
+) -> Result<Vec<Before<OperandNode>>, AllocError>
+    ensures { IfOk result (λ ts. map before_of ts.items ≡ map before_of befores.now) }
+{
+    let mut out = Vec::new(alloc);
+    for before in befores {
+        let tree = before.tree.copy(alloc)?;
+        out.push(Before {
+            tree,
+            comma: before.comma,
+        })?;
+    }
+    Ok(out)
+}
+
+impl PrefixNode {
+    /// An equal tree.
+    #[cycle(copy)]
+    #[tactic(auto, using(crate::proofs::Views::prefix_rules))]
+    pub fn copy(&self, alloc: Global) -> Result<PrefixNode, AllocError>
+        ensures { IfOk result (λ t. prefix_of t ≡ prefix_of self.now) }
+    {
+        match self {
+            PrefixNode::Selector(a, b, c) => Ok(PrefixNode::Selector(*a, b.copy(alloc)?, *c)),
             PrefixNode::ChoiceOf(a, b, c, d, e) => {
-                let b = b.copy(alloc)?;
+                let b = copy_adjectives(alloc, b)?;
                 let c = c.copy(alloc)?;
-                let e = e.copy(alloc)?;
-                let node = PrefixNode::ChoiceOf(*a, b, c, *d, e);
-                Ok(PrefixTree { node })
+                let e = copy_befores(alloc, e)?;
+                Ok(PrefixNode::ChoiceOf(*a, b, c, *d, e))
             }
             PrefixNode::ChoiceOver(a, b, c, d, e) => {
-                let b = b.copy(alloc)?;
+                let b = copy_adjectives(alloc, b)?;
                 let c = c.copy(alloc)?;
-                let e = e.copy(alloc)?;
-                let node = PrefixNode::ChoiceOver(*a, b, c, *d, e);
-                Ok(PrefixTree { node })
+                let e = copy_befores(alloc, e)?;
+                Ok(PrefixNode::ChoiceOver(*a, b, c, *d, e))
             }
         }
     }
 }
 
-impl BeforeTree {
+impl BaseNode {
     /// An equal tree.
     #[cycle(copy)]
-    pub fn copy(&self, alloc: Global) -> Result<BeforeTree, AllocError>
-        ensures { IfOk result (λ t. t ≡ self.now) }
+    #[tactic(auto, using(crate::proofs::Views::base_rules))]
+    pub fn copy(&self, alloc: Global) -> Result<BaseNode, AllocError>
+        ensures { IfOk result (λ t. base_of t ≡ base_of self.now) }
     {
-        match &self.node {
-            BeforeNode::Operand(a, b, c) => {
-                let a = a.copy(alloc)?;
-                let b = b.boxed(alloc)?;
-                let node = BeforeNode::Operand(a, b, *c);
-                Ok(BeforeTree { node })
-            }
-        }
-    }
-}
-
-impl BaseTree {
-    fn of(node: BaseNode) -> BaseTree
-        ensures { result ≡ base_view node }
-    {
-        BaseTree { node }
-    }
-
-    /// An equal tree.
-    #[cycle(copy)]
-    pub fn copy(&self, alloc: Global) -> Result<BaseTree, AllocError>
-        ensures { IfOk result (λ t. t ≡ self.now) }
-    {
-        match &self.node {
-            BaseNode::Identifier(a) => Ok(Self::of(BaseNode::Identifier(a.copy(alloc)?))),
-            BaseNode::Subject(a) => Ok(Self::of(BaseNode::Subject(*a))),
-            BaseNode::Argument(a, b) => Ok(Self::of(BaseNode::Argument(*a, *b))),
-            BaseNode::Group(a, b, c) => Ok(Self::of(BaseNode::Group(*a, b.boxed(alloc)?, *c))),
-            BaseNode::Call(a, b, c) => Ok(Self::of(BaseNode::Call(a.copy(alloc)?, *b, *c))),
+        match self {
+            BaseNode::Identifier(a) => Ok(BaseNode::Identifier(a.copy(alloc)?)),
+            BaseNode::Subject(a) => Ok(BaseNode::Subject(*a)),
+            BaseNode::Argument(a, b) => Ok(BaseNode::Argument(*a, *b)),
+            BaseNode::Group(a, b, c) => Ok(BaseNode::Group(*a, copy_terms(alloc, b)?, *c)),
+            BaseNode::Call(a, b, c) => Ok(BaseNode::Call(a.copy(alloc)?, *b, *c)),
             BaseNode::CallWith(a, b, c, d) => {
-                let a = a.copy(alloc)?;
-                Ok(Self::of(BaseNode::CallWith(a, *b, c.boxed(alloc)?, *d)))
+                Ok(BaseNode::CallWith(a.copy(alloc)?, *b, copy_terms(alloc, c)?, *d))
             }
-            BaseNode::Selector(a, b) => Ok(Self::of(BaseNode::Selector(*a, b.copy(alloc)?))),
+            BaseNode::Selector(a, b) => Ok(BaseNode::Selector(*a, b.copy(alloc)?)),
             BaseNode::Aggregate(a, b, c, d) => {
-                let a = a.copy(alloc)?;
-                Ok(Self::of(BaseNode::Aggregate(a, *b, c.boxed(alloc)?, *d)))
+                Ok(BaseNode::Aggregate(a.copy(alloc)?, *b, copy_terms(alloc, c)?, *d))
             }
-            BaseNode::Brackets(a, b, c) => b.copy_bracketed(alloc, a, c),
-            BaseNode::Braces(a, b, c) => Ok(Self::of(BaseNode::Braces(*a, b.boxed(alloc)?, *c))),
-            BaseNode::Squares(a, b, c) => Ok(Self::of(BaseNode::Squares(*a, b.boxed(alloc)?, *c))),
+            BaseNode::Brackets(a, b, c) => {
+                let a = a.copy(alloc)?;
+                let c = c.copy(alloc)?;
+                Ok(BaseNode::Brackets(a, copy_terms(alloc, b)?, c))
+            }
+            BaseNode::Braces(a, b, c) => Ok(BaseNode::Braces(*a, copy_terms(alloc, b)?, *c)),
+            BaseNode::Squares(a, b, c) => Ok(BaseNode::Squares(*a, copy_terms(alloc, b)?, *c)),
             BaseNode::SetOf(a, b, c, d, e, f, g, h, i) => {
-                let b = b.boxed(alloc)?;
+                let b = b.copy(alloc)?;
                 let d = d.copy(alloc)?;
-                let f = f.boxed(alloc)?;
-                let h = h.boxed(alloc)?;
-                Ok(Self::of(BaseNode::SetOf(*a, b, *c, d, *e, f, *g, h, *i)))
+                let f = Box::new(alloc, f.copy(alloc)?)?;
+                let h = Box::new(alloc, h.copy(alloc)?)?;
+                Ok(BaseNode::SetOf(*a, b, *c, d, *e, f, *g, h, *i))
             }
             BaseNode::Choice(a, b, c) => {
-                let b = b.copy(alloc)?;
-                Ok(Self::of(BaseNode::Choice(*a, b, c.copy(alloc)?)))
+                Ok(BaseNode::Choice(*a, copy_adjectives(alloc, b)?, c.copy(alloc)?))
             }
             BaseNode::ChoiceStructure(a, b, c) => {
-                let b = b.copy(alloc)?;
-                Ok(Self::of(BaseNode::ChoiceStructure(*a, b, c.copy(alloc)?)))
-            }
-        }
-    }
-
-    #[cycle(copy)]
-    fn boxed(&self, alloc: Global) -> Result<Box<BaseTree>, AllocError>
-        ensures { IfOk result (λ b. b.value ≡ self.now) }
-    {
-        let copy = self.copy(alloc)?;
-        let boxed = Box::new(alloc, copy)?;
-        Ok(boxed)
-    }
-}
-
-impl TermsTree {
-    /// An equal tree.
-    #[cycle(copy)]
-    pub fn copy(&self, alloc: Global) -> Result<TermsTree, AllocError>
-        ensures { IfOk result (λ t. t ≡ self.now) }
-    {
-        match &self.node {
-            TermsNode::List(a, b) => {
-                let a = a.boxed(alloc)?;
-                let b = b.copy(alloc)?;
-                let node = TermsNode::List(a, b);
-                Ok(TermsTree { node })
-            }
-        }
-    }
-
-    #[cycle(copy)]
-    fn boxed(&self, alloc: Global) -> Result<Box<TermsTree>, AllocError>
-        ensures { IfOk result (λ b. b.value ≡ self.now) }
-    {
-        let copy = self.copy(alloc)?;
-        let boxed = Box::new(alloc, copy)?;
-        Ok(boxed)
-    }
-
-    /// The terms between copies of two brackets.
-    #[cycle(copy)]
-    fn copy_bracketed(
-        &self,
-        alloc: Global,
-        left: &Word,
-        right: &Word,
-    ) -> Result<BaseTree, AllocError>
-        ensures { IfOk result (λ t. t ≡ BracketsBase left.now self.now right.now) }
-    {
-        let left = left.copy(alloc)?;
-        let terms = self.copy(alloc)?;
-        let terms = Box::new(alloc, terms)?;
-        Ok(BaseTree::of(BaseNode::Brackets(left, terms, right.copy(alloc)?)))
-    }
-}
-
-impl NextTermTree {
-    /// An equal tree.
-    #[cycle(copy)]
-    pub fn copy(&self, alloc: Global) -> Result<NextTermTree, AllocError>
-        ensures { IfOk result (λ t. t ≡ self.now) }
-    {
-        match &self.node {
-            NextTermNode::Next(a, b) => {
-                let b = b.boxed(alloc)?;
-                let node = NextTermNode::Next(*a, b);
-                Ok(NextTermTree { node })
+                Ok(BaseNode::ChoiceStructure(*a, copy_adjectives(alloc, b)?, c.copy(alloc)?))
             }
         }
     }
 }
 
-impl AdjectiveTree {
+/// Equal terms.
+#[cycle(copy)]
+pub fn copy_terms(alloc: Global, terms: &TermsNode) -> Result<TermsNode, AllocError>
+    ensures { IfOk result (λ ts. terms_of ts ≡ terms_of terms.now) }
+{
+    let mut more = Vec::new(alloc);
+    for next in &terms.more {
+        let tree = next.tree.copy(alloc)?;
+        more.push(Next {
+            sign: next.sign,
+            tree,
+        })?;
+    }
+    let first = terms.first.copy(alloc)?;
+    Ok(Chain { first, more })
+}
+
+impl AdjectiveNode {
     /// An equal tree.
     #[cycle(copy)]
-    pub fn copy(&self, alloc: Global) -> Result<AdjectiveTree, AllocError>
-        ensures { IfOk result (λ t. t ≡ self.now) }
+    #[tactic(auto, using(crate::proofs::Views::adjective_rules))]
+    pub fn copy(&self, alloc: Global) -> Result<AdjectiveNode, AllocError>
+        ensures { IfOk result (λ t. adjective_of t ≡ adjective_of self.now) }
     {
-        match &self.node {
-            AdjectiveNode::Plain(a, b) => {
-                let b = b.copy(alloc)?;
-                let node = AdjectiveNode::Plain(*a, b);
-                Ok(AdjectiveTree { node })
-            }
+        match self {
+            AdjectiveNode::Plain(a, b) => Ok(AdjectiveNode::Plain(*a, b.copy(alloc)?)),
             AdjectiveNode::WithIdentifier(a, b, c) => {
                 let b = b.copy(alloc)?;
-                let c = c.copy(alloc)?;
-                let node = AdjectiveNode::WithIdentifier(*a, b, c);
-                Ok(AdjectiveTree { node })
+                Ok(AdjectiveNode::WithIdentifier(*a, b, c.copy(alloc)?))
             }
             AdjectiveNode::WithTerms(a, b, c, d, e) => {
-                let c = c.boxed(alloc)?;
-                let e = e.copy(alloc)?;
-                let node = AdjectiveNode::WithTerms(*a, *b, c, *d, e);
-                Ok(AdjectiveTree { node })
+                let c = copy_terms(alloc, c)?;
+                Ok(AdjectiveNode::WithTerms(*a, *b, c, *d, e.copy(alloc)?))
             }
         }
     }
-
-    #[cycle(copy)]
-    fn boxed(&self, alloc: Global) -> Result<Box<AdjectiveTree>, AllocError>
-        ensures { IfOk result (λ b. b.value ≡ self.now) }
-    {
-        let copy = self.copy(alloc)?;
-        let boxed = Box::new(alloc, copy)?;
-        Ok(boxed)
-    }
 }
 
-impl TypeTree {
+/// Equal adjectives.
+#[cycle(copy)]
+pub fn copy_adjectives(
+    alloc: Global,
+    adjectives: &[AdjectiveNode],
+) -> Result<Vec<AdjectiveNode>, AllocError>
+    ensures { IfOk result (λ ts. map adjective_of ts.items ≡ map adjective_of adjectives.now) }
+{
+    let mut out = Vec::new(alloc);
+    for adjective in adjectives {
+        out.push(adjective.copy(alloc)?)?;
+    }
+    Ok(out)
+}
+
+impl TypeNode {
     /// An equal tree.
     #[cycle(copy)]
-    pub fn copy(&self, alloc: Global) -> Result<TypeTree, AllocError>
-        ensures { IfOk result (λ t. t ≡ self.now) }
+    #[tactic(auto, using(crate::proofs::Views::type_rules))]
+    pub fn copy(&self, alloc: Global) -> Result<TypeNode, AllocError>
+        ensures { IfOk result (λ t. type_of t ≡ type_of self.now) }
     {
-        match &self.node {
+        match self {
             TypeNode::Mode(a, b) => {
-                let a = a.copy(alloc)?;
-                let b = b.copy(alloc)?;
-                let node = TypeNode::Mode(a, b);
-                Ok(TypeTree { node })
+                let a = copy_adjectives(alloc, a)?;
+                Ok(TypeNode::Mode(a, b.copy(alloc)?))
             }
             TypeNode::ModeOf(a, b, c, d) => {
-                let a = a.copy(alloc)?;
+                let a = copy_adjectives(alloc, a)?;
                 let b = b.copy(alloc)?;
-                let d = d.boxed(alloc)?;
-                let node = TypeNode::ModeOf(a, b, *c, d);
-                Ok(TypeTree { node })
+                Ok(TypeNode::ModeOf(a, b, *c, copy_terms(alloc, d)?))
             }
             TypeNode::Structure(a, b) => {
-                let a = a.copy(alloc)?;
-                let b = b.copy(alloc)?;
-                let node = TypeNode::Structure(a, b);
-                Ok(TypeTree { node })
+                let a = copy_adjectives(alloc, a)?;
+                Ok(TypeNode::Structure(a, b.copy(alloc)?))
             }
             TypeNode::StructureOver(a, b, c, d) => {
-                let a = a.copy(alloc)?;
+                let a = copy_adjectives(alloc, a)?;
                 let b = b.copy(alloc)?;
-                let d = d.boxed(alloc)?;
-                let node = TypeNode::StructureOver(a, b, *c, d);
-                Ok(TypeTree { node })
+                Ok(TypeNode::StructureOver(a, b, *c, copy_terms(alloc, d)?))
             }
         }
     }
-
-    #[cycle(copy)]
-    fn boxed(&self, alloc: Global) -> Result<Box<TypeTree>, AllocError>
-        ensures { IfOk result (λ b. b.value ≡ self.now) }
-    {
-        let copy = self.copy(alloc)?;
-        let boxed = Box::new(alloc, copy)?;
-        Ok(boxed)
-    }
 }
 
-impl DeclaredTree {
+impl DeclaredNode {
     /// An equal tree.
     #[cycle(copy)]
-    pub fn copy(&self, alloc: Global) -> Result<DeclaredTree, AllocError>
-        ensures { IfOk result (λ t. t ≡ self.now) }
+    #[tactic(auto, using(crate::proofs::Views::declared_rules))]
+    pub fn copy(&self, alloc: Global) -> Result<DeclaredNode, AllocError>
+        ensures { IfOk result (λ t. declared_of t ≡ declared_of self.now) }
     {
-        match &self.node {
-            DeclaredNode::Plain(a) => {
-                let a = a.copy(alloc)?;
-                let node = DeclaredNode::Plain(a);
-                Ok(DeclaredTree { node })
-            }
+        match self {
+            DeclaredNode::Plain(a) => Ok(DeclaredNode::Plain(a.copy(alloc)?)),
             DeclaredNode::Typed(a, b, c) => {
                 let a = a.copy(alloc)?;
-                let c = c.boxed(alloc)?;
-                let node = DeclaredNode::Typed(a, *b, c);
-                Ok(DeclaredTree { node })
-            }
-        }
-    }
-
-    #[cycle(copy)]
-    fn boxed(&self, alloc: Global) -> Result<Box<DeclaredTree>, AllocError>
-        ensures { IfOk result (λ b. b.value ≡ self.now) }
-    {
-        let copy = self.copy(alloc)?;
-        let boxed = Box::new(alloc, copy)?;
-        Ok(boxed)
-    }
-}
-
-impl NextDeclaredTree {
-    /// An equal tree.
-    #[cycle(copy)]
-    pub fn copy(&self, alloc: Global) -> Result<NextDeclaredTree, AllocError>
-        ensures { IfOk result (λ t. t ≡ self.now) }
-    {
-        match &self.node {
-            NextDeclaredNode::Next(a, b) => {
-                let b = b.boxed(alloc)?;
-                let node = NextDeclaredNode::Next(*a, b);
-                Ok(NextDeclaredTree { node })
+                Ok(DeclaredNode::Typed(a, *b, c.copy(alloc)?))
             }
         }
     }
 }
 
-impl FormulaTree {
+/// Equal declared identifiers.
+#[cycle(copy)]
+pub fn copy_declarations(
+    alloc: Global,
+    declarations: &DeclarationsNode,
+) -> Result<DeclarationsNode, AllocError>
+    ensures { IfOk result (λ ts. (declared_of ts.first ≡ declared_of declarations.now.first) × (map next_declared_of ts.more.items ≡ map next_declared_of declarations.now.more.items)) }
+{
+    let mut more = Vec::new(alloc);
+    for next in &declarations.more {
+        let tree = next.tree.copy(alloc)?;
+        more.push(Next {
+            sign: next.sign,
+            tree,
+        })?;
+    }
+    let first = declarations.first.copy(alloc)?;
+    Ok(Chain { first, more })
+}
+
+impl FormulaNode {
     /// An equal tree.
     #[cycle(copy)]
-    pub fn copy(&self, alloc: Global) -> Result<FormulaTree, AllocError>
-        ensures { IfOk result (λ t. t ≡ self.now) }
+    #[tactic(auto, using(crate::proofs::Views::formula_rules))]
+    pub fn copy(&self, alloc: Global) -> Result<FormulaNode, AllocError>
+        ensures { IfOk result (λ t. formula_of t ≡ formula_of self.now) }
     {
-        match &self.node {
-            FormulaNode::Plain(a) => {
-                let a = a.boxed(alloc)?;
-                let node = FormulaNode::Plain(a);
-                Ok(FormulaTree { node })
-            }
+        match self {
+            FormulaNode::Plain(a) => Ok(FormulaNode::Plain(copy_disjunction(alloc, a)?)),
             FormulaNode::Implies(a, b, c) => {
-                let a = a.boxed(alloc)?;
-                let c = c.boxed(alloc)?;
-                let node = FormulaNode::Implies(a, *b, c);
-                Ok(FormulaTree { node })
+                let a = copy_disjunction(alloc, a)?;
+                Ok(FormulaNode::Implies(a, *b, copy_disjunction(alloc, c)?))
             }
             FormulaNode::Iff(a, b, c) => {
-                let a = a.boxed(alloc)?;
-                let c = c.boxed(alloc)?;
-                let node = FormulaNode::Iff(a, *b, c);
-                Ok(FormulaTree { node })
-            }
-        }
-    }
-
-    #[cycle(copy)]
-    fn boxed(&self, alloc: Global) -> Result<Box<FormulaTree>, AllocError>
-        ensures { IfOk result (λ b. b.value ≡ self.now) }
-    {
-        let copy = self.copy(alloc)?;
-        let boxed = Box::new(alloc, copy)?;
-        Ok(boxed)
-    }
-}
-
-impl DisjunctionTree {
-    /// An equal tree.
-    #[cycle(copy)]
-    pub fn copy(&self, alloc: Global) -> Result<DisjunctionTree, AllocError>
-        ensures { IfOk result (λ t. t ≡ self.now) }
-    {
-        match &self.node {
-            DisjunctionNode::Chain(a, b) => {
-                let a = a.boxed(alloc)?;
-                let b = b.copy(alloc)?;
-                let node = DisjunctionNode::Chain(a, b);
-                Ok(DisjunctionTree { node })
-            }
-        }
-    }
-
-    #[cycle(copy)]
-    fn boxed(&self, alloc: Global) -> Result<Box<DisjunctionTree>, AllocError>
-        ensures { IfOk result (λ b. b.value ≡ self.now) }
-    {
-        let copy = self.copy(alloc)?;
-        let boxed = Box::new(alloc, copy)?;
-        Ok(boxed)
-    }
-}
-
-impl NextConjunctionTree {
-    /// An equal tree.
-    #[cycle(copy)]
-    pub fn copy(&self, alloc: Global) -> Result<NextConjunctionTree, AllocError>
-        ensures { IfOk result (λ t. t ≡ self.now) }
-    {
-        match &self.node {
-            NextConjunctionNode::Or(a, b) => {
-                let b = b.boxed(alloc)?;
-                let node = NextConjunctionNode::Or(*a, b);
-                Ok(NextConjunctionTree { node })
+                let a = copy_disjunction(alloc, a)?;
+                Ok(FormulaNode::Iff(a, *b, copy_disjunction(alloc, c)?))
             }
         }
     }
 }
 
-impl ConjunctionTree {
+/// An equal disjunction.
+#[cycle(copy)]
+pub fn copy_disjunction(
+    alloc: Global,
+    disjunction: &DisjunctionNode,
+) -> Result<DisjunctionNode, AllocError>
+    ensures { IfOk result (λ t. disjunction_of t ≡ disjunction_of disjunction.now) }
+{
+    let mut more = Vec::new(alloc);
+    for next in &disjunction.more {
+        let tree = next.tree.copy(alloc)?;
+        more.push(Next {
+            sign: next.sign,
+            tree,
+        })?;
+    }
+    let first = disjunction.first.copy(alloc)?;
+    Ok(Chain { first, more })
+}
+
+impl ConjunctionNode {
     /// An equal tree.
     #[cycle(copy)]
-    pub fn copy(&self, alloc: Global) -> Result<ConjunctionTree, AllocError>
-        ensures { IfOk result (λ t. t ≡ self.now) }
+    pub fn copy(&self, alloc: Global) -> Result<ConjunctionNode, AllocError>
+        ensures { IfOk result (λ t. conjunction_of t ≡ conjunction_of self.now) }
     {
-        match &self.node {
-            ConjunctionNode::Chain(a, b) => {
-                let a = a.boxed(alloc)?;
-                let b = b.copy(alloc)?;
-                let node = ConjunctionNode::Chain(a, b);
-                Ok(ConjunctionTree { node })
-            }
+        let mut more = Vec::new(alloc);
+        for next in &self.more {
+            let tree = next.tree.copy(alloc)?;
+            more.push(Next {
+                sign: next.sign,
+                tree,
+            })?;
         }
-    }
-
-    #[cycle(copy)]
-    fn boxed(&self, alloc: Global) -> Result<Box<ConjunctionTree>, AllocError>
-        ensures { IfOk result (λ b. b.value ≡ self.now) }
-    {
-        let copy = self.copy(alloc)?;
-        let boxed = Box::new(alloc, copy)?;
-        Ok(boxed)
+        let first = self.first.copy(alloc)?;
+        Ok(ConjunctionNode { first, more })
     }
 }
 
-impl NextUnitTree {
+impl UnitNode {
     /// An equal tree.
     #[cycle(copy)]
-    pub fn copy(&self, alloc: Global) -> Result<NextUnitTree, AllocError>
-        ensures { IfOk result (λ t. t ≡ self.now) }
+    #[tactic(auto, using(crate::proofs::Views::unit_rules))]
+    pub fn copy(&self, alloc: Global) -> Result<UnitNode, AllocError>
+        ensures { IfOk result (λ t. unit_of t ≡ unit_of self.now) }
     {
-        match &self.node {
-            NextUnitNode::And(a, b) => {
-                let b = b.boxed(alloc)?;
-                let node = NextUnitNode::And(*a, b);
-                Ok(NextUnitTree { node })
+        match self {
+            UnitNode::Not(a, b) => Ok(UnitNode::Not(*a, Box::new(alloc, b.copy(alloc)?)?)),
+            UnitNode::Contradiction(a) => Ok(UnitNode::Contradiction(*a)),
+            UnitNode::Thesis(a) => Ok(UnitNode::Thesis(*a)),
+            UnitNode::Quantified(a) => Ok(UnitNode::Quantified(Box::new(alloc, a.copy(alloc)?)?)),
+            UnitNode::Group(a, b, c) => {
+                let b = Box::new(alloc, b.copy(alloc)?)?;
+                Ok(UnitNode::Group(*a, b, *c))
             }
-        }
-    }
-}
-
-impl UnitTree {
-    fn of(node: UnitNode) -> UnitTree
-        ensures { result ≡ unit_view node }
-    {
-        UnitTree { node }
-    }
-
-    /// An equal tree.
-    #[cycle(copy)]
-    pub fn copy(&self, alloc: Global) -> Result<UnitTree, AllocError>
-        ensures { IfOk result (λ t. t ≡ self.now) }
-    {
-        match &self.node {
-            UnitNode::Not(a, b) => Ok(Self::of(UnitNode::Not(*a, b.boxed(alloc)?))),
-            UnitNode::Contradiction(a) => Ok(Self::of(UnitNode::Contradiction(*a))),
-            UnitNode::Thesis(a) => Ok(Self::of(UnitNode::Thesis(*a))),
-            UnitNode::Quantified(a) => Ok(Self::of(UnitNode::Quantified(a.boxed(alloc)?))),
-            UnitNode::Group(a, b, c) => Ok(Self::of(UnitNode::Group(*a, b.boxed(alloc)?, *c))),
-            UnitNode::Private(a, b, c) => Ok(Self::of(UnitNode::Private(a.copy(alloc)?, *b, *c))),
+            UnitNode::Private(a, b, c) => Ok(UnitNode::Private(a.copy(alloc)?, *b, *c)),
             UnitNode::PrivateWith(a, b, c, d) => {
                 let a = a.copy(alloc)?;
-                Ok(Self::of(UnitNode::PrivateWith(a, *b, c.boxed(alloc)?, *d)))
+                Ok(UnitNode::PrivateWith(a, *b, copy_terms(alloc, c)?, *d))
             }
-            UnitNode::Predicate(a) => Ok(Self::of(UnitNode::Predicate(a.copy(alloc)?))),
+            UnitNode::Predicate(a) => Ok(UnitNode::Predicate(a.copy(alloc)?)),
             UnitNode::PredicateRight(a, b) => {
                 let a = a.copy(alloc)?;
-                Ok(Self::of(UnitNode::PredicateRight(a, b.boxed(alloc)?)))
+                Ok(UnitNode::PredicateRight(a, copy_terms(alloc, b)?))
             }
             UnitNode::PredicateLeft(a, b) => {
-                let a = a.boxed(alloc)?;
-                Ok(Self::of(UnitNode::PredicateLeft(a, b.copy(alloc)?)))
+                let a = copy_terms(alloc, a)?;
+                Ok(UnitNode::PredicateLeft(a, b.copy(alloc)?))
             }
             UnitNode::PredicateBoth(a, b, c) => {
-                let a = a.boxed(alloc)?;
+                let a = copy_terms(alloc, a)?;
                 let b = b.copy(alloc)?;
-                Ok(Self::of(UnitNode::PredicateBoth(a, b, c.boxed(alloc)?)))
+                Ok(UnitNode::PredicateBoth(a, b, copy_terms(alloc, c)?))
             }
-            UnitNode::IsType(a, b, c) => {
-                let a = a.boxed(alloc)?;
-                Ok(Self::of(UnitNode::IsType(a, *b, c.boxed(alloc)?)))
-            }
+            UnitNode::IsType(a, b, c) => Ok(UnitNode::IsType(a.copy(alloc)?, *b, c.copy(alloc)?)),
             UnitNode::IsAdjectives(a, b, c, d) => {
-                let a = a.boxed(alloc)?;
-                let c = c.boxed(alloc)?;
-                Ok(Self::of(UnitNode::IsAdjectives(a, *b, c, d.copy(alloc)?)))
+                let a = a.copy(alloc)?;
+                let c = c.copy(alloc)?;
+                Ok(UnitNode::IsAdjectives(a, *b, c, copy_adjectives(alloc, d)?))
             }
         }
     }
-
-    #[cycle(copy)]
-    fn boxed(&self, alloc: Global) -> Result<Box<UnitTree>, AllocError>
-        ensures { IfOk result (λ b. b.value ≡ self.now) }
-    {
-        let copy = self.copy(alloc)?;
-        let boxed = Box::new(alloc, copy)?;
-        Ok(boxed)
-    }
 }
 
-impl QuantifiedTree {
-    fn of(node: QuantifiedNode) -> QuantifiedTree
-        ensures { result ≡ quantified_view node }
-    {
-        QuantifiedTree { node }
-    }
-
+impl QuantifiedNode {
     /// An equal tree.
     #[cycle(copy)]
-    pub fn copy(&self, alloc: Global) -> Result<QuantifiedTree, AllocError>
-        ensures { IfOk result (λ t. t ≡ self.now) }
+    #[tactic(auto, using(crate::proofs::Views::quantified_rules))]
+    pub fn copy(&self, alloc: Global) -> Result<QuantifiedNode, AllocError>
+        ensures { IfOk result (λ t. quantified_of t ≡ quantified_of self.now) }
     {
-        match &self.node {
-            QuantifiedNode::For(a, b, c, d, e) => {
-                let b = b.boxed(alloc)?;
-                let c = c.copy(alloc)?;
-                Ok(Self::of(QuantifiedNode::For(*a, b, c, *d, e.boxed(alloc)?)))
+        match self {
+            QuantifiedNode::For(a, b, c, d) => {
+                let b = copy_declarations(alloc, b)?;
+                let d = Box::new(alloc, d.copy(alloc)?)?;
+                Ok(QuantifiedNode::For(*a, b, *c, d))
             }
-            QuantifiedNode::ForSuch(a, b, c, d, e, f, g) => {
-                let b = b.boxed(alloc)?;
-                let c = c.copy(alloc)?;
-                let e = e.boxed(alloc)?;
-                let g = g.boxed(alloc)?;
-                Ok(Self::of(QuantifiedNode::ForSuch(*a, b, c, *d, e, *f, g)))
+            QuantifiedNode::ForSuch(a, b, c, d, e, f) => {
+                let b = copy_declarations(alloc, b)?;
+                let d = Box::new(alloc, d.copy(alloc)?)?;
+                let f = Box::new(alloc, f.copy(alloc)?)?;
+                Ok(QuantifiedNode::ForSuch(*a, b, *c, d, *e, f))
             }
-            QuantifiedNode::ForFurther(a, b, c, d) => {
-                let b = b.boxed(alloc)?;
-                let c = c.copy(alloc)?;
-                Ok(Self::of(QuantifiedNode::ForFurther(*a, b, c, d.boxed(alloc)?)))
+            QuantifiedNode::ForFurther(a, b, c) => {
+                let b = copy_declarations(alloc, b)?;
+                let c = Box::new(alloc, c.copy(alloc)?)?;
+                Ok(QuantifiedNode::ForFurther(*a, b, c))
             }
-            QuantifiedNode::ForSuchFurther(a, b, c, d, e, f) => {
-                let b = b.boxed(alloc)?;
-                let c = c.copy(alloc)?;
-                let e = e.boxed(alloc)?;
-                let f = f.boxed(alloc)?;
-                Ok(Self::of(QuantifiedNode::ForSuchFurther(*a, b, c, *d, e, f)))
+            QuantifiedNode::ForSuchFurther(a, b, c, d, e) => {
+                let b = copy_declarations(alloc, b)?;
+                let d = Box::new(alloc, d.copy(alloc)?)?;
+                let e = Box::new(alloc, e.copy(alloc)?)?;
+                Ok(QuantifiedNode::ForSuchFurther(*a, b, *c, d, e))
             }
-            QuantifiedNode::Exists(a, b, c, d, e) => {
-                let b = b.boxed(alloc)?;
-                let c = c.copy(alloc)?;
-                Ok(Self::of(QuantifiedNode::Exists(*a, b, c, *d, e.boxed(alloc)?)))
+            QuantifiedNode::Exists(a, b, c, d) => {
+                let b = copy_declarations(alloc, b)?;
+                let d = Box::new(alloc, d.copy(alloc)?)?;
+                Ok(QuantifiedNode::Exists(*a, b, *c, d))
             }
         }
-    }
-
-    #[cycle(copy)]
-    fn boxed(&self, alloc: Global) -> Result<Box<QuantifiedTree>, AllocError>
-        ensures { IfOk result (λ b. b.value ≡ self.now) }
-    {
-        let copy = self.copy(alloc)?;
-        let boxed = Box::new(alloc, copy)?;
-        Ok(boxed)
-    }
-}
-
-impl PieceTrees {
-    /// An equal list.
-    #[cycle(copy)]
-    pub fn copy(&self, alloc: Global) -> Result<PieceTrees, AllocError>
-        ensures { IfOk result (λ t. t ≡ self.now) }
-    {
-        let mut out = Vec::new(alloc);
-        for t in &self.items {
-            out.push(t.copy(alloc)?)?;
-        }
-        Ok(PieceTrees { items: out })
-    }
-}
-
-impl PrefixTrees {
-    /// An equal list.
-    #[cycle(copy)]
-    pub fn copy(&self, alloc: Global) -> Result<PrefixTrees, AllocError>
-        ensures { IfOk result (λ t. t ≡ self.now) }
-    {
-        let mut out = Vec::new(alloc);
-        for t in &self.items {
-            out.push(t.copy(alloc)?)?;
-        }
-        Ok(PrefixTrees { items: out })
-    }
-}
-
-impl BeforeTrees {
-    /// An equal list.
-    #[cycle(copy)]
-    pub fn copy(&self, alloc: Global) -> Result<BeforeTrees, AllocError>
-        ensures { IfOk result (λ t. t ≡ self.now) }
-    {
-        let mut out = Vec::new(alloc);
-        for t in &self.items {
-            out.push(t.copy(alloc)?)?;
-        }
-        Ok(BeforeTrees { items: out })
-    }
-}
-
-impl NextTermTrees {
-    /// An equal list.
-    #[cycle(copy)]
-    pub fn copy(&self, alloc: Global) -> Result<NextTermTrees, AllocError>
-        ensures { IfOk result (λ t. t ≡ self.now) }
-    {
-        let mut out = Vec::new(alloc);
-        for t in &self.items {
-            out.push(t.copy(alloc)?)?;
-        }
-        Ok(NextTermTrees { items: out })
-    }
-}
-
-impl AdjectiveTrees {
-    /// An equal list.
-    #[cycle(copy)]
-    pub fn copy(&self, alloc: Global) -> Result<AdjectiveTrees, AllocError>
-        ensures { IfOk result (λ t. t ≡ self.now) }
-    {
-        let mut out = Vec::new(alloc);
-        for t in &self.items {
-            out.push(t.copy(alloc)?)?;
-        }
-        Ok(AdjectiveTrees { items: out })
-    }
-}
-
-impl NextDeclaredTrees {
-    /// An equal list.
-    #[cycle(copy)]
-    pub fn copy(&self, alloc: Global) -> Result<NextDeclaredTrees, AllocError>
-        ensures { IfOk result (λ t. t ≡ self.now) }
-    {
-        let mut out = Vec::new(alloc);
-        for t in &self.items {
-            out.push(t.copy(alloc)?)?;
-        }
-        Ok(NextDeclaredTrees { items: out })
-    }
-}
-
-impl NextConjunctionTrees {
-    /// An equal list.
-    #[cycle(copy)]
-    pub fn copy(&self, alloc: Global) -> Result<NextConjunctionTrees, AllocError>
-        ensures { IfOk result (λ t. t ≡ self.now) }
-    {
-        let mut out = Vec::new(alloc);
-        for t in &self.items {
-            out.push(t.copy(alloc)?)?;
-        }
-        Ok(NextConjunctionTrees { items: out })
-    }
-}
-
-impl NextUnitTrees {
-    /// An equal list.
-    #[cycle(copy)]
-    pub fn copy(&self, alloc: Global) -> Result<NextUnitTrees, AllocError>
-        ensures { IfOk result (λ t. t ≡ self.now) }
-    {
-        let mut out = Vec::new(alloc);
-        for t in &self.items {
-            out.push(t.copy(alloc)?)?;
-        }
-        Ok(NextUnitTrees { items: out })
     }
 }

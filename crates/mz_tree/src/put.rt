@@ -36,6 +36,7 @@ fn put(
     Ok(())
 }
 
+/// A reserved word.
 pub fn put_reserved(
     alloc: Global,
     out: &mut Vec<MarkedToken>,
@@ -47,6 +48,7 @@ pub fn put_reserved(
     put(alloc, out, TokenKind::Reserved, place, word, Mark::NotComma)
 }
 
+/// A special symbol.
 pub fn put_special(
     alloc: Global,
     out: &mut Vec<MarkedToken>,
@@ -58,6 +60,7 @@ pub fn put_special(
     put(alloc, out, TokenKind::Special, place, word, Mark::NotComma)
 }
 
+/// An identifier.
 pub fn put_identifier(
     alloc: Global,
     out: &mut Vec<MarkedToken>,
@@ -75,6 +78,7 @@ pub fn put_identifier(
     )
 }
 
+/// A symbol of a kind, without a priority.
 pub fn put_symbol(
     alloc: Global,
     out: &mut Vec<MarkedToken>,
@@ -93,6 +97,7 @@ pub fn put_symbol(
     )
 }
 
+/// A functor symbol with its priority.
 pub fn put_functor(
     alloc: Global,
     out: &mut Vec<MarkedToken>,
@@ -115,6 +120,7 @@ pub fn put_functor(
     Ok(())
 }
 
+/// A symbol of a mode; the reserved word `set` serves as one.
 pub fn put_mode(alloc: Global, out: &mut Vec<MarkedToken>, word: &Word) -> Result<(), AllocError>
     ensures { IfOk result (λ _. out.new.items ≡ out.old.items ++ mode word.now ∷ []) }
 {
@@ -132,6 +138,7 @@ pub fn put_mode(alloc: Global, out: &mut Vec<MarkedToken>, word: &Word) -> Resul
     }
 }
 
+/// `$1` to `$10`.
 pub fn put_argument(
     alloc: Global,
     out: &mut Vec<MarkedToken>,
@@ -149,6 +156,7 @@ pub fn put_argument(
     }
 }
 
+/// A comma of a list.
 pub fn put_list_comma(
     alloc: Global,
     out: &mut Vec<MarkedToken>,
@@ -159,6 +167,7 @@ pub fn put_list_comma(
     put(alloc, out, TokenKind::Special, place, b",", Mark::List)
 }
 
+/// A comma of either mark.
 pub fn put_comma(alloc: Global, out: &mut Vec<MarkedToken>, comma: Comma) -> Result<(), AllocError>
     ensures { IfOk result (λ _. out.new.items ≡ out.old.items ++ comma_token comma ∷ []) }
 {
@@ -183,6 +192,7 @@ pub fn put_comma(alloc: Global, out: &mut Vec<MarkedToken>, comma: Comma) -> Res
     }
 }
 
+/// `be` or `being`.
 pub fn put_being(alloc: Global, out: &mut Vec<MarkedToken>, being: Being) -> Result<(), AllocError>
     ensures { IfOk result (λ _. out.new.items ≡ out.old.items ++ being_token being ∷ []) }
 {
@@ -193,6 +203,7 @@ pub fn put_being(alloc: Global, out: &mut Vec<MarkedToken>, being: Being) -> Res
     }
 }
 
+/// `non`, which may be left out.
 pub fn put_non(
     alloc: Global,
     out: &mut Vec<MarkedToken>,
@@ -206,7 +217,7 @@ pub fn put_non(
     }
 }
 
-/// A name with nothing between the brackets behind it.
+/// An identifier with nothing between the brackets behind it.
 pub fn put_empty(
     alloc: Global,
     out: &mut Vec<MarkedToken>,
@@ -266,6 +277,7 @@ pub fn put_reserved_if(
     }
 }
 
+/// A numeral.
 pub fn put_numeral(alloc: Global, out: &mut Vec<MarkedToken>, word: &Word) -> Result<(), AllocError>
     ensures { IfOk result (λ _. out.new.items ≡ out.old.items ++ numeral word.now ∷ []) }
 {

@@ -1,25 +1,20 @@
 //! The tokens of trees.
-ghost use Rattle.std.specs.Prelude.{◌≡◌, ◌++◌, ◌∷◌, [], IfOk, codes};
+ghost use Rattle.std.specs.Prelude.{◌≡◌, ◌++◌, ◌∷◌, [], IfOk, codes, map};
 ghost use Rattle.std.specs.List.{flat_map};
 ghost use Rattle.mz_base.specs.declared.symbol_kind.SymbolKind.TheVariants as symbols;
 ghost use Rattle.mz_tree.specs.Spelled.{reserved, special, symbol};
-ghost use Rattle.mz_tree.specs.Spell.{spell_term, spell_piece, spell_prefix, spell_before, spell_base, spell_terms, spell_next_term, spell_adjective, spell_type, spell_declared, spell_next_declared, spell_formula, spell_disjunction, spell_next_conjunction, spell_conjunction, spell_next_unit, spell_unit, spell_quantified};
+ghost use Rattle.mz_tree.specs.Spell.{spell_term, spell_piece, spell_prefix_list, spell_prefix, spell_before, spell_base, spell_terms, spell_adjective, spell_type, spell_declared, spell_next_declared, spell_formula, spell_disjunction, spell_conjunction, spell_unit, spell_quantified};
+ghost use Rattle.mz_tree.specs.Views.{term_of, piece_of, operand_of, prefix_of, before_of, base_of, terms_of, adjective_of, type_of, declared_of, next_declared_of, formula_of, disjunction_of, conjunction_of, unit_of, quantified_of};
 
-use crate::lists::{
-    AdjectiveTrees, BeforeTrees, NextConjunctionTrees, NextDeclaredTrees, NextTermTrees,
-    NextUnitTrees, PieceTrees, PrefixTrees,
+use crate::chain::Before;
+use crate::nodes::{
+    AdjectiveNode, BaseNode, ConjunctionNode, DeclarationsNode, DeclaredNode, DisjunctionNode,
+    FormulaNode, OperandNode, PieceNode, PrefixNode, QuantifiedNode, TermNode, TermsNode, TypeNode,
+    UnitNode,
 };
 use crate::put::{
     put_argument, put_being, put_bound, put_comma, put_empty, put_functor, put_identifier,
     put_list_comma, put_mode, put_non, put_reserved, put_selector, put_special, put_symbol,
-};
-use crate::trees::{
-    AdjectiveNode, AdjectiveTree, BaseNode, BaseTree, BeforeNode, BeforeTree, ConjunctionNode,
-    ConjunctionTree, DeclaredNode, DeclaredTree, DisjunctionNode, DisjunctionTree, FormulaNode,
-    FormulaTree, NextConjunctionNode, NextConjunctionTree, NextDeclaredNode, NextDeclaredTree,
-    NextTermNode, NextTermTree, NextUnitNode, NextUnitTree, PieceNode, PieceTree, PrefixNode,
-    PrefixTree, QuantifiedNode, QuantifiedTree, TermNode, TermTree, TermsNode, TermsTree, TypeNode,
-    TypeTree, UnitNode, UnitTree,
 };
 use crate::word::Word;
 use mz_base::place::Place;
@@ -27,19 +22,18 @@ use mz_base::symbol_kind::SymbolKind;
 use mz_marks::marked_token::MarkedToken;
 use std::alloc::{AllocError, Global};
 
-impl TermTree {
+impl TermNode {
     /// Adds its tokens.
     #[cycle(spell)]
     #[tactic(auto, using(crate::proofs::SpellLemmas::spell_rules))]
     pub fn spell(&self, alloc: Global, out: &mut Vec<MarkedToken>) -> Result<(), AllocError>
-        ensures { IfOk result (λ _. out.new.items ≡ out.old.items ++ spell_term self.now) }
+        ensures { IfOk result (λ _. out.new.items ≡ out.old.items ++ spell_term (term_of self.now)) }
     {
-        match &self.node {
-            TermNode::Run(a, b) => {
-                a.spell(alloc, out)?;
-                b.spell(alloc, out)
-            }
+        self.first.spell(alloc, out)?;
+        for piece in &self.more {
+            piece.spell(alloc, out)?;
         }
+        Ok(())
     }
 
     /// Adds its tokens and the `is` behind them.
@@ -51,100 +45,110 @@ impl TermTree {
         out: &mut Vec<MarkedToken>,
         is: Place,
     ) -> Result<(), AllocError>
-        ensures { IfOk result (λ _. out.new.items ≡ out.old.items ++ spell_term self.now ++ reserved is (codes "is") ∷ []) }
+        ensures { IfOk result (λ _. out.new.items ≡ out.old.items ++ spell_term (term_of self.now) ++ reserved is (codes "is") ∷ []) }
     {
         self.spell(alloc, out)?;
         put_reserved(alloc, out, is, b"is")
     }
 }
 
-impl PieceTree {
+impl PieceNode {
     /// Adds its tokens.
     #[cycle(spell)]
-    #[tactic(auto, using(crate::proofs::SpellLemmas::spell_rules))]
+    #[tactic(auto, using(crate::proofs::SpellLemmas::spell_rules, crate::proofs::Views::piece_rules))]
     pub fn spell(&self, alloc: Global, out: &mut Vec<MarkedToken>) -> Result<(), AllocError>
-        ensures { IfOk result (λ _. out.new.items ≡ out.old.items ++ spell_piece self.now) }
+        ensures { IfOk result (λ _. out.new.items ≡ out.old.items ++ spell_piece (piece_of self.now)) }
     {
-        match &self.node {
-            PieceNode::Functor(a, b) => { put_functor(alloc, out, a, *b) }
-            PieceNode::Operand(a, b) => {
-                a.spell(alloc, out)?;
-                b.spell(alloc, out)
-            }
+        match self {
+            PieceNode::Functor(a, b) => put_functor(alloc, out, a, *b),
+            PieceNode::Operand(a) => a.spell(alloc, out),
         }
     }
 }
 
-impl PrefixTree {
+impl OperandNode {
     /// Adds its tokens.
     #[cycle(spell)]
     #[tactic(auto, using(crate::proofs::SpellLemmas::spell_rules))]
     pub fn spell(&self, alloc: Global, out: &mut Vec<MarkedToken>) -> Result<(), AllocError>
-        ensures { IfOk result (λ _. out.new.items ≡ out.old.items ++ spell_prefix self.now) }
+        ensures { IfOk result (λ _. out.new.items ≡ out.old.items ++ spell_prefix_list (operand_of self.now).prefixes ++ spell_base (operand_of self.now).base) }
     {
-        match &self.node {
+        for prefix in &self.prefixes {
+            prefix.spell(alloc, out)?;
+        }
+        self.base.spell(alloc, out)
+    }
+}
+
+#[cycle(spell)]
+#[tactic(auto, using(crate::proofs::SpellLemmas::spell_rules))]
+fn spell_befores(
+    alloc: Global,
+    out: &mut Vec<MarkedToken>,
+    befores: &[Before<OperandNode>],
+) -> Result<(), AllocError>
+    ensures { IfOk result (λ _. out.new.items ≡ out.old.items ++ flat_map spell_before (map before_of befores.now)) }
+{
+    for before in befores {
+        before.tree.spell(alloc, out)?;
+        put_list_comma(alloc, out, before.comma)?;
+    }
+    Ok(())
+}
+
+impl PrefixNode {
+    /// Adds its tokens.
+    #[cycle(spell)]
+    #[tactic(auto, using(crate::proofs::SpellLemmas::spell_rules, crate::proofs::Views::prefix_rules))]
+    pub fn spell(&self, alloc: Global, out: &mut Vec<MarkedToken>) -> Result<(), AllocError>
+        ensures { IfOk result (λ _. out.new.items ≡ out.old.items ++ spell_prefix (prefix_of self.now)) }
+    {
+        match self {
             PrefixNode::Selector(a, b, c) => {
                 put_selector(alloc, out, *a, b)?;
                 put_reserved(alloc, out, *c, b"of")
             }
             PrefixNode::ChoiceOf(a, b, c, d, e) => {
-                b.spell_after_the(alloc, out, *a)?;
+                spell_after_the(alloc, out, *a, b)?;
                 put_mode(alloc, out, c)?;
                 put_reserved(alloc, out, *d, b"of")?;
-                e.spell(alloc, out)
+                spell_befores(alloc, out, e)
             }
             PrefixNode::ChoiceOver(a, b, c, d, e) => {
-                b.spell_after_the(alloc, out, *a)?;
+                spell_after_the(alloc, out, *a, b)?;
                 put_symbol(alloc, out, SymbolKind::Structure, c)?;
                 put_reserved(alloc, out, *d, b"over")?;
-                e.spell(alloc, out)
+                spell_befores(alloc, out, e)
             }
         }
     }
 }
 
-impl BeforeTree {
+impl BaseNode {
     /// Adds its tokens.
     #[cycle(spell)]
-    #[tactic(auto, using(crate::proofs::SpellLemmas::spell_rules))]
+    #[tactic(auto, using(crate::proofs::SpellLemmas::spell_rules, crate::proofs::Views::base_rules))]
     pub fn spell(&self, alloc: Global, out: &mut Vec<MarkedToken>) -> Result<(), AllocError>
-        ensures { IfOk result (λ _. out.new.items ≡ out.old.items ++ spell_before self.now) }
+        ensures { IfOk result (λ _. out.new.items ≡ out.old.items ++ spell_base (base_of self.now)) }
     {
-        match &self.node {
-            BeforeNode::Operand(a, b, c) => {
-                a.spell(alloc, out)?;
-                b.spell(alloc, out)?;
-                put_list_comma(alloc, out, *c)
-            }
-        }
-    }
-}
-
-impl BaseTree {
-    /// Adds its tokens.
-    #[cycle(spell)]
-    #[tactic(auto, using(crate::proofs::SpellLemmas::spell_rules))]
-    pub fn spell(&self, alloc: Global, out: &mut Vec<MarkedToken>) -> Result<(), AllocError>
-        ensures { IfOk result (λ _. out.new.items ≡ out.old.items ++ spell_base self.now) }
-    {
-        match &self.node {
+        match self {
             BaseNode::Identifier(a) => put_identifier(alloc, out, a),
             BaseNode::Subject(a) => put_reserved(alloc, out, *a, b"it"),
             BaseNode::Argument(a, b) => put_argument(alloc, out, *a, *b),
-            BaseNode::Group(a, b, c) => b.spell_between(alloc, out, *a, b"(", *c, b")"),
+            BaseNode::Group(a, b, c) => spell_between(alloc, out, *a, b"(", b, *c, b")"),
             BaseNode::Call(a, b, c) => put_empty(alloc, out, a, *b, b"(", *c, b")"),
             BaseNode::CallWith(a, b, c, d) => {
                 put_identifier(alloc, out, a)?;
-                c.spell_between(alloc, out, *b, b"(", *d, b")")
+                spell_between(alloc, out, *b, b"(", c, *d, b")")
             }
             BaseNode::Selector(a, b) => put_selector(alloc, out, *a, b),
             BaseNode::Aggregate(a, b, c, d) => {
                 put_symbol(alloc, out, SymbolKind::Structure, a)?;
-                c.spell_between(alloc, out, *b, b"(#", *d, b"#)")
+                spell_between(alloc, out, *b, b"(#", c, *d, b"#)")
             }
-            BaseNode::Brackets(a, b, c) => b.spell_bracketed(alloc, out, a, c),
-            BaseNode::Braces(a, b, c) => b.spell_between(alloc, out, *a, b"{", *c, b"}"),
-            BaseNode::Squares(a, b, c) => b.spell_between(alloc, out, *a, b"[", *c, b"]"),
+            BaseNode::Brackets(a, b, c) => spell_bracketed(alloc, out, a, b, c),
+            BaseNode::Braces(a, b, c) => spell_between(alloc, out, *a, b"{", b, *c, b"}"),
+            BaseNode::Squares(a, b, c) => spell_between(alloc, out, *a, b"[", b, *c, b"]"),
             BaseNode::SetOf(a, b, c, d, e, f, g, h, i) => {
                 put_special(alloc, out, *a, b"{")?;
                 b.spell(alloc, out)?;
@@ -153,108 +157,94 @@ impl BaseTree {
                 h.spell_between(alloc, out, *g, b":", *i, b"}")
             }
             BaseNode::Choice(a, b, c) => {
-                b.spell_after_the(alloc, out, *a)?;
+                spell_after_the(alloc, out, *a, b)?;
                 put_mode(alloc, out, c)
             }
             BaseNode::ChoiceStructure(a, b, c) => {
-                b.spell_after_the(alloc, out, *a)?;
+                spell_after_the(alloc, out, *a, b)?;
                 put_symbol(alloc, out, SymbolKind::Structure, c)
             }
         }
     }
 }
 
-impl TermsTree {
-    /// Adds its tokens.
-    #[cycle(spell)]
-    #[tactic(auto, using(crate::proofs::SpellLemmas::spell_rules))]
-    pub fn spell(&self, alloc: Global, out: &mut Vec<MarkedToken>) -> Result<(), AllocError>
-        ensures { IfOk result (λ _. out.new.items ≡ out.old.items ++ spell_terms self.now) }
-    {
-        match &self.node {
-            TermsNode::List(a, b) => {
-                a.spell(alloc, out)?;
-                b.spell(alloc, out)
-            }
-        }
+/// Adds the tokens of terms.
+#[cycle(spell)]
+#[tactic(auto, using(crate::proofs::SpellLemmas::spell_rules))]
+pub fn spell_terms_of(
+    alloc: Global,
+    out: &mut Vec<MarkedToken>,
+    terms: &TermsNode,
+) -> Result<(), AllocError>
+    ensures { IfOk result (λ _. out.new.items ≡ out.old.items ++ spell_terms (terms_of terms.now)) }
+{
+    terms.first.spell(alloc, out)?;
+    for next in &terms.more {
+        put_list_comma(alloc, out, next.sign)?;
+        next.tree.spell(alloc, out)?;
     }
-
-    /// Adds its tokens between two special symbols.
-    #[cycle(spell)]
-    #[tactic(auto, using(crate::proofs::SpellLemmas::spell_rules))]
-    fn spell_between(
-        &self,
-        alloc: Global,
-        out: &mut Vec<MarkedToken>,
-        left: Place,
-        left_sign: &[u8],
-        right: Place,
-        right_sign: &[u8],
-    ) -> Result<(), AllocError>
-        ensures { IfOk result (λ _. out.new.items ≡ out.old.items ++ special left left_sign.now ∷ spell_terms self.now ++ special right right_sign.now ∷ []) }
-    {
-        put_special(alloc, out, left, left_sign)?;
-        self.spell(alloc, out)?;
-        put_special(alloc, out, right, right_sign)
-    }
-
-    /// Adds their tokens between two symbols of brackets.
-    #[cycle(spell)]
-    #[tactic(auto, using(crate::proofs::SpellLemmas::spell_rules))]
-    fn spell_bracketed(
-        &self,
-        alloc: Global,
-        out: &mut Vec<MarkedToken>,
-        left: &Word,
-        right: &Word,
-    ) -> Result<(), AllocError>
-        ensures { IfOk result (λ _. out.new.items ≡ out.old.items ++ symbol symbols.LeftBracket left.now ∷ spell_terms self.now ++ symbol symbols.RightBracket right.now ∷ []) }
-    {
-        put_symbol(alloc, out, SymbolKind::LeftBracket, left)?;
-        self.spell(alloc, out)?;
-        put_symbol(alloc, out, SymbolKind::RightBracket, right)
-    }
-
-    /// Adds their tokens and the predicate symbol behind them.
-    #[cycle(spell)]
-    #[tactic(auto, using(crate::proofs::SpellLemmas::spell_rules))]
-    fn spell_left(
-        &self,
-        alloc: Global,
-        out: &mut Vec<MarkedToken>,
-        predicate: &Word,
-    ) -> Result<(), AllocError>
-        ensures { IfOk result (λ _. out.new.items ≡ out.old.items ++ spell_terms self.now ++ symbol symbols.Predicate predicate.now ∷ []) }
-    {
-        self.spell(alloc, out)?;
-        put_symbol(alloc, out, SymbolKind::Predicate, predicate)
-    }
+    Ok(())
 }
 
-impl NextTermTree {
-    /// Adds its tokens.
-    #[cycle(spell)]
-    #[tactic(auto, using(crate::proofs::SpellLemmas::spell_rules))]
-    pub fn spell(&self, alloc: Global, out: &mut Vec<MarkedToken>) -> Result<(), AllocError>
-        ensures { IfOk result (λ _. out.new.items ≡ out.old.items ++ spell_next_term self.now) }
-    {
-        match &self.node {
-            NextTermNode::Next(a, b) => {
-                put_list_comma(alloc, out, *a)?;
-                b.spell(alloc, out)
-            }
-        }
-    }
+/// Adds the tokens of terms between two special symbols.
+#[cycle(spell)]
+#[tactic(auto, using(crate::proofs::SpellLemmas::spell_rules))]
+fn spell_between(
+    alloc: Global,
+    out: &mut Vec<MarkedToken>,
+    left: Place,
+    left_sign: &[u8],
+    terms: &TermsNode,
+    right: Place,
+    right_sign: &[u8],
+) -> Result<(), AllocError>
+    ensures { IfOk result (λ _. out.new.items ≡ out.old.items ++ special left left_sign.now ∷ spell_terms (terms_of terms.now) ++ special right right_sign.now ∷ []) }
+{
+    put_special(alloc, out, left, left_sign)?;
+    spell_terms_of(alloc, out, terms)?;
+    put_special(alloc, out, right, right_sign)
 }
 
-impl AdjectiveTree {
+/// Adds the tokens of terms between two symbols of brackets.
+#[cycle(spell)]
+#[tactic(auto, using(crate::proofs::SpellLemmas::spell_rules))]
+fn spell_bracketed(
+    alloc: Global,
+    out: &mut Vec<MarkedToken>,
+    left: &Word,
+    terms: &TermsNode,
+    right: &Word,
+) -> Result<(), AllocError>
+    ensures { IfOk result (λ _. out.new.items ≡ out.old.items ++ symbol symbols.LeftBracket left.now ∷ spell_terms (terms_of terms.now) ++ symbol symbols.RightBracket right.now ∷ []) }
+{
+    put_symbol(alloc, out, SymbolKind::LeftBracket, left)?;
+    spell_terms_of(alloc, out, terms)?;
+    put_symbol(alloc, out, SymbolKind::RightBracket, right)
+}
+
+/// Adds the tokens of terms and the predicate symbol behind them.
+#[cycle(spell)]
+#[tactic(auto, using(crate::proofs::SpellLemmas::spell_rules))]
+fn spell_left(
+    alloc: Global,
+    out: &mut Vec<MarkedToken>,
+    terms: &TermsNode,
+    predicate: &Word,
+) -> Result<(), AllocError>
+    ensures { IfOk result (λ _. out.new.items ≡ out.old.items ++ spell_terms (terms_of terms.now) ++ symbol symbols.Predicate predicate.now ∷ []) }
+{
+    spell_terms_of(alloc, out, terms)?;
+    put_symbol(alloc, out, SymbolKind::Predicate, predicate)
+}
+
+impl AdjectiveNode {
     /// Adds its tokens.
     #[cycle(spell)]
-    #[tactic(auto, using(crate::proofs::SpellLemmas::spell_rules))]
+    #[tactic(auto, using(crate::proofs::SpellLemmas::spell_rules, crate::proofs::Views::adjective_rules))]
     pub fn spell(&self, alloc: Global, out: &mut Vec<MarkedToken>) -> Result<(), AllocError>
-        ensures { IfOk result (λ _. out.new.items ≡ out.old.items ++ spell_adjective self.now) }
+        ensures { IfOk result (λ _. out.new.items ≡ out.old.items ++ spell_adjective (adjective_of self.now)) }
     {
-        match &self.node {
+        match self {
             AdjectiveNode::Plain(a, b) => {
                 put_non(alloc, out, *a)?;
                 put_symbol(alloc, out, SymbolKind::Attribute, b)
@@ -266,54 +256,85 @@ impl AdjectiveTree {
             }
             AdjectiveNode::WithTerms(a, b, c, d, e) => {
                 put_non(alloc, out, *a)?;
-                c.spell_between(alloc, out, *b, b"(", *d, b")")?;
+                spell_between(alloc, out, *b, b"(", c, *d, b")")?;
                 put_symbol(alloc, out, SymbolKind::Attribute, e)
             }
         }
     }
 }
 
-impl TypeTree {
+/// Adds the tokens of adjectives.
+#[cycle(spell)]
+#[tactic(auto, using(crate::proofs::SpellLemmas::spell_rules))]
+pub fn spell_adjectives_of(
+    alloc: Global,
+    out: &mut Vec<MarkedToken>,
+    adjectives: &[AdjectiveNode],
+) -> Result<(), AllocError>
+    ensures { IfOk result (λ _. out.new.items ≡ out.old.items ++ flat_map spell_adjective (map adjective_of adjectives.now)) }
+{
+    for adjective in adjectives {
+        adjective.spell(alloc, out)?;
+    }
+    Ok(())
+}
+
+/// Adds `the` and the tokens of adjectives.
+#[cycle(spell)]
+#[tactic(auto, using(crate::proofs::SpellLemmas::spell_rules))]
+fn spell_after_the(
+    alloc: Global,
+    out: &mut Vec<MarkedToken>,
+    the: Place,
+    adjectives: &[AdjectiveNode],
+) -> Result<(), AllocError>
+    ensures { IfOk result (λ _. out.new.items ≡ out.old.items ++ reserved the (codes "the") ∷ flat_map spell_adjective (map adjective_of adjectives.now)) }
+{
+    put_reserved(alloc, out, the, b"the")?;
+    spell_adjectives_of(alloc, out, adjectives)
+}
+
+impl TypeNode {
     /// Adds its tokens.
     #[cycle(spell)]
-    #[tactic(auto, using(crate::proofs::SpellLemmas::spell_rules))]
+    #[tactic(auto, using(crate::proofs::SpellLemmas::spell_rules, crate::proofs::Views::type_rules))]
     pub fn spell(&self, alloc: Global, out: &mut Vec<MarkedToken>) -> Result<(), AllocError>
-        ensures { IfOk result (λ _. out.new.items ≡ out.old.items ++ spell_type self.now) }
+        ensures { IfOk result (λ _. out.new.items ≡ out.old.items ++ spell_type (type_of self.now)) }
     {
-        match &self.node {
+        match self {
             TypeNode::Mode(a, b) => {
-                a.spell(alloc, out)?;
+                spell_adjectives_of(alloc, out, a)?;
                 put_mode(alloc, out, b)
             }
             TypeNode::ModeOf(a, b, c, d) => {
-                a.spell(alloc, out)?;
+                spell_adjectives_of(alloc, out, a)?;
                 put_mode(alloc, out, b)?;
                 put_reserved(alloc, out, *c, b"of")?;
-                d.spell(alloc, out)
+                spell_terms_of(alloc, out, d)
             }
             TypeNode::Structure(a, b) => {
-                a.spell(alloc, out)?;
+                spell_adjectives_of(alloc, out, a)?;
                 put_symbol(alloc, out, SymbolKind::Structure, b)
             }
             TypeNode::StructureOver(a, b, c, d) => {
-                a.spell(alloc, out)?;
+                spell_adjectives_of(alloc, out, a)?;
                 put_symbol(alloc, out, SymbolKind::Structure, b)?;
                 put_reserved(alloc, out, *c, b"over")?;
-                d.spell(alloc, out)
+                spell_terms_of(alloc, out, d)
             }
         }
     }
 }
 
-impl DeclaredTree {
+impl DeclaredNode {
     /// Adds its tokens.
     #[cycle(spell)]
-    #[tactic(auto, using(crate::proofs::SpellLemmas::spell_rules))]
+    #[tactic(auto, using(crate::proofs::SpellLemmas::spell_rules, crate::proofs::Views::declared_rules))]
     pub fn spell(&self, alloc: Global, out: &mut Vec<MarkedToken>) -> Result<(), AllocError>
-        ensures { IfOk result (λ _. out.new.items ≡ out.old.items ++ spell_declared self.now) }
+        ensures { IfOk result (λ _. out.new.items ≡ out.old.items ++ spell_declared (declared_of self.now)) }
     {
-        match &self.node {
-            DeclaredNode::Plain(a) => { put_identifier(alloc, out, a) }
+        match self {
+            DeclaredNode::Plain(a) => put_identifier(alloc, out, a),
             DeclaredNode::Typed(a, b, c) => {
                 put_identifier(alloc, out, a)?;
                 put_being(alloc, out, *b)?;
@@ -321,58 +342,44 @@ impl DeclaredTree {
             }
         }
     }
-
-    /// Adds a reserved word and its tokens.
-    #[cycle(spell)]
-    #[tactic(auto, using(crate::proofs::SpellLemmas::spell_rules))]
-    fn spell_after(
-        &self,
-        alloc: Global,
-        out: &mut Vec<MarkedToken>,
-        place: Place,
-        word: &[u8],
-    ) -> Result<(), AllocError>
-        ensures { IfOk result (λ _. out.new.items ≡ out.old.items ++ reserved place word.now ∷ spell_declared self.now) }
-    {
-        put_reserved(alloc, out, place, word)?;
-        self.spell(alloc, out)
-    }
 }
 
-impl NextDeclaredTree {
-    /// Adds its tokens.
-    #[cycle(spell)]
-    #[tactic(auto, using(crate::proofs::SpellLemmas::spell_rules))]
-    pub fn spell(&self, alloc: Global, out: &mut Vec<MarkedToken>) -> Result<(), AllocError>
-        ensures { IfOk result (λ _. out.new.items ≡ out.old.items ++ spell_next_declared self.now) }
-    {
-        match &self.node {
-            NextDeclaredNode::Next(a, b) => {
-                put_comma(alloc, out, *a)?;
-                b.spell(alloc, out)
-            }
-        }
+/// Adds the tokens of declared identifiers.
+#[cycle(spell)]
+#[tactic(auto, using(crate::proofs::SpellLemmas::spell_rules))]
+pub fn spell_declarations_of(
+    alloc: Global,
+    out: &mut Vec<MarkedToken>,
+    declarations: &DeclarationsNode,
+) -> Result<(), AllocError>
+    ensures { IfOk result (λ _. out.new.items ≡ out.old.items ++ spell_declared (declared_of declarations.now.first) ++ flat_map spell_next_declared (map next_declared_of declarations.now.more.items)) }
+{
+    declarations.first.spell(alloc, out)?;
+    for next in &declarations.more {
+        put_comma(alloc, out, next.sign)?;
+        next.tree.spell(alloc, out)?;
     }
+    Ok(())
 }
 
-impl FormulaTree {
+impl FormulaNode {
     /// Adds its tokens.
     #[cycle(spell)]
-    #[tactic(auto, using(crate::proofs::SpellLemmas::spell_rules))]
+    #[tactic(auto, using(crate::proofs::SpellLemmas::spell_rules, crate::proofs::Views::formula_rules))]
     pub fn spell(&self, alloc: Global, out: &mut Vec<MarkedToken>) -> Result<(), AllocError>
-        ensures { IfOk result (λ _. out.new.items ≡ out.old.items ++ spell_formula self.now) }
+        ensures { IfOk result (λ _. out.new.items ≡ out.old.items ++ spell_formula (formula_of self.now)) }
     {
-        match &self.node {
-            FormulaNode::Plain(a) => { a.spell(alloc, out) }
+        match self {
+            FormulaNode::Plain(a) => spell_disjunction_of(alloc, out, a),
             FormulaNode::Implies(a, b, c) => {
-                a.spell(alloc, out)?;
+                spell_disjunction_of(alloc, out, a)?;
                 put_reserved(alloc, out, *b, b"implies")?;
-                c.spell(alloc, out)
+                spell_disjunction_of(alloc, out, c)
             }
             FormulaNode::Iff(a, b, c) => {
-                a.spell(alloc, out)?;
+                spell_disjunction_of(alloc, out, a)?;
                 put_reserved(alloc, out, *b, b"iff")?;
-                c.spell(alloc, out)
+                spell_disjunction_of(alloc, out, c)
             }
         }
     }
@@ -389,102 +396,56 @@ impl FormulaTree {
         right: Place,
         right_sign: &[u8],
     ) -> Result<(), AllocError>
-        ensures { IfOk result (λ _. out.new.items ≡ out.old.items ++ special left left_sign.now ∷ spell_formula self.now ++ special right right_sign.now ∷ []) }
+        ensures { IfOk result (λ _. out.new.items ≡ out.old.items ++ special left left_sign.now ∷ spell_formula (formula_of self.now) ++ special right right_sign.now ∷ []) }
     {
         put_special(alloc, out, left, left_sign)?;
         self.spell(alloc, out)?;
         put_special(alloc, out, right, right_sign)
     }
-
-    /// Adds a reserved word and its tokens.
-    #[cycle(spell)]
-    #[tactic(auto, using(crate::proofs::SpellLemmas::spell_rules))]
-    fn spell_after(
-        &self,
-        alloc: Global,
-        out: &mut Vec<MarkedToken>,
-        place: Place,
-        word: &[u8],
-    ) -> Result<(), AllocError>
-        ensures { IfOk result (λ _. out.new.items ≡ out.old.items ++ reserved place word.now ∷ spell_formula self.now) }
-    {
-        put_reserved(alloc, out, place, word)?;
-        self.spell(alloc, out)
-    }
 }
 
-impl DisjunctionTree {
+/// Adds the tokens of a disjunction.
+#[cycle(spell)]
+#[tactic(auto, using(crate::proofs::SpellLemmas::spell_rules))]
+pub fn spell_disjunction_of(
+    alloc: Global,
+    out: &mut Vec<MarkedToken>,
+    disjunction: &DisjunctionNode,
+) -> Result<(), AllocError>
+    ensures { IfOk result (λ _. out.new.items ≡ out.old.items ++ spell_disjunction (disjunction_of disjunction.now)) }
+{
+    disjunction.first.spell(alloc, out)?;
+    for next in &disjunction.more {
+        put_reserved(alloc, out, next.sign, b"or")?;
+        next.tree.spell(alloc, out)?;
+    }
+    Ok(())
+}
+
+impl ConjunctionNode {
     /// Adds its tokens.
     #[cycle(spell)]
     #[tactic(auto, using(crate::proofs::SpellLemmas::spell_rules))]
     pub fn spell(&self, alloc: Global, out: &mut Vec<MarkedToken>) -> Result<(), AllocError>
-        ensures { IfOk result (λ _. out.new.items ≡ out.old.items ++ spell_disjunction self.now) }
+        ensures { IfOk result (λ _. out.new.items ≡ out.old.items ++ spell_conjunction (conjunction_of self.now)) }
     {
-        match &self.node {
-            DisjunctionNode::Chain(a, b) => {
-                a.spell(alloc, out)?;
-                b.spell(alloc, out)
-            }
+        self.first.spell(alloc, out)?;
+        for next in &self.more {
+            put_special(alloc, out, next.sign, b"&")?;
+            next.tree.spell(alloc, out)?;
         }
+        Ok(())
     }
 }
 
-impl NextConjunctionTree {
+impl UnitNode {
     /// Adds its tokens.
     #[cycle(spell)]
-    #[tactic(auto, using(crate::proofs::SpellLemmas::spell_rules))]
+    #[tactic(auto, using(crate::proofs::SpellLemmas::spell_rules, crate::proofs::Views::unit_rules))]
     pub fn spell(&self, alloc: Global, out: &mut Vec<MarkedToken>) -> Result<(), AllocError>
-        ensures { IfOk result (λ _. out.new.items ≡ out.old.items ++ spell_next_conjunction self.now) }
+        ensures { IfOk result (λ _. out.new.items ≡ out.old.items ++ spell_unit (unit_of self.now)) }
     {
-        match &self.node {
-            NextConjunctionNode::Or(a, b) => {
-                put_reserved(alloc, out, *a, b"or")?;
-                b.spell(alloc, out)
-            }
-        }
-    }
-}
-
-impl ConjunctionTree {
-    /// Adds its tokens.
-    #[cycle(spell)]
-    #[tactic(auto, using(crate::proofs::SpellLemmas::spell_rules))]
-    pub fn spell(&self, alloc: Global, out: &mut Vec<MarkedToken>) -> Result<(), AllocError>
-        ensures { IfOk result (λ _. out.new.items ≡ out.old.items ++ spell_conjunction self.now) }
-    {
-        match &self.node {
-            ConjunctionNode::Chain(a, b) => {
-                a.spell(alloc, out)?;
-                b.spell(alloc, out)
-            }
-        }
-    }
-}
-
-impl NextUnitTree {
-    /// Adds its tokens.
-    #[cycle(spell)]
-    #[tactic(auto, using(crate::proofs::SpellLemmas::spell_rules))]
-    pub fn spell(&self, alloc: Global, out: &mut Vec<MarkedToken>) -> Result<(), AllocError>
-        ensures { IfOk result (λ _. out.new.items ≡ out.old.items ++ spell_next_unit self.now) }
-    {
-        match &self.node {
-            NextUnitNode::And(a, b) => {
-                put_special(alloc, out, *a, b"&")?;
-                b.spell(alloc, out)
-            }
-        }
-    }
-}
-
-impl UnitTree {
-    /// Adds its tokens.
-    #[cycle(spell)]
-    #[tactic(auto, using(crate::proofs::SpellLemmas::spell_rules))]
-    pub fn spell(&self, alloc: Global, out: &mut Vec<MarkedToken>) -> Result<(), AllocError>
-        ensures { IfOk result (λ _. out.new.items ≡ out.old.items ++ spell_unit self.now) }
-    {
-        match &self.node {
+        match self {
             UnitNode::Not(a, b) => {
                 put_reserved(alloc, out, *a, b"not")?;
                 b.spell(alloc, out)
@@ -496,17 +457,17 @@ impl UnitTree {
             UnitNode::Private(a, b, c) => put_empty(alloc, out, a, *b, b"[", *c, b"]"),
             UnitNode::PrivateWith(a, b, c, d) => {
                 put_identifier(alloc, out, a)?;
-                c.spell_between(alloc, out, *b, b"[", *d, b"]")
+                spell_between(alloc, out, *b, b"[", c, *d, b"]")
             }
             UnitNode::Predicate(a) => put_symbol(alloc, out, SymbolKind::Predicate, a),
             UnitNode::PredicateRight(a, b) => {
                 put_symbol(alloc, out, SymbolKind::Predicate, a)?;
-                b.spell(alloc, out)
+                spell_terms_of(alloc, out, b)
             }
-            UnitNode::PredicateLeft(a, b) => a.spell_left(alloc, out, b),
+            UnitNode::PredicateLeft(a, b) => spell_left(alloc, out, a, b),
             UnitNode::PredicateBoth(a, b, c) => {
-                a.spell_left(alloc, out, b)?;
-                c.spell(alloc, out)
+                spell_left(alloc, out, a, b)?;
+                spell_terms_of(alloc, out, c)
             }
             UnitNode::IsType(a, b, c) => {
                 a.spell_subject(alloc, out, *b)?;
@@ -515,174 +476,52 @@ impl UnitTree {
             UnitNode::IsAdjectives(a, b, c, d) => {
                 a.spell_subject(alloc, out, *b)?;
                 c.spell(alloc, out)?;
-                d.spell(alloc, out)
+                spell_adjectives_of(alloc, out, d)
             }
         }
     }
 }
 
-impl QuantifiedTree {
+impl QuantifiedNode {
     /// Adds its tokens.
     #[cycle(spell)]
-    #[tactic(auto, using(crate::proofs::SpellLemmas::spell_rules))]
+    #[tactic(auto, using(crate::proofs::SpellLemmas::spell_rules, crate::proofs::Views::quantified_rules))]
     pub fn spell(&self, alloc: Global, out: &mut Vec<MarkedToken>) -> Result<(), AllocError>
-        ensures { IfOk result (λ _. out.new.items ≡ out.old.items ++ spell_quantified self.now) }
+        ensures { IfOk result (λ _. out.new.items ≡ out.old.items ++ spell_quantified (quantified_of self.now)) }
     {
-        match &self.node {
-            QuantifiedNode::For(a, b, c, d, e) => {
-                b.spell_after(alloc, out, *a, b"for")?;
-                c.spell(alloc, out)?;
-                e.spell_after(alloc, out, *d, b"holds")
-            }
-            QuantifiedNode::ForSuch(a, b, c, d, e, f, g) => {
-                b.spell_after(alloc, out, *a, b"for")?;
-                c.spell(alloc, out)?;
-                e.spell_after(alloc, out, *d, b"st")?;
-                g.spell_after(alloc, out, *f, b"holds")
-            }
-            QuantifiedNode::ForFurther(a, b, c, d) => {
-                b.spell_after(alloc, out, *a, b"for")?;
-                c.spell(alloc, out)?;
+        match self {
+            QuantifiedNode::For(a, b, c, d) => {
+                put_reserved(alloc, out, *a, b"for")?;
+                spell_declarations_of(alloc, out, b)?;
+                put_reserved(alloc, out, *c, b"holds")?;
                 d.spell(alloc, out)
             }
-            QuantifiedNode::ForSuchFurther(a, b, c, d, e, f) => {
-                b.spell_after(alloc, out, *a, b"for")?;
-                c.spell(alloc, out)?;
-                e.spell_after(alloc, out, *d, b"st")?;
+            QuantifiedNode::ForSuch(a, b, c, d, e, f) => {
+                put_reserved(alloc, out, *a, b"for")?;
+                spell_declarations_of(alloc, out, b)?;
+                put_reserved(alloc, out, *c, b"st")?;
+                d.spell(alloc, out)?;
+                put_reserved(alloc, out, *e, b"holds")?;
                 f.spell(alloc, out)
             }
-            QuantifiedNode::Exists(a, b, c, d, e) => {
-                b.spell_after(alloc, out, *a, b"ex")?;
-                c.spell(alloc, out)?;
-                e.spell_after(alloc, out, *d, b"st")
+            QuantifiedNode::ForFurther(a, b, c) => {
+                put_reserved(alloc, out, *a, b"for")?;
+                spell_declarations_of(alloc, out, b)?;
+                c.spell(alloc, out)
+            }
+            QuantifiedNode::ForSuchFurther(a, b, c, d, e) => {
+                put_reserved(alloc, out, *a, b"for")?;
+                spell_declarations_of(alloc, out, b)?;
+                put_reserved(alloc, out, *c, b"st")?;
+                d.spell(alloc, out)?;
+                e.spell(alloc, out)
+            }
+            QuantifiedNode::Exists(a, b, c, d) => {
+                put_reserved(alloc, out, *a, b"ex")?;
+                spell_declarations_of(alloc, out, b)?;
+                put_reserved(alloc, out, *c, b"st")?;
+                d.spell(alloc, out)
             }
         }
-    }
-}
-
-impl PieceTrees {
-    /// Adds their tokens.
-    #[cycle(spell)]
-    #[tactic(auto, using(crate::proofs::SpellLemmas::spell_rules))]
-    pub fn spell(&self, alloc: Global, out: &mut Vec<MarkedToken>) -> Result<(), AllocError>
-        ensures { IfOk result (λ _. out.new.items ≡ out.old.items ++ flat_map spell_piece self.now) }
-    {
-        for t in &self.items {
-            t.spell(alloc, out)?;
-        }
-        Ok(())
-    }
-}
-
-impl PrefixTrees {
-    /// Adds their tokens.
-    #[cycle(spell)]
-    #[tactic(auto, using(crate::proofs::SpellLemmas::spell_rules))]
-    pub fn spell(&self, alloc: Global, out: &mut Vec<MarkedToken>) -> Result<(), AllocError>
-        ensures { IfOk result (λ _. out.new.items ≡ out.old.items ++ flat_map spell_prefix self.now) }
-    {
-        for t in &self.items {
-            t.spell(alloc, out)?;
-        }
-        Ok(())
-    }
-}
-
-impl BeforeTrees {
-    /// Adds their tokens.
-    #[cycle(spell)]
-    #[tactic(auto, using(crate::proofs::SpellLemmas::spell_rules))]
-    pub fn spell(&self, alloc: Global, out: &mut Vec<MarkedToken>) -> Result<(), AllocError>
-        ensures { IfOk result (λ _. out.new.items ≡ out.old.items ++ flat_map spell_before self.now) }
-    {
-        for t in &self.items {
-            t.spell(alloc, out)?;
-        }
-        Ok(())
-    }
-}
-
-impl NextTermTrees {
-    /// Adds their tokens.
-    #[cycle(spell)]
-    #[tactic(auto, using(crate::proofs::SpellLemmas::spell_rules))]
-    pub fn spell(&self, alloc: Global, out: &mut Vec<MarkedToken>) -> Result<(), AllocError>
-        ensures { IfOk result (λ _. out.new.items ≡ out.old.items ++ flat_map spell_next_term self.now) }
-    {
-        for t in &self.items {
-            t.spell(alloc, out)?;
-        }
-        Ok(())
-    }
-}
-
-impl AdjectiveTrees {
-    /// Adds their tokens.
-    #[cycle(spell)]
-    #[tactic(auto, using(crate::proofs::SpellLemmas::spell_rules))]
-    pub fn spell(&self, alloc: Global, out: &mut Vec<MarkedToken>) -> Result<(), AllocError>
-        ensures { IfOk result (λ _. out.new.items ≡ out.old.items ++ flat_map spell_adjective self.now) }
-    {
-        for t in &self.items {
-            t.spell(alloc, out)?;
-        }
-        Ok(())
-    }
-
-    /// Adds `the` and their tokens.
-    #[cycle(spell)]
-    #[tactic(auto, using(crate::proofs::SpellLemmas::spell_rules))]
-    fn spell_after_the(
-        &self,
-        alloc: Global,
-        out: &mut Vec<MarkedToken>,
-        the: Place,
-    ) -> Result<(), AllocError>
-        ensures { IfOk result (λ _. out.new.items ≡ out.old.items ++ reserved the (codes "the") ∷ flat_map spell_adjective self.now) }
-    {
-        put_reserved(alloc, out, the, b"the")?;
-        self.spell(alloc, out)
-    }
-}
-
-impl NextDeclaredTrees {
-    /// Adds their tokens.
-    #[cycle(spell)]
-    #[tactic(auto, using(crate::proofs::SpellLemmas::spell_rules))]
-    pub fn spell(&self, alloc: Global, out: &mut Vec<MarkedToken>) -> Result<(), AllocError>
-        ensures { IfOk result (λ _. out.new.items ≡ out.old.items ++ flat_map spell_next_declared self.now) }
-    {
-        for t in &self.items {
-            t.spell(alloc, out)?;
-        }
-        Ok(())
-    }
-}
-
-impl NextConjunctionTrees {
-    /// Adds their tokens.
-    #[cycle(spell)]
-    #[tactic(auto, using(crate::proofs::SpellLemmas::spell_rules))]
-    pub fn spell(&self, alloc: Global, out: &mut Vec<MarkedToken>) -> Result<(), AllocError>
-        ensures { IfOk result (λ _. out.new.items ≡ out.old.items ++ flat_map spell_next_conjunction self.now) }
-    {
-        for t in &self.items {
-            t.spell(alloc, out)?;
-        }
-        Ok(())
-    }
-}
-
-impl NextUnitTrees {
-    /// Adds their tokens.
-    #[cycle(spell)]
-    #[tactic(auto, using(crate::proofs::SpellLemmas::spell_rules))]
-    pub fn spell(&self, alloc: Global, out: &mut Vec<MarkedToken>) -> Result<(), AllocError>
-        ensures { IfOk result (λ _. out.new.items ≡ out.old.items ++ flat_map spell_next_unit self.now) }
-    {
-        for t in &self.items {
-            t.spell(alloc, out)?;
-        }
-        Ok(())
     }
 }

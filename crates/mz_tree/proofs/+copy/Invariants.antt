@@ -1,26 +1,27 @@
-use Rattle.std.proofs.Common.{◌≡◌, take}
+use Rattle.std.proofs.Common.{◌≡◌, map, take}
+use Rattle.mz_tree.specs.Views.{piece_of, prefix_of, before_of, next_term_of, adjective_of, next_declared_of, next_conjunction_of, next_unit_of}
 use Rattle.mz_tree.proofs.+copy.Given as goal
 
-abbrev pub invariant-lists::PieceTrees::copy-loop-t : goal.invariant-lists::PieceTrees::copy-loop-t
-invariant-lists::PieceTrees::copy-loop-t l = l.out.items ≡ take l.t-index l.t-items
+abbrev pub invariant-nodes::TermNode::copy-loop-piece : goal.invariant-nodes::TermNode::copy-loop-piece
+invariant-nodes::TermNode::copy-loop-piece l = map piece_of l.more.items ≡ map piece_of (take l.piece-index l.piece-items)
 
-abbrev pub invariant-lists::PrefixTrees::copy-loop-t : goal.invariant-lists::PrefixTrees::copy-loop-t
-invariant-lists::PrefixTrees::copy-loop-t l = l.out.items ≡ take l.t-index l.t-items
+abbrev pub invariant-nodes::OperandNode::copy-loop-prefix : goal.invariant-nodes::OperandNode::copy-loop-prefix
+invariant-nodes::OperandNode::copy-loop-prefix l = map prefix_of l.prefixes.items ≡ map prefix_of (take l.prefix-index l.prefix-items)
 
-abbrev pub invariant-lists::BeforeTrees::copy-loop-t : goal.invariant-lists::BeforeTrees::copy-loop-t
-invariant-lists::BeforeTrees::copy-loop-t l = l.out.items ≡ take l.t-index l.t-items
+abbrev pub invariant-copies::copy_befores-loop-before : goal.invariant-copies::copy_befores-loop-before
+invariant-copies::copy_befores-loop-before l = map before_of l.out.items ≡ map before_of (take l.before-index l.befores)
 
-abbrev pub invariant-lists::NextTermTrees::copy-loop-t : goal.invariant-lists::NextTermTrees::copy-loop-t
-invariant-lists::NextTermTrees::copy-loop-t l = l.out.items ≡ take l.t-index l.t-items
+abbrev pub invariant-copies::copy_terms-loop-next : goal.invariant-copies::copy_terms-loop-next
+invariant-copies::copy_terms-loop-next l = map next_term_of l.more.items ≡ map next_term_of (take l.next-index l.next-items)
 
-abbrev pub invariant-lists::AdjectiveTrees::copy-loop-t : goal.invariant-lists::AdjectiveTrees::copy-loop-t
-invariant-lists::AdjectiveTrees::copy-loop-t l = l.out.items ≡ take l.t-index l.t-items
+abbrev pub invariant-copies::copy_adjectives-loop-adjective : goal.invariant-copies::copy_adjectives-loop-adjective
+invariant-copies::copy_adjectives-loop-adjective l = map adjective_of l.out.items ≡ map adjective_of (take l.adjective-index l.adjectives)
 
-abbrev pub invariant-lists::NextDeclaredTrees::copy-loop-t : goal.invariant-lists::NextDeclaredTrees::copy-loop-t
-invariant-lists::NextDeclaredTrees::copy-loop-t l = l.out.items ≡ take l.t-index l.t-items
+abbrev pub invariant-copies::copy_declarations-loop-next : goal.invariant-copies::copy_declarations-loop-next
+invariant-copies::copy_declarations-loop-next l = map next_declared_of l.more.items ≡ map next_declared_of (take l.next-index l.next-items)
 
-abbrev pub invariant-lists::NextConjunctionTrees::copy-loop-t : goal.invariant-lists::NextConjunctionTrees::copy-loop-t
-invariant-lists::NextConjunctionTrees::copy-loop-t l = l.out.items ≡ take l.t-index l.t-items
+abbrev pub invariant-copies::copy_disjunction-loop-next : goal.invariant-copies::copy_disjunction-loop-next
+invariant-copies::copy_disjunction-loop-next l = map next_conjunction_of l.more.items ≡ map next_conjunction_of (take l.next-index l.next-items)
 
-abbrev pub invariant-lists::NextUnitTrees::copy-loop-t : goal.invariant-lists::NextUnitTrees::copy-loop-t
-invariant-lists::NextUnitTrees::copy-loop-t l = l.out.items ≡ take l.t-index l.t-items
+abbrev pub invariant-nodes::ConjunctionNode::copy-loop-next : goal.invariant-nodes::ConjunctionNode::copy-loop-next
+invariant-nodes::ConjunctionNode::copy-loop-next l = map next_unit_of l.more.items ≡ map next_unit_of (take l.next-index l.next-items)

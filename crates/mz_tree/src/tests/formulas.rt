@@ -1,15 +1,14 @@
 //! Formulas.
 use crate::being::Being;
+use crate::chain::{Chain, Next};
 use crate::comma::Comma;
-use crate::lists::{NextConjunctionTrees, NextDeclaredTrees, NextUnitTrees};
+use crate::nodes::{
+    ConjunctionNode, DeclarationsNode, DeclaredNode, DisjunctionNode, FormulaNode, QuantifiedNode,
+    UnitNode,
+};
 use crate::tests::samples::{
     adjective, adjectives, conjunction_of, disjunction_of, formula, formula_of, set_type, term,
-    terms, unit, word, words,
-};
-use crate::trees::{
-    ConjunctionNode, ConjunctionTree, DeclaredNode, DeclaredTree, DisjunctionNode, DisjunctionTree,
-    FormulaNode, FormulaTree, NextConjunctionNode, NextConjunctionTree, NextDeclaredNode,
-    NextDeclaredTree, NextUnitNode, NextUnitTree, QuantifiedNode, QuantifiedTree, UnitNode,
+    terms, word, words,
 };
 use mz_base::place::Place;
 use mz_base::text::Text;
@@ -17,88 +16,86 @@ use std::alloc::{AllocError, Global};
 use std::test::Fail;
 
 /// `thesis & thesis`
-fn conjunction(alloc: Global) -> Result<Box<ConjunctionTree>, AllocError> {
-    let node = NextUnitNode::And(Place::start(), unit(alloc)?);
-    let mut items = Vec::new(alloc);
-    items.push(NextUnitTree { node })?;
-    let node = ConjunctionNode::Chain(unit(alloc)?, NextUnitTrees { items });
-    Ok(Box::new(alloc, ConjunctionTree { node })?)
+fn conjunction(alloc: Global) -> Result<ConjunctionNode, AllocError> {
+    let at = Place::start();
+    let mut more = Vec::new(alloc);
+    more.push(Next {
+        sign: at,
+        tree: UnitNode::Thesis(at),
+    })?;
+    let first = UnitNode::Thesis(at);
+    Ok(ConjunctionNode { first, more })
 }
 
 /// `contradiction or thesis & thesis`
-fn chains(alloc: Global) -> Result<Box<DisjunctionTree>, AllocError> {
+fn chains(alloc: Global) -> Result<DisjunctionNode, AllocError> {
     let at = Place::start();
-    let node = NextConjunctionNode::Or(at, conjunction(alloc)?);
-    let mut items = Vec::new(alloc);
-    items.push(NextConjunctionTree { node })?;
-    let first = conjunction_of(alloc, UnitNode::Contradiction(at))?;
-    let node = DisjunctionNode::Chain(first, NextConjunctionTrees { items });
-    Ok(Box::new(alloc, DisjunctionTree { node })?)
+    let mut more = Vec::new(alloc);
+    more.push(Next {
+        sign: at,
+        tree: conjunction(alloc)?,
+    })?;
+    let first = conjunction_of(alloc, UnitNode::Contradiction(at));
+    Ok(Chain { first, more })
 }
 
-fn declared(alloc: Global, node: DeclaredNode) -> Result<Box<DeclaredTree>, AllocError> {
-    Ok(Box::new(alloc, DeclaredTree { node })?)
-}
-
-fn plain(alloc: Global) -> Result<Box<DeclaredTree>, AllocError> {
-    declared(alloc, DeclaredNode::Plain(word(alloc, b"x")?))
-}
-
-fn typed(alloc: Global, long: bool) -> Result<Box<DeclaredTree>, AllocError> {
+fn typed(alloc: Global, long: bool) -> Result<DeclaredNode, AllocError> {
     let place = Place::start();
     let name = word(alloc, b"y")?;
-    declared(
-        alloc,
-        DeclaredNode::Typed(name, Being { place, long }, set_type(alloc)?),
-    )
+    Ok(DeclaredNode::Typed(name, Being { place, long }, set_type(alloc)?))
 }
 
-/// `, y be set`
-fn more(alloc: Global, dividing: bool) -> Result<NextDeclaredTrees, AllocError> {
+/// `x ,! y be set`
+fn declarations(alloc: Global) -> Result<DeclarationsNode, AllocError> {
     let place = Place::start();
-    let node = NextDeclaredNode::Next(Comma { place, dividing }, typed(alloc, false)?);
-    let mut items = Vec::new(alloc);
-    items.push(NextDeclaredTree { node })?;
-    Ok(NextDeclaredTrees { items })
+    let mut more = Vec::new(alloc);
+    more.push(Next {
+        sign: Comma {
+            place,
+            dividing: true,
+        },
+        tree: typed(alloc, false)?,
+    })?;
+    let first = DeclaredNode::Plain(word(alloc, b"x")?);
+    Ok(Chain { first, more })
 }
 
 /// `ex y being set st thesis`
-fn exists(alloc: Global) -> Result<Box<QuantifiedTree>, AllocError> {
+fn exists(alloc: Global) -> Result<Box<QuantifiedNode>, AllocError> {
     let at = Place::start();
     let first = typed(alloc, true)?;
-    let items = Vec::new(alloc);
-    let rest = NextDeclaredTrees { items };
-    let node = QuantifiedNode::Exists(at, first, rest, at, formula(alloc)?);
-    Ok(Box::new(alloc, QuantifiedTree { node })?)
+    let more = Vec::new(alloc);
+    let such = formula(alloc)?;
+    let tree = QuantifiedNode::Exists(at, Chain { first, more }, at, such);
+    Ok(Box::new(alloc, tree)?)
 }
 
-/// A quantifier over `x , y be set`.
-fn quantified_node(alloc: Global, row: usize) -> Result<QuantifiedNode, AllocError> {
+/// A quantifier over `x ,! y be set`.
+fn quantified_tree(alloc: Global, row: usize) -> Result<QuantifiedNode, AllocError> {
     let at = Place::start();
-    let first = plain(alloc)?;
-    let rest = more(alloc, row == 0)?;
+    let names = declarations(alloc)?;
     match row {
-        0 => Ok(QuantifiedNode::For(at, first, rest, at, formula(alloc)?)),
-        1 => Ok(QuantifiedNode::ForFurther(at, first, rest, exists(alloc)?)),
+        0 => Ok(QuantifiedNode::For(at, names, at, formula(alloc)?)),
+        1 => Ok(QuantifiedNode::ForFurther(at, names, exists(alloc)?)),
         _ => {
             let such = formula(alloc)?;
             if row == 2 {
-                Ok(QuantifiedNode::ForSuch(at, first, rest, at, such, at, formula(alloc)?))
+                Ok(QuantifiedNode::ForSuch(at, names, at, such, at, formula(alloc)?))
             } else {
-                Ok(QuantifiedNode::ForSuchFurther(at, first, rest, at, such, exists(alloc)?))
+                Ok(QuantifiedNode::ForSuchFurther(at, names, at, such, exists(alloc)?))
             }
         }
     }
 }
 
 fn quantified(alloc: Global, row: usize) -> Result<UnitNode, AllocError> {
-    let node = quantified_node(alloc, row)?;
-    Ok(UnitNode::Quantified(Box::new(alloc, QuantifiedTree { node })?))
+    let tree = quantified_tree(alloc, row)?;
+    Ok(UnitNode::Quantified(Box::new(alloc, tree)?))
 }
 
 fn is_adjectives(alloc: Global) -> Result<UnitNode, AllocError> {
     let term = term(alloc)?;
-    let first = Box::new(alloc, adjective(alloc)?)?;
+    let first = adjective(alloc)?;
     Ok(UnitNode::IsAdjectives(term, Place::start(), first, adjectives(alloc)?))
 }
 
@@ -108,11 +105,11 @@ fn both(alloc: Global) -> Result<UnitNode, AllocError> {
     Ok(UnitNode::PredicateBoth(left, predicate, terms(alloc)?))
 }
 
-fn unit_node(alloc: Global, row: usize) -> Result<UnitNode, AllocError> {
+fn unit_row(alloc: Global, row: usize) -> Result<UnitNode, AllocError> {
     let at = Place::start();
     match row {
         4 => Ok(UnitNode::Quantified(exists(alloc)?)),
-        5 => Ok(UnitNode::Not(at, unit(alloc)?)),
+        5 => Ok(UnitNode::Not(at, Box::new(alloc, UnitNode::Thesis(at))?)),
         6 => Ok(UnitNode::Group(at, formula(alloc)?, at)),
         7 => Ok(UnitNode::Private(word(alloc, b"P")?, at, at)),
         8 => Ok(UnitNode::PrivateWith(word(alloc, b"P")?, at, terms(alloc)?, at)),
@@ -126,22 +123,17 @@ fn unit_node(alloc: Global, row: usize) -> Result<UnitNode, AllocError> {
     }
 }
 
-fn formula_node(alloc: Global, row: usize) -> Result<FormulaNode, AllocError> {
+fn formula_row(alloc: Global, row: usize) -> Result<FormulaNode, AllocError> {
     let at = Place::start();
+    if row < 15 {
+        return Ok(formula_of(alloc, unit_row(alloc, row)?));
+    }
     let first = chains(alloc)?;
     match row {
         15 => Ok(FormulaNode::Plain(first)),
-        16 => Ok(FormulaNode::Implies(first, at, disjunction_of(alloc, UnitNode::Thesis(at))?)),
-        _ => Ok(FormulaNode::Iff(first, at, disjunction_of(alloc, UnitNode::Thesis(at))?)),
+        16 => Ok(FormulaNode::Implies(first, at, disjunction_of(alloc, UnitNode::Thesis(at)))),
+        _ => Ok(FormulaNode::Iff(first, at, disjunction_of(alloc, UnitNode::Thesis(at)))),
     }
-}
-
-fn formula_row(alloc: Global, row: usize) -> Result<FormulaTree, AllocError> {
-    if row < 15 {
-        return formula_of(alloc, unit_node(alloc, row)?);
-    }
-    let node = formula_node(alloc, row)?;
-    Ok(FormulaTree { node })
 }
 
 fn formula_words(alloc: Global, row: usize) -> Result<Text, AllocError> {
@@ -155,9 +147,9 @@ fn formula_words(alloc: Global, row: usize) -> Result<Text, AllocError> {
 fn spellings_of_formulas(rt: HostRuntime) -> Result<(), Fail> {
     let rows: [&[u8]; 18] = [
         b" for x ,! y be set holds thesis",
-        b" for x , y be set ex y being set st thesis",
-        b" for x , y be set st thesis holds thesis",
-        b" for x , y be set st thesis ex y being set st thesis",
+        b" for x ,! y be set ex y being set st thesis",
+        b" for x ,! y be set st thesis holds thesis",
+        b" for x ,! y be set st thesis ex y being set st thesis",
         b" ex y being set st thesis",
         b" not thesis",
         b" ( thesis )",

@@ -1,12 +1,8 @@
 //! Small trees that the rows of the tables are made of.
-use crate::lists::{
-    AdjectiveTrees, NextConjunctionTrees, NextTermTrees, NextUnitTrees, PieceTrees, PrefixTrees,
-};
-use crate::trees::{
-    AdjectiveNode, AdjectiveTree, BaseNode, BaseTree, ConjunctionNode, ConjunctionTree,
-    DisjunctionNode, DisjunctionTree, FormulaNode, FormulaTree, NextTermNode, NextTermTree,
-    PieceNode, PieceTree, TermNode, TermTree, TermsNode, TermsTree, TypeNode, TypeTree, UnitNode,
-    UnitTree,
+use crate::chain::{Chain, Next};
+use crate::nodes::{
+    AdjectiveNode, BaseNode, ConjunctionNode, DisjunctionNode, FormulaNode, OperandNode, PieceNode,
+    PrefixNode, TermNode, TermsNode, TypeNode, UnitNode,
 };
 use crate::word::Word;
 use mz_base::place::Place;
@@ -28,6 +24,7 @@ pub fn words(alloc: Global, tokens: &[MarkedToken]) -> Result<Text, AllocError> 
     Ok(text)
 }
 
+/// A word at the start of a text.
 pub fn word(alloc: Global, spelling: &[u8]) -> Result<Word, AllocError> {
     let spelling = Text::from_slice(alloc, spelling)?;
     Ok(Word {
@@ -36,96 +33,89 @@ pub fn word(alloc: Global, spelling: &[u8]) -> Result<Word, AllocError> {
     })
 }
 
-pub fn no_prefixes(alloc: Global) -> PrefixTrees {
-    let items = Vec::new(alloc);
-    PrefixTrees { items }
+/// `x`
+pub fn base(alloc: Global) -> Result<BaseNode, AllocError> {
+    Ok(BaseNode::Identifier(word(alloc, b"x")?))
 }
 
-/// `x`
-pub fn base(alloc: Global) -> Result<Box<BaseTree>, AllocError> {
-    let node = BaseNode::Identifier(word(alloc, b"x")?);
-    Ok(Box::new(alloc, BaseTree { node })?)
+/// An operand as a piece of a term.
+pub fn operand_of(
+    alloc: Global,
+    prefixes: Vec<PrefixNode>,
+    base: BaseNode,
+) -> Result<PieceNode, AllocError> {
+    Ok(PieceNode::Operand(Box::new(alloc, OperandNode { prefixes, base })?))
 }
 
 /// A term of one piece.
-pub fn term_of(alloc: Global, node: PieceNode) -> Result<TermTree, AllocError> {
-    let piece = Box::new(alloc, PieceTree { node })?;
-    let items = Vec::new(alloc);
-    let node = TermNode::Run(piece, PieceTrees { items });
-    Ok(TermTree { node })
+pub fn term_of(alloc: Global, first: PieceNode) -> TermNode {
+    let more = Vec::new(alloc);
+    TermNode { first, more }
 }
 
 /// `x`
-pub fn term(alloc: Global) -> Result<Box<TermTree>, AllocError> {
-    let term = term_of(alloc, PieceNode::Operand(no_prefixes(alloc), base(alloc)?))?;
-    Ok(Box::new(alloc, term)?)
-}
-
-fn next_terms(alloc: Global) -> Result<NextTermTrees, AllocError> {
-    let node = NextTermNode::Next(Place::start(), term(alloc)?);
-    let mut items = Vec::new(alloc);
-    items.push(NextTermTree { node })?;
-    Ok(NextTermTrees { items })
+pub fn term(alloc: Global) -> Result<TermNode, AllocError> {
+    let piece = operand_of(alloc, Vec::new(alloc), base(alloc)?)?;
+    Ok(term_of(alloc, piece))
 }
 
 /// `x , x`
-pub fn terms(alloc: Global) -> Result<Box<TermsTree>, AllocError> {
-    let node = TermsNode::List(term(alloc)?, next_terms(alloc)?);
-    Ok(Box::new(alloc, TermsTree { node })?)
+pub fn terms(alloc: Global) -> Result<TermsNode, AllocError> {
+    let sign = Place::start();
+    let mut more = Vec::new(alloc);
+    more.push(Next {
+        sign,
+        tree: term(alloc)?,
+    })?;
+    let first = term(alloc)?;
+    Ok(Chain { first, more })
 }
 
 /// `V`
-pub fn adjective(alloc: Global) -> Result<AdjectiveTree, AllocError> {
-    let node = AdjectiveNode::Plain(None, word(alloc, b"V")?);
-    Ok(AdjectiveTree { node })
+pub fn adjective(alloc: Global) -> Result<AdjectiveNode, AllocError> {
+    Ok(AdjectiveNode::Plain(None, word(alloc, b"V")?))
 }
 
-pub fn adjectives_of(alloc: Global, first: AdjectiveTree) -> Result<AdjectiveTrees, AllocError> {
-    let mut items = Vec::new(alloc);
-    items.push(first)?;
-    Ok(AdjectiveTrees { items })
+/// One adjective.
+pub fn adjectives_of(
+    alloc: Global,
+    first: AdjectiveNode,
+) -> Result<Vec<AdjectiveNode>, AllocError> {
+    let mut adjectives = Vec::new(alloc);
+    adjectives.push(first)?;
+    Ok(adjectives)
 }
 
 /// `V`
-pub fn adjectives(alloc: Global) -> Result<AdjectiveTrees, AllocError> {
+pub fn adjectives(alloc: Global) -> Result<Vec<AdjectiveNode>, AllocError> {
     adjectives_of(alloc, adjective(alloc)?)
 }
 
 /// `set`
-pub fn set_type(alloc: Global) -> Result<Box<TypeTree>, AllocError> {
-    let items = Vec::new(alloc);
-    let node = TypeNode::Mode(AdjectiveTrees { items }, word(alloc, b"set")?);
-    Ok(Box::new(alloc, TypeTree { node })?)
+pub fn set_type(alloc: Global) -> Result<TypeNode, AllocError> {
+    Ok(TypeNode::Mode(Vec::new(alloc), word(alloc, b"set")?))
 }
 
-/// `thesis`
-pub fn unit(alloc: Global) -> Result<Box<UnitTree>, AllocError> {
-    let node = UnitNode::Thesis(Place::start());
-    Ok(Box::new(alloc, UnitTree { node })?)
+/// A conjunction of one unit.
+pub fn conjunction_of(alloc: Global, first: UnitNode) -> ConjunctionNode {
+    let more = Vec::new(alloc);
+    ConjunctionNode { first, more }
 }
 
-pub fn conjunction_of(alloc: Global, node: UnitNode) -> Result<Box<ConjunctionTree>, AllocError> {
-    let first = Box::new(alloc, UnitTree { node })?;
-    let items = Vec::new(alloc);
-    let node = ConjunctionNode::Chain(first, NextUnitTrees { items });
-    Ok(Box::new(alloc, ConjunctionTree { node })?)
-}
-
-pub fn disjunction_of(alloc: Global, node: UnitNode) -> Result<Box<DisjunctionTree>, AllocError> {
-    let first = conjunction_of(alloc, node)?;
-    let items = Vec::new(alloc);
-    let node = DisjunctionNode::Chain(first, NextConjunctionTrees { items });
-    Ok(Box::new(alloc, DisjunctionTree { node })?)
+/// A disjunction of one unit.
+pub fn disjunction_of(alloc: Global, unit: UnitNode) -> DisjunctionNode {
+    let first = conjunction_of(alloc, unit);
+    let more = Vec::new(alloc);
+    Chain { first, more }
 }
 
 /// A formula of one unit.
-pub fn formula_of(alloc: Global, node: UnitNode) -> Result<FormulaTree, AllocError> {
-    let node = FormulaNode::Plain(disjunction_of(alloc, node)?);
-    Ok(FormulaTree { node })
+pub fn formula_of(alloc: Global, unit: UnitNode) -> FormulaNode {
+    FormulaNode::Plain(disjunction_of(alloc, unit))
 }
 
 /// `thesis`
-pub fn formula(alloc: Global) -> Result<Box<FormulaTree>, AllocError> {
-    let formula = formula_of(alloc, UnitNode::Thesis(Place::start()))?;
+pub fn formula(alloc: Global) -> Result<Box<FormulaNode>, AllocError> {
+    let formula = formula_of(alloc, UnitNode::Thesis(Place::start()));
     Ok(Box::new(alloc, formula)?)
 }

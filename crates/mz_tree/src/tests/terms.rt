@@ -1,11 +1,8 @@
 //! Terms.
-use crate::lists::{BeforeTrees, PieceTrees, PrefixTrees};
+use crate::chain::Before;
+use crate::nodes::{BaseNode, OperandNode, PieceNode, PrefixNode, TermNode};
 use crate::tests::samples::{
-    adjectives, base, formula, no_prefixes, set_type, term, term_of, terms, word, words,
-};
-use crate::trees::{
-    BaseNode, BaseTree, BeforeNode, BeforeTree, PieceNode, PieceTree, PrefixNode, PrefixTree,
-    TermNode, TermTree,
+    adjectives, base, formula, operand_of, set_type, term, term_of, terms, word, words,
 };
 use mz_base::place::Place;
 use mz_base::text::Text;
@@ -13,38 +10,36 @@ use std::alloc::{AllocError, Global};
 use std::test::Fail;
 
 /// `x`, and `+` so many times
-fn run(alloc: Global, count: usize) -> Result<TermTree, AllocError> {
-    let mut items = Vec::new(alloc);
+fn run(alloc: Global, count: usize) -> Result<TermNode, AllocError> {
+    let mut more = Vec::new(alloc);
     for _ in 0..count {
-        let node = PieceNode::Functor(word(alloc, b"+")?, 64);
-        items.push(PieceTree { node })?;
+        more.push(PieceNode::Functor(word(alloc, b"+")?, 64))?;
     }
-    let node = PieceNode::Operand(no_prefixes(alloc), base(alloc)?);
-    let first = Box::new(alloc, PieceTree { node })?;
-    let node = TermNode::Run(first, PieceTrees { items });
-    Ok(TermTree { node })
+    let first = operand_of(alloc, Vec::new(alloc), base(alloc)?)?;
+    Ok(TermNode { first, more })
 }
 
 /// `the U of` so many times, and `x`
-fn selections(alloc: Global, count: usize) -> Result<TermTree, AllocError> {
+fn selections(alloc: Global, count: usize) -> Result<TermNode, AllocError> {
     let at = Place::start();
-    let mut items = Vec::new(alloc);
+    let mut prefixes = Vec::new(alloc);
     for _ in 0..count {
-        let node = PrefixNode::Selector(at, word(alloc, b"U")?, at);
-        items.push(PrefixTree { node })?;
+        prefixes.push(PrefixNode::Selector(at, word(alloc, b"U")?, at))?;
     }
-    term_of(
-        alloc,
-        PieceNode::Operand(PrefixTrees { items }, base(alloc)?),
-    )
+    let base = base(alloc)?;
+    Ok(term_of(alloc, operand_of(alloc, prefixes, base)?))
 }
 
 /// `x ,`
-fn befores(alloc: Global) -> Result<BeforeTrees, AllocError> {
-    let node = BeforeNode::Operand(no_prefixes(alloc), base(alloc)?, Place::start());
-    let mut items = Vec::new(alloc);
-    items.push(BeforeTree { node })?;
-    Ok(BeforeTrees { items })
+fn befores(alloc: Global) -> Result<Vec<Before<OperandNode>>, AllocError> {
+    let prefixes = Vec::new(alloc);
+    let base = base(alloc)?;
+    let mut befores = Vec::new(alloc);
+    befores.push(Before {
+        tree: OperandNode { prefixes, base },
+        comma: Place::start(),
+    })?;
+    Ok(befores)
 }
 
 fn choice_of(alloc: Global) -> Result<PrefixNode, AllocError> {
@@ -62,20 +57,18 @@ fn choice_over(alloc: Global) -> Result<PrefixNode, AllocError> {
 }
 
 /// A prefix before `x`.
-fn prefixed(alloc: Global, node: PrefixNode) -> Result<TermTree, AllocError> {
-    let mut items = Vec::new(alloc);
-    items.push(PrefixTree { node })?;
-    term_of(
-        alloc,
-        PieceNode::Operand(PrefixTrees { items }, base(alloc)?),
-    )
+fn prefixed(alloc: Global, prefix: PrefixNode) -> Result<TermNode, AllocError> {
+    let mut prefixes = Vec::new(alloc);
+    prefixes.push(prefix)?;
+    let base = base(alloc)?;
+    Ok(term_of(alloc, operand_of(alloc, prefixes, base)?))
 }
 
 fn set_term(alloc: Global) -> Result<BaseNode, AllocError> {
     let at = Place::start();
     let element = term(alloc)?;
     let name = word(alloc, b"y")?;
-    let ty = set_type(alloc)?;
+    let ty = Box::new(alloc, set_type(alloc)?)?;
     Ok(BaseNode::SetOf(at, element, at, name, at, ty, at, formula(alloc)?, at))
 }
 
@@ -85,7 +78,7 @@ fn brackets(alloc: Global) -> Result<BaseNode, AllocError> {
     Ok(BaseNode::Brackets(left, terms, word(alloc, b"L")?))
 }
 
-fn base_node(alloc: Global, row: usize) -> Result<BaseNode, AllocError> {
+fn base_row(alloc: Global, row: usize) -> Result<BaseNode, AllocError> {
     let at = Place::start();
     match row {
         4 => Ok(BaseNode::Subject(at)),
@@ -105,13 +98,12 @@ fn base_node(alloc: Global, row: usize) -> Result<BaseNode, AllocError> {
     }
 }
 
-fn based(alloc: Global, row: usize) -> Result<TermTree, AllocError> {
-    let node = base_node(alloc, row)?;
-    let base = Box::new(alloc, BaseTree { node })?;
-    term_of(alloc, PieceNode::Operand(no_prefixes(alloc), base))
+fn based(alloc: Global, row: usize) -> Result<TermNode, AllocError> {
+    let base = base_row(alloc, row)?;
+    Ok(term_of(alloc, operand_of(alloc, Vec::new(alloc), base)?))
 }
 
-fn term_row(alloc: Global, row: usize) -> Result<TermTree, AllocError> {
+fn term_row(alloc: Global, row: usize) -> Result<TermNode, AllocError> {
     match row {
         0 => run(alloc, 2),
         1 => selections(alloc, 2),
@@ -157,7 +149,7 @@ fn spellings_of_terms(rt: HostRuntime) -> Result<(), Fail> {
     Ok(())
 }
 
-fn count(alloc: Global, tree: &TermTree) -> Result<usize, AllocError> {
+fn count(alloc: Global, tree: &TermNode) -> Result<usize, AllocError> {
     let copy = tree.copy(alloc)?;
     let mut out = Vec::new(alloc);
     copy.spell(alloc, &mut out)?;

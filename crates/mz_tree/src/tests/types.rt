@@ -1,7 +1,6 @@
 //! Types and adjectives.
-use crate::lists::AdjectiveTrees;
-use crate::tests::samples::{adjective, adjectives, adjectives_of, terms, word, words};
-use crate::trees::{AdjectiveNode, AdjectiveTree, TypeNode, TypeTree};
+use crate::nodes::{AdjectiveNode, TypeNode};
+use crate::tests::samples::{adjectives, adjectives_of, terms, word, words};
 use mz_base::place::Place;
 use mz_base::text::Text;
 use std::alloc::{AllocError, Global};
@@ -25,7 +24,7 @@ fn with_terms(alloc: Global) -> Result<AdjectiveNode, AllocError> {
     Ok(AdjectiveNode::WithTerms(Some(at), at, terms, at, word(alloc, b"V")?))
 }
 
-fn adjective_node(alloc: Global, row: usize) -> Result<AdjectiveNode, AllocError> {
+fn adjective_row(alloc: Global, row: usize) -> Result<AdjectiveNode, AllocError> {
     let at = Place::start();
     match row {
         4 => Ok(AdjectiveNode::Plain(Some(at), word(alloc, b"V")?)),
@@ -36,12 +35,12 @@ fn adjective_node(alloc: Global, row: usize) -> Result<AdjectiveNode, AllocError
 
 /// `M` with an adjective.
 fn with_adjective(alloc: Global, row: usize) -> Result<TypeNode, AllocError> {
-    let node = adjective_node(alloc, row)?;
-    let adjectives = adjectives_of(alloc, AdjectiveTree { node })?;
+    let first = adjective_row(alloc, row)?;
+    let adjectives = adjectives_of(alloc, first)?;
     Ok(TypeNode::Mode(adjectives, word(alloc, b"M")?))
 }
 
-fn type_node(alloc: Global, row: usize) -> Result<TypeNode, AllocError> {
+fn type_row(alloc: Global, row: usize) -> Result<TypeNode, AllocError> {
     match row {
         0 => Ok(TypeNode::Mode(adjectives(alloc)?, word(alloc, b"set")?)),
         1 => mode_of(alloc),
@@ -52,8 +51,7 @@ fn type_node(alloc: Global, row: usize) -> Result<TypeNode, AllocError> {
 }
 
 fn type_words(alloc: Global, row: usize) -> Result<Text, AllocError> {
-    let node = type_node(alloc, row)?;
-    let copy = TypeTree { node }.copy(alloc)?;
+    let copy = type_row(alloc, row)?.copy(alloc)?;
     let mut out = Vec::new(alloc);
     copy.spell(alloc, &mut out)?;
     words(alloc, &out)
