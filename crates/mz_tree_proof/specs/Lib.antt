@@ -1,0 +1,13 @@
+pub mod Codes
+pub mod EachLevel
+pub mod EachLevelReasoning
+pub mod Falls
+pub mod Grammar
+pub mod Levels
+pub mod LevelsReasoning
+pub mod Reasoning
+pub mod Rules
+pub mod RulesReasoning
+pub mod Spell
+pub mod SpellReasoning
+pub mod Views

@@ -1,0 +1,268 @@
+//! Trees of reasonings: justifications, statements and steps.
+use crate::hypotheses::HypothesesTree;
+use crate::label::LabelTree;
+use crate::link::LinkTree;
+use crate::naming::NamingTree;
+use crate::proposition::PropositionTree;
+use crate::simple::SimpleTree;
+use crate::skeleton::SkeletonTree;
+use crate::split::SplitTree;
+use mz_base::place::Place;
+use mz_tree::trees::Trees;
+use std::marker::Model;
+
+/// A justification.
+#[cycle(reasoning)]
+#[derive(Drop)]
+pub struct JustTree {
+    pub node: JustNode,
+}
+
+/// A justification: a simple one, or a proof.
+#[cycle(reasoning)]
+#[derive(Drop)]
+pub enum JustNode {
+    Simple(SimpleTree),
+    Proof(Place, Box<ReasoningTree>, Place),
+}
+
+impl Model for JustTree {
+    ghost use Rattle.mz_tree_proof.specs.Reasoning.{JustData, just_size};
+    ghost use Rattle.mz_tree_proof.specs.Codes.{just_code};
+
+    ghost Value = { JustData };
+
+    ghost coded = { just_code };
+
+    ghost use Rattle.mz_tree_proof.specs.Views.{just_view};
+
+    ghost view = { λ a. just_view a.node };
+
+    ghost size = { just_size };
+
+    ghost use Rattle.mz_tree_proof.specs.Falls.{just_falls};
+
+    ghost size_decreases = { λ a h. just_falls a.node };
+}
+
+/// A proposition with its justification, and the further sides of an iterative equality.
+#[cycle(reasoning)]
+#[derive(Drop)]
+pub struct CompactTree {
+    pub node: CompactNode,
+}
+
+/// What a compact statement is made of.
+#[cycle(reasoning)]
+#[derive(Drop)]
+pub enum CompactNode {
+    Stated(PropositionTree, Box<JustTree>, Trees<LinkTree>, Place),
+}
+
+impl Model for CompactTree {
+    ghost use Rattle.mz_tree_proof.specs.Reasoning.{CompactData, compact_size};
+    ghost use Rattle.mz_tree_proof.specs.Codes.{compact_code};
+
+    ghost Value = { CompactData };
+
+    ghost coded = { compact_code };
+
+    ghost use Rattle.mz_tree_proof.specs.Views.{compact_view};
+
+    ghost view = { λ a. compact_view a.node };
+
+    ghost size = { compact_size };
+
+    ghost use Rattle.mz_tree_proof.specs.Falls.{compact_falls};
+
+    ghost size_decreases = { λ a h. compact_falls a.node };
+}
+
+/// A statement.
+#[cycle(reasoning)]
+#[derive(Drop)]
+pub struct StatementTree {
+    pub node: StatementNode,
+}
+
+/// A statement: a compact one, `now`, or one that names something.
+#[cycle(reasoning)]
+#[derive(Drop)]
+pub enum StatementNode {
+    Compact(Option<Place>, Box<CompactTree>),
+    Now(Option<LabelTree>, Place, Box<ReasoningTree>, Place, Place),
+    Naming(NamingTree),
+}
+
+impl Model for StatementTree {
+    ghost use Rattle.mz_tree_proof.specs.Reasoning.{StatementData, statement_size};
+    ghost use Rattle.mz_tree_proof.specs.Codes.{statement_code};
+
+    ghost Value = { StatementData };
+
+    ghost coded = { statement_code };
+
+    ghost use Rattle.mz_tree_proof.specs.Views.{statement_view};
+
+    ghost view = { λ a. statement_view a.node };
+
+    ghost size = { statement_size };
+
+    ghost use Rattle.mz_tree_proof.specs.Falls.{statement_falls};
+
+    ghost size_decreases = { λ a h. statement_falls a.node };
+}
+
+/// A step of a reasoning.
+#[cycle(reasoning)]
+#[derive(Drop)]
+pub struct StepTree {
+    pub node: StepNode,
+}
+
+/// A step: a statement, a conclusion, or a step of the skeleton.
+#[cycle(reasoning)]
+#[derive(Drop)]
+pub enum StepNode {
+    Statement(Box<StatementTree>),
+    Thus(Place, Box<CompactTree>),
+    Hence(Place, Box<CompactTree>),
+    Hereby(Place, Box<ReasoningTree>, Place, Place),
+    Skeleton(SkeletonTree),
+}
+
+impl Model for StepTree {
+    ghost use Rattle.mz_tree_proof.specs.Reasoning.{StepData, step_size};
+    ghost use Rattle.mz_tree_proof.specs.Codes.{step_code};
+
+    ghost Value = { StepData };
+
+    ghost coded = { step_code };
+
+    ghost use Rattle.mz_tree_proof.specs.Views.{step_view};
+
+    ghost view = { λ a. step_view a.node };
+
+    ghost size = { step_size };
+
+    ghost use Rattle.mz_tree_proof.specs.Falls.{step_falls};
+
+    ghost size_decreases = { λ a h. step_falls a.node };
+}
+
+/// Steps, and at their end a split into cases or none.
+#[cycle(reasoning)]
+#[derive(Drop)]
+pub struct ReasoningTree {
+    pub node: ReasoningNode,
+}
+
+/// A reasoning without cases, or with them.
+#[cycle(reasoning)]
+#[derive(Drop)]
+pub enum ReasoningNode {
+    Plain(Steps),
+    Cases(Steps, SplitTree, Box<SupposeTree>, SupposeTrees),
+}
+
+impl Model for ReasoningTree {
+    ghost use Rattle.mz_tree_proof.specs.Reasoning.{ReasoningData, reasoning_size};
+    ghost use Rattle.mz_tree_proof.specs.Codes.{reasoning_code};
+
+    ghost Value = { ReasoningData };
+
+    ghost coded = { reasoning_code };
+
+    ghost use Rattle.mz_tree_proof.specs.Views.{reasoning_view};
+
+    ghost view = { λ a. reasoning_view a.node };
+
+    ghost size = { reasoning_size };
+
+    ghost use Rattle.mz_tree_proof.specs.Falls.{reasoning_falls};
+
+    ghost size_decreases = { λ a h. reasoning_falls a.node };
+}
+
+/// A case: what it supposes, and its reasoning.
+#[cycle(reasoning)]
+#[derive(Drop)]
+pub struct SupposeTree {
+    pub node: SupposeNode,
+}
+
+/// What a case is made of.
+#[cycle(reasoning)]
+#[derive(Drop)]
+pub enum SupposeNode {
+    Case(Place, HypothesesTree, Place, Box<ReasoningTree>, Place, Place),
+}
+
+impl Model for SupposeTree {
+    ghost use Rattle.mz_tree_proof.specs.Reasoning.{SupposeData, suppose_size};
+    ghost use Rattle.mz_tree_proof.specs.Codes.{suppose_code};
+
+    ghost Value = { SupposeData };
+
+    ghost coded = { suppose_code };
+
+    ghost use Rattle.mz_tree_proof.specs.Views.{suppose_view};
+
+    ghost view = { λ a. suppose_view a.node };
+
+    ghost size = { suppose_size };
+
+    ghost use Rattle.mz_tree_proof.specs.Falls.{suppose_falls};
+
+    ghost size_decreases = { λ a h. suppose_falls a.node };
+}
+
+/// Steps, in order.
+#[cycle(reasoning)]
+#[derive(Drop)]
+pub struct Steps {
+    pub items: Vec<StepTree>,
+}
+
+impl Model for Steps {
+    ghost use Rattle.std.specs.Prelude.{List};
+    ghost use Rattle.std.proofs.Common.{arith};
+    ghost use Rattle.std.specs.Coded.{coded_list};
+    ghost use Rattle.mz_tree_proof.specs.Reasoning.{StepData, step_sizes, most_le-step_sizes};
+    ghost use Rattle.mz_tree_proof.specs.Codes.{step_code};
+
+    ghost Value = { List StepData };
+
+    ghost coded = { coded_list step_code };
+
+    ghost view = { λ a. a.items.items };
+
+    ghost size = { step_sizes };
+
+    ghost size_decreases = { λ a h. omega (arith, most_le-step_sizes a.items.items) };
+}
+
+/// Cases, in order.
+#[cycle(reasoning)]
+#[derive(Drop)]
+pub struct SupposeTrees {
+    pub items: Vec<SupposeTree>,
+}
+
+impl Model for SupposeTrees {
+    ghost use Rattle.std.specs.Prelude.{List};
+    ghost use Rattle.std.proofs.Common.{arith};
+    ghost use Rattle.std.specs.Coded.{coded_list};
+    ghost use Rattle.mz_tree_proof.specs.Reasoning.{SupposeData, suppose_sizes, most_le-suppose_sizes};
+    ghost use Rattle.mz_tree_proof.specs.Codes.{suppose_code};
+
+    ghost Value = { List SupposeData };
+
+    ghost coded = { coded_list suppose_code };
+
+    ghost view = { λ a. a.items.items };
+
+    ghost size = { suppose_sizes };
+
+    ghost size_decreases = { λ a h. omega (arith, most_le-suppose_sizes a.items.items) };
+}
