@@ -1,0 +1,33 @@
+//! A heading that defines a functor. What it says of it may be left out only in a redefinition.
+ghost use Rattle.std.specs.Prelude.{◌≡◌, ◌++◌, IfOk};
+ghost use Rattle.mz_tree_item.specs.Spell.{spell_functor_heading};
+
+use crate::functor_pattern::FunctorPatternTree;
+use crate::result::ResultTree;
+use mz_base::place::Place;
+use mz_marks::marked_token::MarkedToken;
+use mz_tree::put::{put_reserved, put_special};
+use mz_tree::spelling::Spell;
+use std::alloc::{AllocError, Global};
+
+/// A heading that defines a functor. What it says of it may be left out only in a redefinition.
+#[derive(Drop)]
+pub struct FunctorHeadingTree<M> {
+    pub func: Place,
+    pub pattern: FunctorPatternTree,
+    pub result: Option<ResultTree>,
+    pub meaning: M,
+    pub semicolon: Place,
+}
+
+impl<M: Spell> Spell for FunctorHeadingTree<M> {
+    ghost spelled = { spell_functor_heading M.spelled };
+
+    fn spell(&self, alloc: Global, out: &mut Vec<MarkedToken>) -> Result<(), AllocError> {
+        put_reserved(alloc, out, self.func, b"func")?;
+        self.pattern.spell(alloc, out)?;
+        self.result.spell(alloc, out)?;
+        self.meaning.spell(alloc, out)?;
+        put_special(alloc, out, self.semicolon, b";")
+    }
+}

@@ -1,0 +1,30 @@
+//! A heading that defines a predicate. What it says of it may be left out only in a redefinition.
+ghost use Rattle.std.specs.Prelude.{◌≡◌, ◌++◌, IfOk};
+ghost use Rattle.mz_tree_item.specs.Spell.{spell_predicate_heading};
+
+use crate::predicate_pattern::PredicatePatternTree;
+use mz_base::place::Place;
+use mz_marks::marked_token::MarkedToken;
+use mz_tree::put::{put_reserved, put_special};
+use mz_tree::spelling::Spell;
+use std::alloc::{AllocError, Global};
+
+/// A heading that defines a predicate. What it says of it may be left out only in a redefinition.
+#[derive(Drop)]
+pub struct PredicateHeadingTree<M> {
+    pub pred: Place,
+    pub pattern: PredicatePatternTree,
+    pub meaning: M,
+    pub semicolon: Place,
+}
+
+impl<M: Spell> Spell for PredicateHeadingTree<M> {
+    ghost spelled = { spell_predicate_heading M.spelled };
+
+    fn spell(&self, alloc: Global, out: &mut Vec<MarkedToken>) -> Result<(), AllocError> {
+        put_reserved(alloc, out, self.pred, b"pred")?;
+        self.pattern.spell(alloc, out)?;
+        self.meaning.spell(alloc, out)?;
+        put_special(alloc, out, self.semicolon, b";")
+    }
+}
