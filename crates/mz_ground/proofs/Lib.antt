@@ -11,3 +11,4 @@ pub mod InstanceLemmas
 pub mod LayerLemmas
 pub mod ClauseInstance
 pub mod FactsSound
+pub mod HashLemmas

@@ -12,3 +12,4 @@ pub mod Growth
 pub mod Nodes
 pub mod Instances
 pub mod Making
+pub mod Hash

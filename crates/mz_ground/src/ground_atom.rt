@@ -1,6 +1,8 @@
 // Ground atoms, by the places of their arguments.
 ghost use Rattle.std.specs.Prelude.{◌≡◌, ◌↔◌, IsTrue, IfOk};
+ghost use Rattle.mz_ground.specs.Hash.{atom_hash};
 
+use crate::hash_places::{all_mixed, sym_mixed};
 use crate::places::Places;
 use mz_logic::sym::Sym;
 use std::alloc::{AllocError, Global};
@@ -18,6 +20,13 @@ impl GroundAtom {
         ensures { IsTrue result ↔ (self.now ≡ other.now) }
     {
         self.sym.is(other.sym) && self.args.equals(&other.args)
+    }
+
+    /// A number by which the entry is found.
+    pub fn hash(&self) -> u64
+        ensures { result ≡ atom_hash self.now }
+    {
+        all_mixed(sym_mixed(0, self.sym), self.args.as_slice())
     }
 
     /// An equal entry.

@@ -1,8 +1,11 @@
 // Lists of ground atoms.
-ghost use Rattle.std.specs.Prelude.{◌≡◌, ◌<◌, ℕ, [], ◌∷◌, ◌++◌, length, slice_get, Some, MatchOption, IfOk, OnOk, OnErr};
+ghost use Rattle.std.specs.Prelude.{◌≡◌, ◌<◌, ℕ, [], ◌∷◌, ◌++◌, length, slice_get, Some, MatchOption, IfOk, OnOk, OnErr, IsTrue};
+ghost use Rattle.mz_ground.specs.Hash.{atom_hash};
 ghost use Rattle.mz_ground.specs.Table.{IsPlaced};
+ghost use Rattle.mz_ground.specs.declared.ground_atom.GroundAtom.{GroundAtom};
 
 use crate::ground_atom::GroundAtom;
+use crate::hash_places::HashPlaces;
 use std::alloc::{AllocError, Global};
 use std::marker::Model;
 
@@ -10,6 +13,8 @@ use std::marker::Model;
 #[derive(Drop)]
 pub struct GroundAtoms {
     pub items: Vec<GroundAtom>,
+    /// Where items stand, by their hashes.
+    places: HashPlaces,
 }
 
 impl Model for GroundAtoms {
@@ -23,6 +28,10 @@ impl Model for GroundAtoms {
     ghost coded = { coded_list the_row.coded };
 
     ghost view = { λ a. a.items.items };
+
+    ghost use Rattle.mz_ground.specs.Hash.{AreHashed, atom_hash};
+
+    ghost invariant = { λ a. AreHashed atom_hash a.items.items a.places };
 }
 
 impl GroundAtoms {
@@ -32,6 +41,7 @@ impl GroundAtoms {
     {
         GroundAtoms {
             items: Vec::new(alloc),
+            places: HashPlaces::new(alloc),
         }
     }
 
@@ -51,10 +61,12 @@ impl GroundAtoms {
     }
 
     /// Puts one at the end.
+    #[tactic(auto, using(crate::proofs::HashLemmas::hashed_rules))]
     pub fn push(&mut self, item: GroundAtom) -> Result<(), AllocError>
         ensures ok { OnOk result (self.new ≡ self.old ++ item ∷ []) }
         ensures err { OnErr result (self.new ≡ self.old) }
     {
+        self.places.insert(item.hash(), self.items.len())?;
         self.items.push(item)?;
         Ok(())
     }
@@ -73,8 +85,42 @@ impl GroundAtoms {
         }
     }
 
+    /// Where an item with the hash may stand; there is none where no item has it.
+    #[tactic(auto, using(crate::proofs::HashLemmas::hashed_rules))]
+    pub fn candidate(&self, hash: u64) -> Option<usize>
+        ensures { MatchOption result ((k : ℕ) (item : GroundAtom) → slice_get self.now k ≡ Some item → atom_hash item ≡ hash → ⊥) (λ place. Unit {0}) }
+    {
+        self.places.find(hash)
+    }
+
     /// The place of an item, if the list has it.
+    #[tactic(auto, using(crate::proofs::HashLemmas::hashed_rules))]
     pub fn find(&self, item: &GroundAtom) -> Option<usize>
+        ensures { MatchOption result ((k : ℕ) → slice_get self.now k ≡ Some item.now → ⊥) (λ k. slice_get self.now k ≡ Some item.now) }
+    {
+        match self.places.find(item.hash()) {
+            Some(place) => {
+                if self.has_at(place, item) {
+                    Some(place)
+                } else {
+                    self.first(item)
+                }
+            }
+            None => None,
+        }
+    }
+
+    fn has_at(&self, place: usize, item: &GroundAtom) -> bool
+        ensures { IsTrue result → slice_get self.now place ≡ Some item.now }
+    {
+        match self.items.get(place) {
+            Some(other) => other.equals(item),
+            None => false,
+        }
+    }
+
+    // The first place of an item, sought from the beginning: another item with its hash may stand in its stead.
+    fn first(&self, item: &GroundAtom) -> Option<usize>
         ensures { MatchOption result ((k : ℕ) → slice_get self.now k ≡ Some item.now → ⊥) (λ k. slice_get self.now k ≡ Some item.now) }
     {
         for k in 0..self.items.len() {
@@ -89,10 +135,10 @@ impl GroundAtoms {
     pub fn copy(&self, alloc: Global) -> Result<GroundAtoms, AllocError>
         ensures { IfOk result (λ items. items ≡ self.now) }
     {
-        let mut out = Vec::new(alloc);
+        let mut out = GroundAtoms::new(alloc);
         for item in &self.items {
             out.push(item.copy(alloc)?)?;
         }
-        Ok(GroundAtoms { items: out })
+        Ok(out)
     }
 }

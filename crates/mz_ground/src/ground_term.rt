@@ -1,6 +1,8 @@
 // Ground terms, by the places of their arguments.
 ghost use Rattle.std.specs.Prelude.{◌≡◌, ◌↔◌, IsTrue, IfOk};
+ghost use Rattle.mz_ground.specs.Hash.{term_hash};
 
+use crate::hash_places::{all_mixed, mixed, sym_mixed};
 use crate::places::Places;
 use mz_logic::sym::Sym;
 use std::alloc::{AllocError, Global};
@@ -24,6 +26,16 @@ impl GroundTerm {
                 r.is(*s) && a.equals(b)
             }
             _ => false,
+        }
+    }
+
+    /// A number by which the entry is found.
+    pub fn hash(&self) -> u64
+        ensures { result ≡ term_hash self.now }
+    {
+        match self {
+            GroundTerm::Const(number) => mixed(0, u64::from(*number)),
+            GroundTerm::App { sym, args } => all_mixed(sym_mixed(1, *sym), args.as_slice()),
         }
     }
 

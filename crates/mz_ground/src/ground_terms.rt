@@ -1,8 +1,11 @@
 // Lists of ground terms.
-ghost use Rattle.std.specs.Prelude.{◌≡◌, ◌<◌, ℕ, [], ◌∷◌, ◌++◌, length, slice_get, Some, MatchOption, IfOk, OnOk, OnErr};
+ghost use Rattle.std.specs.Prelude.{◌≡◌, ◌<◌, ℕ, [], ◌∷◌, ◌++◌, length, slice_get, Some, MatchOption, IfOk, OnOk, OnErr, IsTrue};
+ghost use Rattle.mz_ground.specs.Hash.{term_hash};
 ghost use Rattle.mz_ground.specs.Table.{IsPlaced};
+ghost use Rattle.mz_ground.specs.declared.ground_term.GroundTerm.{GroundTerm};
 
 use crate::ground_term::GroundTerm;
+use crate::hash_places::HashPlaces;
 use std::alloc::{AllocError, Global};
 use std::marker::Model;
 
@@ -10,6 +13,8 @@ use std::marker::Model;
 #[derive(Drop)]
 pub struct GroundTerms {
     pub items: Vec<GroundTerm>,
+    /// Where items stand, by their hashes.
+    places: HashPlaces,
 }
 
 impl Model for GroundTerms {
@@ -23,6 +28,10 @@ impl Model for GroundTerms {
     ghost coded = { coded_list the_row.coded };
 
     ghost view = { λ a. a.items.items };
+
+    ghost use Rattle.mz_ground.specs.Hash.{AreHashed, term_hash};
+
+    ghost invariant = { λ a. AreHashed term_hash a.items.items a.places };
 }
 
 impl GroundTerms {
@@ -32,6 +41,7 @@ impl GroundTerms {
     {
         GroundTerms {
             items: Vec::new(alloc),
+            places: HashPlaces::new(alloc),
         }
     }
 
@@ -51,10 +61,12 @@ impl GroundTerms {
     }
 
     /// Puts one at the end.
+    #[tactic(auto, using(crate::proofs::HashLemmas::hashed_rules))]
     pub fn push(&mut self, item: GroundTerm) -> Result<(), AllocError>
         ensures ok { OnOk result (self.new ≡ self.old ++ item ∷ []) }
         ensures err { OnErr result (self.new ≡ self.old) }
     {
+        self.places.insert(item.hash(), self.items.len())?;
         self.items.push(item)?;
         Ok(())
     }
@@ -73,8 +85,42 @@ impl GroundTerms {
         }
     }
 
+    /// Where an item with the hash may stand; there is none where no item has it.
+    #[tactic(auto, using(crate::proofs::HashLemmas::hashed_rules))]
+    pub fn candidate(&self, hash: u64) -> Option<usize>
+        ensures { MatchOption result ((k : ℕ) (item : GroundTerm) → slice_get self.now k ≡ Some item → term_hash item ≡ hash → ⊥) (λ place. Unit {0}) }
+    {
+        self.places.find(hash)
+    }
+
     /// The place of an item, if the list has it.
+    #[tactic(auto, using(crate::proofs::HashLemmas::hashed_rules))]
     pub fn find(&self, item: &GroundTerm) -> Option<usize>
+        ensures { MatchOption result ((k : ℕ) → slice_get self.now k ≡ Some item.now → ⊥) (λ k. slice_get self.now k ≡ Some item.now) }
+    {
+        match self.places.find(item.hash()) {
+            Some(place) => {
+                if self.has_at(place, item) {
+                    Some(place)
+                } else {
+                    self.first(item)
+                }
+            }
+            None => None,
+        }
+    }
+
+    fn has_at(&self, place: usize, item: &GroundTerm) -> bool
+        ensures { IsTrue result → slice_get self.now place ≡ Some item.now }
+    {
+        match self.items.get(place) {
+            Some(other) => other.equals(item),
+            None => false,
+        }
+    }
+
+    // The first place of an item, sought from the beginning: another item with its hash may stand in its stead.
+    fn first(&self, item: &GroundTerm) -> Option<usize>
         ensures { MatchOption result ((k : ℕ) → slice_get self.now k ≡ Some item.now → ⊥) (λ k. slice_get self.now k ≡ Some item.now) }
     {
         for k in 0..self.items.len() {
@@ -89,10 +135,10 @@ impl GroundTerms {
     pub fn copy(&self, alloc: Global) -> Result<GroundTerms, AllocError>
         ensures { IfOk result (λ items. items ≡ self.now) }
     {
-        let mut out = Vec::new(alloc);
+        let mut out = GroundTerms::new(alloc);
         for item in &self.items {
             out.push(item.copy(alloc)?)?;
         }
-        Ok(GroundTerms { items: out })
+        Ok(out)
     }
 }

@@ -13,6 +13,7 @@ pub mod ground_equations;
 pub mod ground_fault;
 pub mod ground_term;
 pub mod ground_terms;
+pub mod hash_places;
 pub mod instances;
 pub mod laws;
 pub mod layer_end;

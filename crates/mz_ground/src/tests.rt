@@ -261,6 +261,37 @@ fn one_term_more_than_the_limit(rt: HostRuntime) -> Result<(), Fail> {
     Ok(())
 }
 
+/// Atoms of two arguments each, for all pairs of so many constants.
+fn pairs(alloc: Global, count: u32) -> Result<Disjunct, AllocError> {
+    let mut literals = Literals::new(alloc);
+    for left in 0..count {
+        for right in 0..count {
+            literals.push(Literal::Atom {
+                positive: true,
+                sym: sym(Kind::Predicate, 2),
+                args: two(alloc, Term::constant(left), Term::constant(right))?,
+            })?;
+        }
+    }
+    Ok(Disjunct {
+        literals,
+        universals: Formulas::new(alloc),
+    })
+}
+
+/// There are 16,384 atoms, and one more where the last one isn't among them.
+#[test]
+fn atoms_at_the_limit(rt: HostRuntime) -> Result<(), Fail> {
+    let alloc = rt.alloc();
+    let mut d = pairs(alloc, 128)?;
+    let g = ground(alloc, &d, &Clauses::new(alloc))?;
+    assert!(rt; g.terms.len() == 128 && g.atoms.len() == 16384);
+    d.literals.push(says(alloc, 1, true, Term::constant(0))?)?;
+    let refused = ground(alloc, &d, &Clauses::new(alloc));
+    assert!(rt; matches!(refused, Err(GroundFault::TooManyAtoms)));
+    Ok(())
+}
+
 /// A clause whose conclusion has so many arguments, each the variable.
 fn wide(alloc: Global, count: u32) -> Result<Option<Clause>, AllocError> {
     let mut args = Terms::new(alloc);

@@ -1,0 +1,69 @@
+// Places by hashes, so that how long a look-up takes doesn't grow with the number of places.
+ghost use Rattle.std.specs.Prelude.{◌≡◌, ℕ, None, Some, OnOk, OnErr, if◌then◌else◌, nat_eq};
+ghost use Rattle.std.specs.Option.{option_copied};
+ghost use Rattle.mz_ground.specs.Hash.{mixed, all_mixed, sym_mixed, place_of};
+
+use mz_logic::sym::Sym;
+use std::alloc::{AllocError, Global};
+use std::collections::HashMap;
+
+/// A place for each hash that was met.
+#[derive(Drop)]
+pub struct HashPlaces {
+    places: HashMap<u64, usize>,
+}
+
+impl HashPlaces {
+    /// No places.
+    pub fn new(alloc: Global) -> HashPlaces
+        ensures { (hash : ℕ) → place_of result hash ≡ None }
+    {
+        HashPlaces {
+            places: HashMap::new(alloc),
+        }
+    }
+
+    /// The place of a hash.
+    pub fn find(&self, hash: u64) -> Option<usize>
+        ensures { result ≡ place_of self.now hash }
+    {
+        self.places.get(&hash).copied()
+    }
+
+    /// Gives a hash its place.
+    pub fn insert(&mut self, hash: u64, place: usize) -> Result<(), AllocError>
+        ensures ok { OnOk result ((other : ℕ) → place_of self.new other ≡ (if nat_eq hash other then Some place else place_of self.old other)) }
+        ensures err { OnErr result ((other : ℕ) → place_of self.new other ≡ place_of self.old other) }
+    {
+        self.places.insert(hash, place)?;
+        Ok(())
+    }
+}
+
+/// A hash with one more number taken into it.
+#[tactic(auto, unfolding(crate::specs::Hash::mixed))]
+pub fn mixed(hash: u64, number: u64) -> u64
+    ensures { result ≡ mixed hash number }
+{
+    hash.wrapping_mul(1_000_003).wrapping_add(number)
+}
+
+/// A hash with these numbers taken into it.
+pub fn all_mixed(hash: u64, numbers: &[usize]) -> u64
+    ensures { result ≡ all_mixed hash numbers.now }
+{
+    let mut all = hash;
+    for number in numbers {
+        all = mixed(all, *number as u64);
+    }
+    all
+}
+
+/// A hash with a symbol taken into it.
+pub fn sym_mixed(hash: u64, s: Sym) -> u64
+    ensures { result ≡ sym_mixed hash s }
+{
+    let named = mixed(hash, s.article);
+    let kinded = mixed(named, u64::from(s.kind.code()));
+    mixed(kinded, u64::from(s.number))
+}
