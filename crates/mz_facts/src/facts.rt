@@ -9,7 +9,6 @@ ghost use Rattle.mz_facts.specs.Layout.{IsLayout};
 use crate::classes::next_of;
 use crate::closing::classes_of;
 use crate::collecting::rules_of;
-use crate::copying::copied;
 use crate::graph::Graph;
 use crate::layout::Layout;
 use crate::lookup::{atom_place, equation_place, term_place};
@@ -180,7 +179,7 @@ fn taken(alloc: Global, g: &Ground, layout: Layout, c: &[usize]) -> Result<Facts
     let positive = held(alloc, c, layout.positive, g.atoms.len(), layout.yes)?;
     let negative = held(alloc, c, layout.negative, g.atoms.len(), layout.yes)?;
     let apart = held(alloc, c, layout.apart, g.equations.len(), layout.yes)?;
-    let ground = copied(alloc, g)?;
+    let ground = g.copy(alloc)?;
     Ok(Facts {
         ground,
         classes,

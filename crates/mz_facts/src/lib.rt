@@ -4,7 +4,6 @@
 mod classes;
 mod closing;
 mod collecting;
-mod copying;
 pub mod facts;
 mod graph;
 mod head;

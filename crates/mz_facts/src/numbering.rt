@@ -3,7 +3,6 @@ ghost use Rattle.std.specs.Prelude.{◌≡◌, ◌++◌, map, IfOk, OnOk};
 ghost use Rattle.mz_facts.specs.Nodes.{term_node, atom_head, atom_node, apart_node, nodes_of};
 ghost use Rattle.mz_facts.specs.Layout.{IsLayout, Numbered};
 
-use crate::copying::copied_places;
 use crate::head::Head;
 use crate::layout::Layout;
 use crate::node::Node;
@@ -35,7 +34,7 @@ fn term_node(alloc: Global, t: &GroundTerm) -> Result<Node, AllocError>
             args: Places::new(alloc),
         }),
         GroundTerm::App { sym, args } => {
-            let args = copied_places(alloc, args)?;
+            let args = args.copy(alloc)?;
             Ok(Node {
                 head: Head::Function(*sym),
                 args,
@@ -57,7 +56,7 @@ fn atom_head(positive: bool, sym: Sym) -> Head
 fn atom_node(alloc: Global, positive: bool, a: &GroundAtom) -> Result<Node, AllocError>
     ensures { IfOk result (λ n. n ≡ atom_node positive a.now) }
 {
-    let args = copied_places(alloc, &a.args)?;
+    let args = a.args.copy(alloc)?;
     Ok(Node {
         head: atom_head(positive, a.sym),
         args,

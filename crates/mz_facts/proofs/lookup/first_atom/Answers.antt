@@ -3,7 +3,7 @@ use Rattle.std.proofs.lemmas.Option.{slice_get_within}
 use Rattle.mz_ground.specs.declared.ground_atom.GroundAtom.{GroundAtom}
 use Rattle.mz_facts.specs.Stands.{atom_stands}
 use Rattle.mz_facts.proofs.StandLemmas.{none_so_far}
-use Rattle.mz_facts.proofs.lookup.atom_place.Goals as goal
+use Rattle.mz_facts.proofs.lookup.first_atom.Goals as goal
 
 pub loop-k-preserved : goal.loop-k-preserved
 loop-k-preserved c = none_so_far (λ (a : GroundAtom). atom_stands c.args.g.now.terms c.args.args.now c.args.sym c.args.us.now a) _ _ _ _ c.loop-k.invariant c.get.ensures c.is_atom.ensures c.if-is_atom.false
