@@ -7,11 +7,13 @@ use Rattle.mz_logic.specs.Term.{Term, Bound, Const}
 use Rattle.mz_logic.specs.Formula as formula
 use Rattle.mz_logic.specs.Formula.{Formula}
 use Rattle.mz_logic.specs.Formulas.{sequent}
-use Rattle.mz_logic.specs.Constants.{formula_mentions}
-use Rattle.mz_logic.specs.Substitution.{put, put_formula, body_at}
+use Rattle.mz_logic.specs.Constants.{occurs_in_formula}
+use Rattle.mz_logic.specs.Substitution.{substitute, substitute_formula, value_at, body_at}
 use Rattle.mz_logic.specs.Derivation.{Node, none, more, root}
-use Rattle.mz_logic.specs.Derives.{FollowsBy, IsRight, AreRight, Gives, Derives}
+use Rattle.mz_logic.specs.Derives.{FollowsBy, IsValid, AreValid, Gives, Derives}
 use Rattle.mz_logic.specs.declared.rule.Rule.TheVariants.{AllIn, Reflexive}
+use Rattle.mz_logic.proofs.SubstitutionLaws.{substitute-inside}
+use Rattle.mz_logic.proofs.ValueLaws.{substitute-one_equal}
 use Rattle.mizv.specs.declared.theorem.Theorem.{Theorem}
 use Rattle.mizv.specs.FirstForm.{IsTheorem}
 use Rattle.mizv.specs.Outcome.{index_of, quantified, erased, has_same_sides, open_fault, faults_of, judged, first_of, Derived}
@@ -19,62 +21,52 @@ use Rattle.mizv.proofs.SpellingLemmas.{same_spelling}
 use Rattle.mizv.proofs.FaultLemmas.{index_of-lt-length}
 
 -- a quantifier over what is derivable at a constant that it doesn't mention
-generalized : (c : ℕ) (b : Formula) → formula_mentions c b ≡ false → Derives [] [] (body_at b (Const c)) → Derives [] [] (formula.All b)
-unfolding IsRight AreRight Gives
+generalized : (c : ℕ) (b : Formula) → occurs_in_formula c b ≡ false → Derives [] [] (body_at b (Const c)) → Derives [] [] (formula.All b)
+unfolding IsValid AreValid Gives
 generalized c b fresh d =
     let follows : FollowsBy [] (AllIn c) (sequent [] (formula.All b)) (root d.0 ∷ []) = rw d.1 ((refl, refl), refl, fresh) in
     (Node (AllIn c) (sequent [] (formula.All b)) (more d.0 none), refl, (follows, (d.2, tt)))
 
 same_constants : (c : ℕ) → Derives [] [] (formula.Eq (Const c) (Const c))
-unfolding IsRight AreRight
+unfolding IsValid AreValid
 same_constants c = (Node Reflexive (sequent [] (formula.Eq (Const c) (Const c))) none, refl, ((refl, refl), tt))
 
-put_formula-quantified : (vs : List (List ℕ)) (depth : ℕ) (t : Term) (f : Formula) → put_formula depth t (quantified vs f) ≡ quantified vs (put_formula (depth + length vs) t f)
-put_formula-quantified [] depth t f = ap (λ n. put_formula n t f) (omega arith)
-put_formula-quantified (v ∷ vs) depth t f =
+substitute_formula-quantified : (vs : List (List ℕ)) (depth : ℕ) (w : ℕ → Term) (f : Formula) → substitute_formula depth w (quantified vs f) ≡ quantified vs (substitute_formula (depth + length vs) w f)
+substitute_formula-quantified [] depth w f = ap (λ n. substitute_formula n w f) (omega arith)
+substitute_formula-quantified (v ∷ vs) depth w f =
     let n : depth + 1 + length vs ≡ depth + length (v ∷ vs) = omega arith in
-    ap (λ g. formula.All g) (put_formula-quantified vs (depth + 1) t f ∙ ap (λ k. quantified vs (put_formula k t f)) n)
+    ap (λ g. formula.All g) (substitute_formula-quantified vs (depth + 1) w f ∙ ap (λ k. quantified vs (substitute_formula k w f)) n)
 
-formula_mentions-quantified : (vs : List (List ℕ)) (c : ℕ) (f : Formula) → formula_mentions c (quantified vs f) ≡ formula_mentions c f
-formula_mentions-quantified [] c f = refl
-formula_mentions-quantified (v ∷ vs) c f = formula_mentions-quantified vs c f
+occurs_in_formula-quantified : (vs : List (List ℕ)) (c : ℕ) (f : Formula) → occurs_in_formula c (quantified vs f) ≡ occurs_in_formula c f
+occurs_in_formula-quantified [] c f = refl
+occurs_in_formula-quantified (v ∷ vs) c f = occurs_in_formula-quantified vs c f
 
 quantified_constants : (vs : List (List ℕ)) (c : ℕ) → Derives [] [] (quantified vs (formula.Eq (Const c) (Const c)))
 quantified_constants [] c = same_constants c
 quantified_constants (v ∷ vs) c =
     let b : Formula = quantified vs (formula.Eq (Const c) (Const c)) in
     let other : nat_eq c (suc c) ≡ false = grind (arith, nat_tests) in
-    let fresh : formula_mentions (suc c) b ≡ false = formula_mentions-quantified vs (suc c) (formula.Eq (Const c) (Const c)) ∙ (λ i. other i || other i) in
-    let same : quantified vs (formula.Eq (Const c) (Const c)) ≡ body_at b (Const (suc c)) = sym (put_formula-quantified vs 0 (Const (suc c)) (formula.Eq (Const c) (Const c))) in
+    let fresh : occurs_in_formula (suc c) b ≡ false = occurs_in_formula-quantified vs (suc c) (formula.Eq (Const c) (Const c)) ∙ (λ i. other i || other i) in
+    let same : quantified vs (formula.Eq (Const c) (Const c)) ≡ body_at b (Const (suc c)) = sym (substitute_formula-quantified vs 0 (value_at (Const (suc c) ∷ [])) (formula.Eq (Const c) (Const c))) in
     generalized (suc c) b fresh (subst (λ (f : Formula). Derives [] [] f) same (quantified_constants vs c))
-
-put-inner : (n i : ℕ) → i < n → put n (Const 0) (Bound i) ≡ Bound i
-put-inner n i lt =
-    let test : nat_lt i n ≡ true = grind (arith, nat_tests) in
-    ap (λ b. if b then Bound i else (if nat_eq i n then Const 0 else Bound (i - 1))) test
-
-put-outer : (n i : ℕ) → i ≡ n → put n (Const 0) (Bound i) ≡ Const 0
-put-outer n i e =
-    let above : nat_lt i n ≡ false = grind (arith, nat_tests) in
-    let here : nat_eq i n ≡ true = grind (arith, nat_tests) in
-    ap (λ b. if b then Bound i else (if nat_eq i n then Const 0 else Bound (i - 1))) above ∙ ap (λ b. if b then Const 0 else Bound (i - 1)) here
 
 derives_quantified : (vs : List (List ℕ)) (i : ℕ) → i < length vs → Derives [] [] (quantified vs (formula.Eq (Bound i) (Bound i)))
 derives_quantified [] i lt = absurd (omega arith)
 derives_quantified (v ∷ vs) i lt =
     let b : Formula = quantified vs (formula.Eq (Bound i) (Bound i)) in
-    let fresh : formula_mentions 0 b ≡ false = formula_mentions-quantified vs 0 (formula.Eq (Bound i) (Bound i)) in
+    let fresh : occurs_in_formula 0 b ≡ false = occurs_in_formula-quantified vs 0 (formula.Eq (Bound i) (Bound i)) in
     let n : 0 + length vs ≡ length vs = omega arith in
-    let body : body_at b (Const 0) ≡ quantified vs (put_formula (length vs) (Const 0) (formula.Eq (Bound i) (Bound i))) = put_formula-quantified vs 0 (Const 0) (formula.Eq (Bound i) (Bound i)) ∙ ap (λ k. quantified vs (put_formula k (Const 0) (formula.Eq (Bound i) (Bound i)))) n in
+    let zero_at : ℕ → Term = value_at (Const 0 ∷ []) in
+    let body : body_at b (Const 0) ≡ quantified vs (substitute_formula (length vs) zero_at (formula.Eq (Bound i) (Bound i))) = substitute_formula-quantified vs 0 zero_at (formula.Eq (Bound i) (Bound i)) ∙ ap (λ k. quantified vs (substitute_formula k zero_at (formula.Eq (Bound i) (Bound i)))) n in
     elim (nat_lt i (length vs)) as (λ t. nat_lt i (length vs) ≡ t → Derives [] [] (formula.All b)) [
       | true ↦ (λ e.
           let inner : i < length vs = grind (arith, nat_tests) in
-          let at : put (length vs) (Const 0) (Bound i) ≡ Bound i = put-inner (length vs) i inner in
+          let at : substitute (length vs) zero_at (Bound i) ≡ Bound i = substitute-inside (length vs) zero_at i inner in
           let same : quantified vs (formula.Eq (Bound i) (Bound i)) ≡ body_at b (Const 0) = sym (body ∙ ap (λ u. quantified vs (formula.Eq u u)) at) in
           generalized 0 b fresh (subst (λ (f : Formula). Derives [] [] f) same (derives_quantified vs i inner)))
       | false ↦ (λ e.
           let outer : i ≡ length vs = grind (arith, nat_tests) in
-          let at : put (length vs) (Const 0) (Bound i) ≡ Const 0 = put-outer (length vs) i outer in
+          let at : substitute (length vs) zero_at (Bound i) ≡ Const 0 = substitute-one_equal (length vs) (Const 0) i outer in
           let same : quantified vs (formula.Eq (Const 0) (Const 0)) ≡ body_at b (Const 0) = sym (body ∙ ap (λ u. quantified vs (formula.Eq u u)) at) in
           generalized 0 b fresh (subst (λ (f : Formula). Derives [] [] f) same (quantified_constants vs 0)))
     ] refl

@@ -4,17 +4,19 @@ use Rattle.std.specs.Prelude.{true, false, Some, slice_get, All, AllPairs, Conta
 use Rattle.std.proofs.lemmas.List.Elements.{All-nil, All-cons, All-contains, All-contains_itself}
 use Rattle.std.proofs.lemmas.List.Kept.{AllPairs-cons}
 use Rattle.std.proofs.lemmas.Option.{slice_get_within, get_or_from_slice_get}
-use Rattle.mz_base.specs.Name.{number_of, text_of}
+use Rattle.mz_base.specs.Name.{number_of, text_of, is_built_in}
 use Rattle.mz_base.specs.declared.name.Name.{Name}
 use Rattle.mz_base.proofs.NameEqual.{Name-equal}
 use Rattle.mz_core.specs.declared.export.Export.{Export}
 use Rattle.mz_core.specs.declared.item.Item.{Item}
 use Rattle.mz_core.specs.declared.item.Item.TheVariants.{Primitive}
 use Rattle.mz_core.specs.declared.notation.Notation.{Notation}
-use Rattle.mz_core.specs.Items.{owes, HasNotationsOfItems}
+use Rattle.mz_items.specs.Items.{owes}
+use Rattle.mz_items.specs.Exports.{HasNotationsOfItems}
 use Rattle.mz_axioms.specs.Names.{hidden_name, tarski_0_name, tarski_a_name}
+use Rattle.mz_axioms.specs.Axioms.{objects_are_sets, extensionality, pairs, unions, regularity, replacement, universes}
 use Rattle.mz_axioms.specs.BuiltIn.{hidden_notations, hidden, tarski_0_items, tarski_0, tarski_a, built_in_exports}
-use Rattle.mz_axioms.specs.Library.{IsNamedBefore, AreInOrder, HasName, DependsOn, directly, by_others, IsDerivable, OwesDerivable, HasPrimitivesIfBuiltIn, HasClosedItems, Sound}
+use Rattle.mz_axioms.specs.Library.{IsNamedBefore, AreInOrder, HasName, DependsOn, directly, by_others, IsDerivable, OwesDerivable, HasPrimitivesOnlyIfBuiltIn, HasClosedItems, Sound}
 
 -- a name is the one that its text spells
 pub name-hidden : (n : Name) → text_of n.number ≡ codes "HIDDEN" → n ≡ hidden_name
@@ -47,8 +49,8 @@ tarski_0_before_tarski_a = lit< tt
 no_pairs : (R : Export → Export → Type 0) → AllPairs R []
 no_pairs R i j d lt within = let no : ⊥ = omega arith in absurd no
 
-in_order : AreInOrder built_in_exports
-in_order =
+pub built_in_order : AreInOrder built_in_exports
+built_in_order =
     AllPairs-cons IsNamedBefore hidden (tarski_0 ∷ tarski_a ∷ [])
     (All-cons (IsNamedBefore hidden) tarski_0 (tarski_a ∷ []) hidden_before_tarski_0
     (All-cons (IsNamedBefore hidden) tarski_a [] hidden_before_tarski_a (All-nil (IsNamedBefore hidden))))
@@ -56,15 +58,33 @@ in_order =
     (All-cons (IsNamedBefore tarski_0) tarski_a [] tarski_0_before_tarski_a (All-nil (IsNamedBefore tarski_0)))
     (AllPairs-cons IsNamedBefore tarski_a [] (All-nil (IsNamedBefore tarski_a)) (no_pairs IsNamedBefore)))
 
-hidden_primitives : HasPrimitivesIfBuiltIn hidden
+hidden_built_in : is_built_in hidden.name.number ≡ true
+unfolding number_of
+hidden_built_in = cc
+
+tarski_0_built_in : is_built_in tarski_0.name.number ≡ true
+unfolding number_of
+tarski_0_built_in = cc
+
+tarski_a_built_in : is_built_in tarski_a.name.number ≡ true
+unfolding number_of
+tarski_a_built_in = cc
+
+-- the names of the built-in exports are built in
+pub built_in_named : (e : Export) → Contains built_in_exports e → is_built_in e.name.number ≡ true
+built_in_named e within =
+    All-contains (λ x. is_built_in x.name.number ≡ true) built_in_exports e
+    (all_three (λ x. is_built_in x.name.number ≡ true) hidden_built_in tarski_0_built_in tarski_a_built_in) within
+
+hidden_primitives : HasPrimitivesOnlyIfBuiltIn hidden
 unfolding number_of
 hidden_primitives h = cc
 
-tarski_0_primitives : HasPrimitivesIfBuiltIn tarski_0
+tarski_0_primitives : HasPrimitivesOnlyIfBuiltIn tarski_0
 unfolding number_of
 tarski_0_primitives h = cc
 
-tarski_a_primitives : HasPrimitivesIfBuiltIn tarski_a
+tarski_a_primitives : HasPrimitivesOnlyIfBuiltIn tarski_a
 unfolding number_of
 tarski_a_primitives h = cc
 
@@ -110,14 +130,22 @@ derivable e within k item at =
     let none : owes item ≡ [] = All-contains OwesNothing e.items item (All-contains HasNothingOwed built_in_exports e nothing_owed within) member in
     rw none (All-nil (IsDerivable built_in_exports e k))
 
+tarski_0_closed : HasClosedItems tarski_0
+unfolding objects_are_sets extensionality pairs unions regularity replacement
+tarski_0_closed = refl
+
+tarski_a_closed : HasClosedItems tarski_a
+unfolding universes
+tarski_a_closed = refl
+
 pub built_in_sound : Sound built_in_exports
 built_in_sound =
     record {
-      in_order = in_order;
+      in_order = built_in_order;
       built_in = All-contains_itself built_in_exports;
-      primitive = all_three HasPrimitivesIfBuiltIn hidden_primitives tarski_0_primitives tarski_a_primitives;
+      primitive = all_three HasPrimitivesOnlyIfBuiltIn hidden_primitives tarski_0_primitives tarski_a_primitives;
       noted = all_three HasNotationsOfItems refl refl refl;
-      closed = all_three HasClosedItems refl refl refl;
+      closed = all_three HasClosedItems refl tarski_0_closed tarski_a_closed;
       known = known;
       acyclic = λ a h. depends_on_none a a h;
       derivable = derivable;

@@ -1,2 +1,3 @@
 pub mod BuiltInLemmas
 pub mod AddedLemmas
+pub mod BeforeLemmas

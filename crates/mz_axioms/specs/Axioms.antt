@@ -5,13 +5,10 @@ use Rattle.mz_base.specs.Name.{number_of}
 use Rattle.mz_logic.specs.declared.sym.Sym.{Sym}
 use Rattle.mz_logic.specs.declared.kind.Kind.TheVariants.{LetterFunctor, LetterPredicate}
 use Rattle.mz_logic.specs.Term.{Term, Bound, App, none}
-use Rattle.mz_logic.specs.Formula.{Formula}
-use Rattle.mz_core.specs.Guard.{in_predicate}
+use Rattle.mz_core.specs.Hidden.{in_predicate}
 use Rattle.mz_core.specs.Statement.{Statement, Truth, Eq, Atom, And, For}
 use Rattle.mz_core.specs.StatementForms.{opposite, disjunction, implication, equivalence, for_some}
-use Rattle.mz_core.specs.SetTermRows.{object_type, set_type}
-use Rattle.mz_core.specs.SchemeRows.{axiom_scheme_grant}
-use Rattle.mz_core.specs.Erasure.{erase}
+use Rattle.mz_core.specs.Hidden.{object_type, set_type}
 use Rattle.mz_core.specs.declared.scheme.Scheme.{Scheme}
 use Rattle.mz_core.specs.declared.scheme_letter.SchemeLetter.TheVariants.{OfFunctor, OfPredicate}
 
@@ -44,15 +41,15 @@ abbrev pub some_set : Statement → Statement
 some_set s = for_some set_type s
 
 -- for x being object holds x is set: the type says nothing
-abbrev pub objects_are_sets : Statement
+unfoldable pub objects_are_sets : Statement
 objects_are_sets = each_object Truth
 
 -- for X,Y being set st for x being object holds x in X iff x in Y holds X = Y
-abbrev pub extensionality : Statement
+unfoldable pub extensionality : Statement
 extensionality = each_set (each_set (implication (each_object (equivalence (belongs 0 2) (belongs 0 1))) (equal 1 0)))
 
 -- for x,y being object ex z being set st for a being object holds a in z iff a = x or a = y
-abbrev pub pairs : Statement
+unfoldable pub pairs : Statement
 pairs =
     each_object
     (each_object
@@ -60,14 +57,14 @@ pairs =
 
 -- for X being set ex Z being set st
 -- for x being object holds x in Z iff ex Y being set st x in Y & Y in X
-abbrev pub unions : Statement
+unfoldable pub unions : Statement
 unions =
     each_set
     (some_set (each_object (equivalence (belongs 0 1) (some_set (And (belongs 1 0) (belongs 0 3))))))
 
 -- for x being object, X being set st x in X
 -- ex Y being set st Y in X & not ex z being object st z in X & z in Y
-abbrev pub regularity : Statement
+unfoldable pub regularity : Statement
 regularity =
     each_object
     (each_set
@@ -104,7 +101,7 @@ image =
     (each_object (equivalence (belongs 0 1) (some_object (And (belongs_to_letter 0) (related 0 1)))))
 
 -- scheme { A() -> set, P[object,object] } : the image provided at most one value
-abbrev pub replacement : Scheme
+unfoldable pub replacement : Scheme
 replacement =
     record {
       letters = OfFunctor functor_letter [] set_type ∷ OfPredicate predicate_letter (object_type ∷ object_type ∷ []) ∷ [];
@@ -175,10 +172,5 @@ abbrev pub has_small_parts : Statement
 has_small_parts = each_set (implication (is_part 0 1) (disjunction (belongs 0 1) (equinumerous 0 1)))
 
 -- for N being object ex M being set st N in M & these three
-abbrev pub universes : Statement
+unfoldable pub universes : Statement
 universes = each_object (some_set (And (And (And (belongs 1 0) has_parts) has_sets_of_parts) has_small_parts))
-
--- the seven axioms
-abbrev pub axioms : List Formula
-axioms =
-    erase objects_are_sets ∷ erase extensionality ∷ erase pairs ∷ erase unions ∷ erase regularity ∷ axiom_scheme_grant replacement ∷ erase universes ∷ []

@@ -4,8 +4,8 @@ use Rattle.mz_logic.specs.declared.kind.Kind.TheVariants.{Mode, Predicate}
 use Rattle.mz_logic.specs.Term.{Bound}
 use Rattle.mz_logic.specs.declared.literal.Literal.{Literal}
 use Rattle.mz_logic.specs.declared.literal.Literal.TheVariants.{Atom, Eq}
-use Rattle.mz_core.specs.Guard.{in_predicate}
-use Rattle.mz_core.specs.SetTermRows.{object_type, set_type}
+use Rattle.mz_core.specs.Hidden.{in_predicate}
+use Rattle.mz_core.specs.Hidden.{object_type, set_type}
 use Rattle.mz_core.specs.declared.soft_type.SoftType.{SoftType}
 use Rattle.mz_core.specs.declared.pattern.Pattern.{Pattern}
 use Rattle.mz_core.specs.declared.notation.Meaning.{Meaning}

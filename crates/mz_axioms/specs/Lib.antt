@@ -1,6 +1,6 @@
 pub mod Names
 pub mod Axioms
+pub mod AxiomList
 pub mod BuiltIn
 pub mod Library
 pub mod Checker
-pub mod Rejecting

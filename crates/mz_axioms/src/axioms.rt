@@ -3,8 +3,7 @@
 ghost use Rattle.std.specs.Prelude.{◌≡◌, IfOk};
 ghost use Rattle.mz_axioms.specs.Axioms.{member, belongs, equal, each_object, each_set, some_object, some_set, objects_are_sets, extensionality, pairs, unions, regularity};
 
-use mz_core::guard::in_predicate;
-use mz_core::set_term_rows::{object_type, set_type};
+use mz_core::hidden::{in_predicate, object_type, set_type};
 use mz_core::statement::Statement;
 use mz_core::statement_forms::{disjunction, equivalence, for_some, implication, opposite};
 use mz_logic::term::{Term, Terms};
@@ -63,6 +62,7 @@ pub fn some_set(alloc: Global, s: Statement) -> Result<Statement, AllocError>
 }
 
 /// Every object is a set.
+#[tactic(auto, unfolding(crate::specs::Axioms::objects_are_sets))]
 pub fn objects_are_sets(alloc: Global) -> Result<Statement, AllocError>
     ensures { IfOk result (λ s. s ≡ objects_are_sets) }
 {
@@ -70,6 +70,7 @@ pub fn objects_are_sets(alloc: Global) -> Result<Statement, AllocError>
 }
 
 /// Sets with the same members are equal.
+#[tactic(auto, unfolding(crate::specs::Axioms::extensionality))]
 pub fn extensionality(alloc: Global) -> Result<Statement, AllocError>
     ensures { IfOk result (λ s. s ≡ extensionality) }
 {
@@ -83,6 +84,7 @@ pub fn extensionality(alloc: Global) -> Result<Statement, AllocError>
 }
 
 /// Of two objects there is the set that has just these.
+#[tactic(auto, unfolding(crate::specs::Axioms::pairs))]
 pub fn pairs(alloc: Global) -> Result<Statement, AllocError>
     ensures { IfOk result (λ s. s ≡ pairs) }
 {
@@ -96,6 +98,7 @@ pub fn pairs(alloc: Global) -> Result<Statement, AllocError>
 }
 
 /// Of a set there is the set of its members' members.
+#[tactic(auto, unfolding(crate::specs::Axioms::unions))]
 pub fn unions(alloc: Global) -> Result<Statement, AllocError>
     ensures { IfOk result (λ s. s ≡ unions) }
 {
@@ -111,6 +114,7 @@ pub fn unions(alloc: Global) -> Result<Statement, AllocError>
 }
 
 /// A set with a member has one that has no member in common with it.
+#[tactic(auto, unfolding(crate::specs::Axioms::regularity))]
 pub fn regularity(alloc: Global) -> Result<Statement, AllocError>
     ensures { IfOk result (λ s. s ≡ regularity) }
 {

@@ -87,7 +87,7 @@ fn tarski_a(alloc: Global) -> Result<Export, AllocError>
 pub fn built_in(alloc: Global) -> Result<Exports, AllocError>
     ensures { IfOk result (λ es. es ≡ built_in_exports) }
 {
-    let mut out = Exports::new(alloc);
+    let mut out = Exports::new(alloc)?;
     out.push(Arc::new(alloc, hidden(alloc)?)?)?;
     out.push(Arc::new(alloc, tarski_0(alloc)?)?)?;
     out.push(Arc::new(alloc, tarski_a(alloc)?)?)?;

@@ -8,6 +8,4 @@ pub mod exports;
 pub mod laws;
 pub mod notations;
 pub mod replacement;
-#[cfg(test)]
-mod tests;
 pub mod universes;

@@ -2,17 +2,16 @@
 ghost use Rattle.std.specs.Prelude.{◌≡◌, ◌∷◌, [], true, false, codes, map, IfOk};
 ghost use Rattle.mz_logic.specs.Term.{Bound};
 ghost use Rattle.mz_logic.specs.declared.literal.Literal.TheVariants as literal;
-ghost use Rattle.mz_core.specs.Guard.{in_predicate};
-ghost use Rattle.mz_core.specs.SetTermRows.{object_type};
+ghost use Rattle.mz_core.specs.Hidden.{in_predicate};
+ghost use Rattle.mz_core.specs.Hidden.{object_type};
 ghost use Rattle.mz_axioms.specs.BuiltIn.{mode_notation, predicate_notation, hidden_notations};
 
 use mz_base::numbers::Numbers;
 use mz_base::text::Text;
-use mz_core::guard::in_predicate;
+use mz_core::hidden::{in_predicate, object_type, set_type};
 use mz_core::notation::{Meaning, Notation};
 use mz_core::notations::Notations;
 use mz_core::pattern::Pattern;
-use mz_core::set_term_rows::{object_type, set_type};
 use mz_core::soft_type::SoftType;
 use mz_core::soft_types::SoftTypes;
 use mz_logic::kind::Kind;

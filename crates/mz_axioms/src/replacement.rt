@@ -4,10 +4,10 @@ ghost use Rattle.mz_axioms.specs.Axioms.{functor_letter, predicate_letter, belon
 
 use crate::axioms::{belongs, each_object, equal, is_member, some_object, some_set};
 use mz_base::name::Name;
+use mz_core::hidden::{object_type, set_type};
 use mz_core::scheme::Scheme;
 use mz_core::scheme_letter::SchemeLetter;
 use mz_core::scheme_letters::SchemeLetters;
-use mz_core::set_term_rows::{object_type, set_type};
 use mz_core::soft_types::SoftTypes;
 use mz_core::statement::Statement;
 use mz_core::statement_forms::{equivalence, implication};
@@ -80,6 +80,7 @@ pub fn image(alloc: Global) -> Result<Statement, AllocError>
     some_set(alloc, s)
 }
 
+#[tactic(auto, unfolding(crate::specs::Axioms::replacement))]
 fn letters(alloc: Global) -> Result<SchemeLetters, AllocError>
     ensures { IfOk result (λ ls. ls ≡ replacement.letters) }
 {
@@ -97,6 +98,7 @@ fn letters(alloc: Global) -> Result<SchemeLetters, AllocError>
 }
 
 /// The scheme of replacement.
+#[tactic(auto, unfolding(crate::specs::Axioms::replacement))]
 pub fn replacement(alloc: Global) -> Result<Scheme, AllocError>
     ensures { IfOk result (λ s. s ≡ replacement) }
 {

@@ -152,6 +152,7 @@ fn has_small_parts(alloc: Global) -> Result<Statement, AllocError>
 
 /// Each object is in a set that is closed under parts and sets of parts, and each part of which is a
 /// member of it or equinumerous with it.
+#[tactic(auto, unfolding(crate::specs::Axioms::universes))]
 pub fn universes(alloc: Global) -> Result<Statement, AllocError>
     ensures { IfOk result (λ s. s ≡ universes) }
 {

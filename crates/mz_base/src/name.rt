@@ -179,45 +179,47 @@ impl Name {
 #[cfg(test)]
 mod tests {
     use super::*;
-    use std::test::Fail;
 
     #[test]
-    fn reads_names(rt: HostRuntime) -> Result<(), Fail> {
-        let rows: [(&[u8], &[u8], u64); 4] = [
-            (b"A", b"A", 4683743612465315840),
-            (b"tarski_0", b"TARSKI_0", 0x5441_5253_4b49_5f30),
-            (b"Hidden", b"HIDDEN", 0x4849_4444_454e_0000),
-            (b"z9_", b"Z9_", 0x5a39_5f00_0000_0000),
+    fn reads_names(rt: HostRuntime) {
+        let rows: [(&[u8], &[u8], &[u8], u64, bool); 6] = [
+            (b"A", b"A", b"a", 0x4100_0000_0000_0000, false),
+            (
+                b"tarski_0",
+                b"TARSKI_0",
+                b"tarski_0",
+                0x5441_5253_4b49_5f30,
+                true,
+            ),
+            (b"Hidden", b"HIDDEN", b"hidden", 0x4849_4444_454e_0000, true),
+            (
+                b"TARSKI_A",
+                b"TARSKI_A",
+                b"tarski_a",
+                0x5441_5253_4b49_5f41,
+                true,
+            ),
+            (
+                b"HIDDEN2",
+                b"HIDDEN2",
+                b"hidden2",
+                0x4849_4444_454e_3200,
+                false,
+            ),
+            (b"z9_", b"Z9_", b"z9_", 0x5a39_5f00_0000_0000, false),
         ];
-        for (word, text, number) in rows {
-            let name = Name::read(word).map_err(|_| "refused")?;
+        for (word, text, lowered, number, built_in) in rows {
+            let name = Name::read(word).expect(&rt, "a name");
+            let spelled = name.text(rt.alloc()).expect(&rt, "memory");
+            let file = name.lowered(rt.alloc()).expect(&rt, "memory");
             assert_eq!(rt; name.number(), number);
-            assert_eq!(rt; name.text(rt.alloc())?.as_slice(), text);
+            assert_eq!(rt; spelled.as_slice(), text);
+            assert_eq!(rt; file.as_slice(), lowered);
+            assert_eq!(rt; name.is_built_in(), built_in);
         }
         let words: [&[u8]; 6] = [b"1A", b"ABCDEFGHI", b"", b"_A", b"A-B", b"\xc3\xa9"];
         for word in words {
             assert!(rt; Name::read(word).is_err());
         }
-        Ok(())
-    }
-
-    #[test]
-    fn knows_built_in_names(rt: HostRuntime) -> Result<(), Fail> {
-        let rows: [(&[u8], bool); 5] = [
-            (b"HIDDEN", true),
-            (b"tarski_0", true),
-            (b"TARSKI_A", true),
-            (b"TARSKI_B", false),
-            (b"HIDDEN2", false),
-        ];
-        for (word, expected) in rows {
-            let name = Name::read(word).map_err(|_| "refused")?;
-            assert_eq!(rt; name.is_built_in(), expected);
-        }
-        assert_eq!(rt;
-            Name::tarski_a().lowered(rt.alloc())?.as_slice(),
-            b"tarski_a".as_slice()
-        );
-        Ok(())
     }
 }

@@ -87,16 +87,14 @@ impl Names {
 #[cfg(test)]
 mod tests {
     use super::*;
-    use std::test::Fail;
 
     #[test]
-    fn grows(rt: HostRuntime) -> Result<(), Fail> {
+    fn grows(rt: HostRuntime) {
         let mut names = Names::new(rt.alloc());
-        names.push(Name::hidden())?;
-        let copy = names.copy(rt.alloc())?;
+        names.push(Name::hidden()).expect(&rt, "memory");
+        let copy = names.copy(rt.alloc()).expect(&rt, "memory");
         assert_eq!(rt; copy.len(), 1);
         assert!(rt; copy.contains(&Name::hidden()));
         assert!(rt; !copy.contains(&Name::tarski_0()));
-        Ok(())
     }
 }

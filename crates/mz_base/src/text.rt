@@ -86,17 +86,15 @@ impl Text {
 #[cfg(test)]
 mod tests {
     use super::*;
-    use std::test::Fail;
 
     #[test]
-    fn grows(rt: HostRuntime) -> Result<(), Fail> {
+    fn grows(rt: HostRuntime) {
         let mut text = Text::new(rt.alloc());
         assert!(rt; text.is_empty());
-        text.extend_from_slice(b"ab")?;
-        text.push(b'c')?;
-        let copy = text.copy(rt.alloc())?;
+        text.extend_from_slice(b"ab").expect(&rt, "memory");
+        text.push(b'c').expect(&rt, "memory");
+        let copy = text.copy(rt.alloc()).expect(&rt, "memory");
         assert_eq!(rt; copy.as_slice(), b"abc".as_slice());
         assert_eq!(rt; copy.len(), 3);
-        Ok(())
     }
 }

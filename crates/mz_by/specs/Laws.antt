@@ -1,7 +1,7 @@
 -- What a closed problem means.
 use Rattle.std.specs.Prelude.{◌≡◌, ℕ, false, List, [], ◌++◌, map}
 use Rattle.std.specs.List.{list_any}
-use Rattle.mz_logic.specs.Constants.{formula_mentions}
+use Rattle.mz_logic.specs.Constants.{occurs_in_formula}
 use Rattle.mz_logic.specs.Derives.{Derives}
 use Rattle.mz_nf.specs.declared.problem.Problem.{Problem}
 use Rattle.mz_ground.specs.declared.clause.Clause.{Clause}
@@ -11,7 +11,7 @@ use Rattle.mz_by.specs.Verdict.{IsVerdict}
 
 -- no clause, read as a formula, has a constant
 abbrev pub HaveNoConstants : List Clause → Type 0
-HaveNoConstants cs = (c : ℕ) → list_any (formula_mentions c) (map clause_formula cs) ≡ false
+HaveNoConstants cs = (c : ℕ) → list_any (occurs_in_formula c) (map clause_formula cs) ≡ false
 
 -- the conclusion derives from the premises and the clauses, without axioms
 abbrev pub IsDerived : Problem → List Clause → Type 0

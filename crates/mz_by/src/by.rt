@@ -8,8 +8,9 @@ use crate::by_verdict::ByVerdict;
 use crate::examination::Examination;
 use crate::examine::examine;
 use mz_base::limit::Limit;
-use mz_facts::facts::close;
+use mz_classes::close_classes::close_classes;
 use mz_ground::clauses::Clauses;
+use mz_ground::fact_set::FactSet;
 use mz_ground::ground::Ground;
 use mz_ground::ground_fault::GroundFault;
 use mz_ground::making::ground;
@@ -101,7 +102,7 @@ fn decide_ground(
     requires { IsGroundWithinLimits d.now clauses.now g.now }
     ensures { IfOk result (λ o. MatchOption o (IsClosedWithin d.now clauses.now) (Decides d.now clauses.now number)) }
 {
-    let facts = close(alloc, g, d, clauses)?;
+    let facts = close_classes(alloc, g, d, clauses)?;
     if facts.contradictory() {
         return Ok(None);
     }

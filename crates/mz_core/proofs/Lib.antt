@@ -1,3 +1,6 @@
-pub mod RaiseLemmas
-pub mod FillLemmas
-pub mod LocusLemmas
+pub mod TermMaps
+pub mod MapInstances
+pub mod UnderTerms
+pub mod AllLemmas
+pub mod InForceLemmas
+pub mod LawProofs

@@ -1,82 +1,37 @@
 -- What stands under n binders alone: it has no constant, and each free index is below n.
-use Rattle.std.specs.Prelude.{ℕ, zero, ◌+◌, Bool, true, false, ◌&&◌, nat_lt, List, [], ◌∷◌, length, Option, Some, None}
-use Rattle.std.specs.List.{list_all}
-use Rattle.mz_logic.specs.Term as term
-use Rattle.mz_logic.specs.Term.{Term, Terms}
+use Rattle.std.specs.Prelude.{ℕ, ◌+◌, Bool, true, false, ◌&&◌, nat_lt, List, [], ◌∷◌}
+use Rattle.mz_logic.specs.Term.{Term, Terms, Bound, Const, App, none, more}
+use Rattle.mz_logic.specs.Formula.{Formula}
 use Rattle.mz_logic.specs.declared.literal.Literal.{Literal}
-use Rattle.mz_logic.specs.declared.literal.Literal.TheVariants as literal
-use Rattle.mz_core.specs.Statement as statement
 use Rattle.mz_core.specs.Statement.{Statement}
+use Rattle.mz_core.specs.Everywhere.{adjective_all, type_all, literal_all, statement_all, formula_all}
 use Rattle.mz_core.specs.declared.adjective.Adjective.{Adjective}
-use Rattle.mz_core.specs.declared.radix.Radix.{Radix}
 use Rattle.mz_core.specs.declared.soft_type.SoftType.{SoftType}
-use Rattle.mz_core.specs.declared.field.Field.{Field}
-use Rattle.mz_core.specs.declared.formula_case.FormulaCase.{FormulaCase}
-use Rattle.mz_core.specs.declared.term_case.TermCase.{TermCase}
-use Rattle.mz_core.specs.declared.formula_definiens.FormulaDefiniens.{FormulaDefiniens}
-use Rattle.mz_core.specs.declared.formula_definiens.FormulaDefiniens.TheVariants as formula_definiens
-use Rattle.mz_core.specs.declared.term_definiens.TermDefiniens.{TermDefiniens}
-use Rattle.mz_core.specs.declared.term_definiens.TermDefiniens.TheVariants as term_definiens
-use Rattle.mz_core.specs.declared.pattern.Pattern.{Pattern}
-use Rattle.mz_core.specs.declared.notation.Meaning.{Meaning}
-use Rattle.mz_core.specs.declared.notation.Meaning.TheVariants.{OfTerm, OfLiteral, OfType}
-use Rattle.mz_core.specs.declared.notation.Notation.{Notation}
-use Rattle.mz_core.specs.declared.scheme.Scheme.{Scheme}
-use Rattle.mz_core.specs.declared.scheme_letter.SchemeLetter.{SchemeLetter}
-use Rattle.mz_core.specs.declared.scheme_letter.SchemeLetter.TheVariants.{OfFunctor, OfPredicate}
-use Rattle.mz_core.specs.declared.definition.MeansDefinition.{MeansDefinition}
-use Rattle.mz_core.specs.declared.definition.EqualsDefinition.{EqualsDefinition}
-use Rattle.mz_core.specs.declared.definition.AtomDefinition.{AtomDefinition}
-use Rattle.mz_core.specs.declared.definition.AttributeDefinition.{AttributeDefinition}
-use Rattle.mz_core.specs.declared.redefinition.FunctorMeaning.{FunctorMeaning}
-use Rattle.mz_core.specs.declared.redefinition.FunctorMeaning.TheVariants.{Means, Equals}
-use Rattle.mz_core.specs.declared.redefinition.FunctorRedefinition.{FunctorRedefinition}
-use Rattle.mz_core.specs.declared.redefinition.ModeRedefinition.{ModeRedefinition}
-use Rattle.mz_core.specs.declared.redefinition.AtomRedefinition.{AtomRedefinition}
-use Rattle.mz_core.specs.declared.property.Relation.{Relation}
-use Rattle.mz_core.specs.declared.property.Operation.{Operation}
-use Rattle.mz_core.specs.declared.property.UnaryOperation.{UnaryOperation}
-use Rattle.mz_core.specs.declared.property.PropertyForm.{PropertyForm}
-use Rattle.mz_core.specs.declared.property.PropertyForm.TheVariants.{Reflexivity, Irreflexivity, Symmetry, Asymmetry, Connectedness, Commutativity, Idempotence, Involutiveness, Projectivity, Sethood}
-use Rattle.mz_core.specs.declared.property.Property.{Property}
-use Rattle.mz_core.specs.declared.registration.ExistentialRegistration.{ExistentialRegistration}
-use Rattle.mz_core.specs.declared.registration.ConditionalRegistration.{ConditionalRegistration}
-use Rattle.mz_core.specs.declared.registration.FunctorialRegistration.{FunctorialRegistration}
-use Rattle.mz_core.specs.declared.registration.EquationRegistration.{EquationRegistration}
-use Rattle.mz_core.specs.declared.structure.Structure.{Structure}
-use Rattle.mz_core.specs.declared.set_term.SetTerm.{SetTerm}
-use Rattle.mz_core.specs.declared.set_term.Choice.{Choice}
-use Rattle.mz_core.specs.declared.item.Item.{Item}
-use Rattle.mz_core.specs.declared.item.Item.TheVariants as item
 
 abbrev mutual
   pub term_under : ℕ → Term → Bool
-  term_under n (term.Bound index) = nat_lt index n
-  term_under n (term.Const number) = false
-  term_under n (term.App s ts) = args_under n ts
+  term_under n (Bound index) = nat_lt index n
+  term_under n (Const number) = false
+  term_under n (App s ts) = args_under n ts
 
   pub args_under : ℕ → Terms → Bool
-  args_under n term.none = true
-  args_under n (term.more t ts) = term_under n t && args_under n ts
+  args_under n none = true
+  args_under n (more t ts) = term_under n t && args_under n ts
+
+abbrev pub formula_under : ℕ → Formula → Bool
+formula_under n f = formula_all term_under n f
 
 abbrev pub literal_under : ℕ → Literal → Bool
-literal_under n (literal.Atom positive s ts) = list_all (term_under n) ts
-literal_under n (literal.Eq positive t u) = term_under n t && term_under n u
+literal_under n l = literal_all term_under n l
 
 abbrev pub adjective_under : ℕ → Adjective → Bool
-adjective_under n a = list_all (term_under n) a.args
+adjective_under n a = adjective_all term_under n a
 
 abbrev pub type_under : ℕ → SoftType → Bool
-type_under n ty = list_all (adjective_under n) ty.adjectives && list_all (term_under n) ty.radix.args
+type_under n ty = type_all term_under n ty
 
--- the body of a quantifier stands under one more, its type does not
 abbrev pub statement_under : ℕ → Statement → Bool
-statement_under n statement.Truth = true
-statement_under n (statement.Eq t u) = term_under n t && term_under n u
-statement_under n (statement.Atom s ts) = list_all (term_under n) ts
-statement_under n (statement.Not s) = statement_under n s
-statement_under n (statement.And s t) = statement_under n s && statement_under n t
-statement_under n (statement.For ty s) = type_under n ty && statement_under (n + 1) s
+statement_under n s = statement_all term_under n s
 
 -- each type stands under those before it
 abbrev pub loci_under : ℕ → List SoftType → Bool
@@ -85,163 +40,3 @@ loci_under n (ty ∷ tys) = type_under n ty && loci_under (n + 1) tys
 
 abbrev pub loci_closed : List SoftType → Bool
 loci_closed = loci_under 0
-
--- conditions stand under n binders, definientia under `inner`
-abbrev pub formula_case_under : ℕ → ℕ → FormulaCase → Bool
-formula_case_under n inner c = statement_under n c.condition && statement_under inner c.definiens
-
-abbrev pub formula_definiens_under : ℕ → ℕ → FormulaDefiniens → Bool
-formula_definiens_under n inner (formula_definiens.Plain s) = statement_under inner s
-formula_definiens_under n inner (formula_definiens.Cases cs) = list_all (formula_case_under n inner) cs
-formula_definiens_under n inner (formula_definiens.CasesOtherwise cs s) =
-    list_all (formula_case_under n inner) cs && statement_under inner s
-
-abbrev pub term_case_under : ℕ → TermCase → Bool
-term_case_under n c = statement_under n c.condition && term_under n c.definiens
-
-abbrev pub term_definiens_under : ℕ → TermDefiniens → Bool
-term_definiens_under n (term_definiens.Plain t) = term_under n t
-term_definiens_under n (term_definiens.Cases cs) = list_all (term_case_under n) cs
-term_definiens_under n (term_definiens.CasesOtherwise cs t) = list_all (term_case_under n) cs && term_under n t
-
-abbrev pub meaning_under : ℕ → Meaning → Bool
-meaning_under n (OfTerm t) = term_under n t
-meaning_under n (OfLiteral l) = literal_under n l
-meaning_under n (OfType ty) = type_under n ty
-
-abbrev pub notation_closed : Notation → Bool
-notation_closed x = loci_closed x.pattern.loci && meaning_under (length x.pattern.loci) x.meaning
-
-abbrev pub letter_closed : SchemeLetter → Bool
-letter_closed (OfFunctor s places ty) = loci_closed places && type_under (length places) ty
-letter_closed (OfPredicate s places) = loci_closed places
-
-abbrev pub scheme_closed : Scheme → Bool
-scheme_closed s =
-    list_all letter_closed s.letters && list_all (statement_under 0) s.premises && statement_under 0 s.conclusion
-
--- after `means` of a functor or a mode the definiens stands under one more binder, that of `it`
-abbrev pub means_closed : MeansDefinition → Bool
-means_closed d =
-    loci_closed d.pattern.loci && type_under (length d.pattern.loci) d.ty && formula_definiens_under (length d.pattern.loci) (length d.pattern.loci + 1) d.definiens
-
-abbrev pub equals_closed : EqualsDefinition → Bool
-equals_closed d =
-    loci_closed d.pattern.loci && type_under (length d.pattern.loci) d.ty && term_definiens_under (length d.pattern.loci) d.definiens
-
-abbrev pub atom_closed : AtomDefinition → Bool
-atom_closed d =
-    loci_closed d.pattern.loci && formula_definiens_under (length d.pattern.loci) (length d.pattern.loci) d.definiens
-
-abbrev pub attribute_closed : AttributeDefinition → Bool
-attribute_closed d =
-    loci_closed d.pattern.loci && formula_definiens_under (length d.pattern.loci) (length d.pattern.loci) d.definiens
-
-abbrev pub type_if_any_under : ℕ → Option SoftType → Bool
-type_if_any_under n None = true
-type_if_any_under n (Some ty) = type_under n ty
-
-abbrev pub functor_meaning_under : ℕ → Option FunctorMeaning → Bool
-functor_meaning_under n None = true
-functor_meaning_under n (Some (Means d)) = formula_definiens_under n (n + 1) d
-functor_meaning_under n (Some (Equals d)) = term_definiens_under n d
-
-abbrev pub formula_meaning_under : ℕ → ℕ → Option FormulaDefiniens → Bool
-formula_meaning_under n inner None = true
-formula_meaning_under n inner (Some d) = formula_definiens_under n inner d
-
-abbrev pub functor_redefinition_under : ℕ → FunctorRedefinition → Bool
-functor_redefinition_under n d =
-    term_under n d.term && type_under n d.old && type_if_any_under n d.ty && functor_meaning_under n d.meaning
-
-abbrev pub mode_redefinition_under : ℕ → ModeRedefinition → Bool
-mode_redefinition_under n d =
-    type_under n d.mode && type_under n d.old && type_if_any_under n d.ty && formula_meaning_under n (n + 1) d.meaning
-
-abbrev pub atom_redefinition_under : ℕ → AtomRedefinition → Bool
-atom_redefinition_under n d = literal_under n d.literal && formula_meaning_under n n d.meaning
-
--- the places of a property are indices of its loci
-abbrev pub relation_under : ℕ → Relation → Bool
-relation_under n r = literal_under n r.literal && nat_lt r.left n && nat_lt r.right n
-
-abbrev pub operation_under : ℕ → Operation → Bool
-operation_under n o = term_under n o.term && nat_lt o.left n && nat_lt o.right n
-
-abbrev pub unary_operation_under : ℕ → UnaryOperation → Bool
-unary_operation_under n o = term_under n o.term && nat_lt o.place n
-
-abbrev pub property_form_under : ℕ → PropertyForm → Bool
-property_form_under n (Reflexivity r) = relation_under n r
-property_form_under n (Irreflexivity r) = relation_under n r
-property_form_under n (Symmetry r) = relation_under n r
-property_form_under n (Asymmetry r) = relation_under n r
-property_form_under n (Connectedness r) = relation_under n r
-property_form_under n (Commutativity o) = operation_under n o
-property_form_under n (Idempotence o) = operation_under n o
-property_form_under n (Involutiveness o) = unary_operation_under n o
-property_form_under n (Projectivity o) = unary_operation_under n o
-property_form_under n (Sethood s) = true
-
-abbrev pub property_closed : Property → Bool
-property_closed p = loci_closed p.loci && property_form_under (length p.loci) p.form
-
-abbrev pub existential_under : ℕ → ExistentialRegistration → Bool
-existential_under n r = list_all (adjective_under n) r.adjectives && type_under n r.ty
-
-abbrev pub conditional_under : ℕ → ConditionalRegistration → Bool
-conditional_under n r = list_all (adjective_under n) r.from && list_all (adjective_under n) r.to && type_under n r.ty
-
-abbrev pub functorial_under : ℕ → FunctorialRegistration → Bool
-functorial_under n r = term_under n r.term && list_all (adjective_under n) r.adjectives && type_if_any_under n r.ty
-
-abbrev pub equation_closed : EquationRegistration → Bool
-equation_closed r = loci_closed r.loci && term_under (length r.loci) r.left && term_under (length r.loci) r.right
-
--- a field's type stands under the loci, the object and one binder for each field
-abbrev pub field_under : ℕ → Field → Bool
-field_under n f = type_under n f.ty
-
-abbrev pub structure_closed : Structure → Bool
-structure_closed s =
-    loci_closed s.loci && list_all (type_under (length s.loci)) s.ancestors && list_all (field_under (length s.loci + 1 + length s.fields)) s.fields && list_all notation_closed s.notations
-
--- the term and the formula of a set term stand under one more binder, that of its variable
-abbrev pub set_term_closed : SetTerm → Bool
-set_term_closed s =
-    loci_closed s.loci && type_under (length s.loci) s.ty && term_under (length s.loci + 1) s.term && statement_under (length s.loci + 1) s.formula
-
-abbrev pub choice_closed : Choice → Bool
-choice_closed c = loci_closed c.loci && type_under (length c.loci) c.ty
-
--- the item has no constant, and each index in it belongs to a quantifier, a variable, a locus or an
--- argument's place of the item
-abbrev pub item_closed : Item → Bool
-item_closed (item.Axiom s) = statement_under 0 s
-item_closed (item.AxiomScheme s) = scheme_closed s
-item_closed (item.Primitive x) = notation_closed x
-item_closed (item.Theorem s) = statement_under 0 s
-item_closed (item.Scheme s) = scheme_closed s
-item_closed (item.FunctorMeans d) = means_closed d
-item_closed (item.FunctorEquals d) = equals_closed d
-item_closed (item.Predicate d) = atom_closed d
-item_closed (item.Attribute d) = attribute_closed d
-item_closed (item.ModeMeans d) = means_closed d
-item_closed (item.Abbreviation x) = notation_closed x
-item_closed (item.Notation x) = notation_closed x
-item_closed (item.RedefinedFunctor d) =
-    loci_closed d.pattern.loci && functor_redefinition_under (length d.pattern.loci) d
-item_closed (item.RedefinedMode d) = loci_closed d.pattern.loci && mode_redefinition_under (length d.pattern.loci) d
-item_closed (item.RedefinedPredicate d) =
-    loci_closed d.pattern.loci && atom_redefinition_under (length d.pattern.loci) d
-item_closed (item.RedefinedAttribute d) =
-    loci_closed d.pattern.loci && atom_redefinition_under (length d.pattern.loci) d
-item_closed (item.Property p) = property_closed p
-item_closed (item.Existential r) = loci_closed r.loci && existential_under (length r.loci) r
-item_closed (item.Conditional r) = loci_closed r.loci && conditional_under (length r.loci) r
-item_closed (item.Functorial r) = loci_closed r.loci && functorial_under (length r.loci) r
-item_closed (item.Reduction r) = equation_closed r
-item_closed (item.Identification r) = equation_closed r
-item_closed (item.Structure s) = structure_closed s
-item_closed (item.SetTerm s) = set_term_closed s
-item_closed (item.Choice c) = choice_closed c

@@ -1,5 +1,5 @@
 //! Adjectives of types.
-ghost use Rattle.std.specs.Prelude.{◌≡◌, IfOk};
+ghost use Rattle.std.specs.Prelude.{◌≡◌, ◌↔◌, IsTrue, IfOk};
 
 use mz_logic::sym::Sym;
 use mz_logic::term::Terms;
@@ -24,5 +24,12 @@ impl Adjective {
             sym: self.sym,
             args,
         })
+    }
+
+    /// Whether the adjectives are equal.
+    pub fn equals(&self, other: &Adjective) -> bool
+        ensures { IsTrue result ↔ (self.now ≡ other.now) }
+    {
+        self.positive == other.positive && self.sym.is(other.sym) && self.args.equals(&other.args)
     }
 }

@@ -1,5 +1,5 @@
 //! Lists of notations.
-ghost use Rattle.std.specs.Prelude.{◌≡◌, ◌++◌, ◌∷◌, [], OnOk, OnErr};
+ghost use Rattle.std.specs.Prelude.{◌≡◌, ◌++◌, ◌∷◌, [], IfOk, OnOk, OnErr};
 
 use crate::notation::Notation;
 use std::alloc::{AllocError, Global};
@@ -41,5 +41,16 @@ impl Notations {
     {
         self.items.push(x)?;
         Ok(())
+    }
+
+    /// An equal list.
+    pub fn copy(&self, alloc: Global) -> Result<Notations, AllocError>
+        ensures { IfOk result (λ xs. xs ≡ self.now) }
+    {
+        let mut out = Vec::new(alloc);
+        for x in &self.items {
+            out.push(x.copy(alloc)?)?;
+        }
+        Ok(Notations { items: out })
     }
 }

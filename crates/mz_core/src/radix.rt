@@ -1,5 +1,5 @@
 //! Radices of types.
-ghost use Rattle.std.specs.Prelude.{◌≡◌, IfOk};
+ghost use Rattle.std.specs.Prelude.{◌≡◌, ◌↔◌, IsTrue, IfOk};
 
 use mz_logic::sym::Sym;
 use mz_logic::term::Terms;
@@ -22,5 +22,12 @@ impl Radix {
             sym: self.sym,
             args,
         })
+    }
+
+    /// Whether the radices are equal.
+    pub fn equals(&self, other: &Radix) -> bool
+        ensures { IsTrue result ↔ (self.now ≡ other.now) }
+    {
+        self.sym.is(other.sym) && self.args.equals(&other.args)
     }
 }

@@ -1,5 +1,5 @@
 //! Types of the language.
-ghost use Rattle.std.specs.Prelude.{◌≡◌, IfOk};
+ghost use Rattle.std.specs.Prelude.{◌≡◌, ◌↔◌, IsTrue, IfOk};
 
 use crate::adjectives::Adjectives;
 use crate::radix::Radix;
@@ -20,5 +20,12 @@ impl SoftType {
         let adjectives = self.adjectives.copy(alloc)?;
         let radix = self.radix.copy(alloc)?;
         Ok(SoftType { adjectives, radix })
+    }
+
+    /// Whether the types are equal, the order of adjectives included.
+    pub fn equals(&self, other: &SoftType) -> bool
+        ensures { IsTrue result ↔ (self.now ≡ other.now) }
+    {
+        self.adjectives.equals(&other.adjectives) && self.radix.equals(&other.radix)
     }
 }

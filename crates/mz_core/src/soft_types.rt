@@ -1,5 +1,5 @@
 //! Lists of types.
-ghost use Rattle.std.specs.Prelude.{◌≡◌, ◌++◌, ◌∷◌, [], IfOk, OnOk, OnErr};
+ghost use Rattle.std.specs.Prelude.{◌≡◌, ◌↔◌, IsTrue, ◌++◌, ◌∷◌, [], IfOk, OnOk, OnErr};
 
 use crate::soft_type::SoftType;
 use std::alloc::{AllocError, Global};
@@ -52,5 +52,20 @@ impl SoftTypes {
             out.push(x.copy(alloc)?)?;
         }
         Ok(SoftTypes { items: out })
+    }
+
+    /// Whether the lists are equal.
+    pub fn equals(&self, other: &SoftTypes) -> bool
+        ensures { IsTrue result ↔ (self.now ≡ other.now) }
+    {
+        if self.items.len() != other.items.len() {
+            return false;
+        }
+        for i in 0..self.items.len() {
+            if !self.items[i].equals(&other.items[i]) {
+                return false;
+            }
+        }
+        true
     }
 }

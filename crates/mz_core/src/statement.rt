@@ -1,5 +1,5 @@
 //! Statements: formulas whose quantifiers keep their types.
-ghost use Rattle.std.specs.Prelude.{◌≡◌, IfOk};
+ghost use Rattle.std.specs.Prelude.{◌≡◌, ◌↔◌, IsTrue, IfOk};
 ghost use Rattle.mz_core.specs.Statement.{Statement, Truth, Eq, Atom, Not, And, For};
 
 use crate::soft_type::SoftType;
@@ -28,7 +28,8 @@ pub enum StatementNode {
 }
 
 impl Model for Statement {
-    ghost use Rattle.mz_core.specs.Statement.{Statement, statement_code, statement_size};
+    ghost use Rattle.mz_core.specs.Statement.{Statement};
+    ghost use Rattle.mz_core.specs.StatementStorage.{statement_code, statement_size};
 
     ghost Value = { Statement };
 
@@ -40,9 +41,9 @@ impl Model for Statement {
 
     ghost size = { statement_size };
 
-    ghost use Rattle.mz_core.specs.StatementFalls.{statement_falls};
+    ghost use Rattle.mz_core.specs.StatementDecreases.{statement_decreases};
 
-    ghost size_decreases = { λ a h. statement_falls a.node };
+    ghost size_decreases = { λ a h. statement_decreases a.node };
 }
 
 impl Statement {
@@ -133,6 +134,23 @@ impl Statement {
                 let s = s.copy(alloc)?;
                 Statement::each(alloc, ty, s)
             }
+        }
+    }
+
+    /// Whether the statements are equal.
+    pub fn equals(&self, other: &Statement) -> bool
+        ensures { IsTrue result ↔ (self.now ≡ other.now) }
+    {
+        match (&self.node, &other.node) {
+            (StatementNode::Truth, StatementNode::Truth) => true,
+            (StatementNode::Eq(t, u), StatementNode::Eq(v, w)) => t.equals(v) && u.equals(w),
+            (StatementNode::Atom(r, ts), StatementNode::Atom(s, us)) => r.is(*s) && ts.equals(us),
+            (StatementNode::Not(s), StatementNode::Not(t)) => s.equals(t),
+            (StatementNode::And(s, t), StatementNode::And(u, v)) => s.equals(u) && t.equals(v),
+            (StatementNode::For(ty, s), StatementNode::For(other, t)) => {
+                ty.equals(other) && s.equals(t)
+            }
+            _ => false,
         }
     }
 }

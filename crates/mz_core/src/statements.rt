@@ -1,5 +1,5 @@
 //! Lists of statements.
-ghost use Rattle.std.specs.Prelude.{◌≡◌, ◌++◌, ◌∷◌, [], IfOk, OnOk, OnErr};
+ghost use Rattle.std.specs.Prelude.{◌≡◌, ◌↔◌, IsTrue, ◌++◌, ◌∷◌, [], IfOk, OnOk, OnErr};
 
 use crate::statement::Statement;
 use std::alloc::{AllocError, Global};
@@ -14,7 +14,8 @@ pub struct Statements {
 impl Model for Statements {
     ghost use Rattle.std.specs.Prelude.{List};
     ghost use Rattle.std.specs.Coded.{coded_list};
-    ghost use Rattle.mz_core.specs.Statement.{Statement, statement_code};
+    ghost use Rattle.mz_core.specs.Statement.{Statement};
+    ghost use Rattle.mz_core.specs.StatementStorage.{statement_code};
 
     ghost Value = { List Statement };
 
@@ -51,5 +52,20 @@ impl Statements {
             out.push(x.copy(alloc)?)?;
         }
         Ok(Statements { items: out })
+    }
+
+    /// Whether the lists are equal.
+    pub fn equals(&self, other: &Statements) -> bool
+        ensures { IsTrue result ↔ (self.now ≡ other.now) }
+    {
+        if self.items.len() != other.items.len() {
+            return false;
+        }
+        for i in 0..self.items.len() {
+            if !self.items[i].equals(&other.items[i]) {
+                return false;
+            }
+        }
+        true
     }
 }

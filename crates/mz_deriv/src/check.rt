@@ -1,7 +1,8 @@
-// The check of a whole derivation.
+//! The check of a whole derivation.
 ghost use Rattle.std.specs.Prelude.{◌≡◌, ◌↔◌, IsTrue, All};
-ghost use Rattle.mz_logic.specs.Derivation.{root, roots, derivations_of};
-ghost use Rattle.mz_logic.specs.Derives.{Derives, FollowsBy, IsRight};
+ghost use Rattle.mz_logic.specs.Derivation.{root, roots};
+ghost use Rattle.mz_logic.specs.DerivationStorage.{derivations_of};
+ghost use Rattle.mz_logic.specs.Derives.{Derives, FollowsBy, IsValid};
 
 use crate::derivation::{Derivation, Derivations};
 use crate::node::{follows_alone, follows_from_one, follows_from_two};
@@ -14,26 +15,26 @@ use mz_logic::sequent::Sequent;
 /// premises. Nothing is built. It recurs by the derivation's depth, as do copying and dropping one.
 #[tactic(auto, using(crate::proofs::CheckLemmas::sound_rules))]
 pub fn check_derivation(axioms: &Formulas, d: &Derivation) -> bool
-    ensures right { IsTrue result ↔ IsRight axioms.now d.now }
+    ensures valid { IsTrue result ↔ IsValid axioms.now d.now }
     ensures derives { IsTrue result → Derives axioms.now (root d.now).premises (root d.now).conclusion }
 {
-    is_right(axioms, d)
+    is_valid(axioms, d)
 }
 
 #[cycle(check)]
-#[tactic(auto, using(crate::proofs::CheckLemmas::check_rules), unfolding(mz_logic::specs::Derives::IsRight))]
-fn is_right(axioms: &Formulas, d: &Derivation) -> bool
-    ensures { IsTrue result ↔ IsRight axioms.now d.now }
+#[tactic(auto, using(crate::proofs::CheckLemmas::check_rules), unfolding(mz_logic::specs::Derives::IsValid))]
+fn is_valid(axioms: &Formulas, d: &Derivation) -> bool
+    ensures { IsTrue result ↔ IsValid axioms.now d.now }
 {
-    follows(axioms, &d.rule, &d.conclusion, &d.parents) && are_right(axioms, &d.parents)
+    follows(axioms, &d.rule, &d.conclusion, &d.parents) && are_valid(axioms, &d.parents)
 }
 
 #[cycle(check)]
-fn are_right(axioms: &Formulas, ds: &Derivations) -> bool
-    ensures { IsTrue result ↔ All (IsRight axioms.now) ds.now }
+fn are_valid(axioms: &Formulas, ds: &Derivations) -> bool
+    ensures { IsTrue result ↔ All (IsValid axioms.now) ds.now }
 {
     for d in &ds.items {
-        if !is_right(axioms, d) {
+        if !is_valid(axioms, d) {
             return false;
         }
     }

@@ -1,6 +1,7 @@
-// Derivations.
+//! Derivations.
 ghost use Rattle.std.specs.Prelude.{◌≡◌, ◌<◌, List, [], ◌∷◌, ◌++◌, length, slice_get, Some, IfOk, OnOk, OnErr};
-ghost use Rattle.mz_logic.specs.Derivation.{Derivation, Node, derivations_of};
+ghost use Rattle.mz_logic.specs.Derivation.{Derivation, Node};
+ghost use Rattle.mz_logic.specs.DerivationStorage.{derivations_of};
 
 use mz_logic::rule::Rule;
 use mz_logic::sequent::Sequent;
@@ -25,7 +26,8 @@ pub struct Derivations {
 }
 
 impl Model for Derivation {
-    ghost use Rattle.mz_logic.specs.Derivation.{Derivation, Node, derivations_of, derivation_code, size_of};
+    ghost use Rattle.mz_logic.specs.Derivation.{Derivation, Node};
+    ghost use Rattle.mz_logic.specs.DerivationStorage.{derivations_of, derivation_code, size_of};
     ghost use Rattle.std.proofs.Common.{arith};
 
     ghost Value = { Derivation };
@@ -43,7 +45,8 @@ impl Model for Derivations {
     ghost use Rattle.std.specs.Prelude.{List};
     ghost use Rattle.std.proofs.Common.{arith};
     ghost use Rattle.std.specs.Coded.{coded_list};
-    ghost use Rattle.mz_logic.specs.Derivation.{Derivation, derivation_code, sizes_of, most_le-sizes_of};
+    ghost use Rattle.mz_logic.specs.Derivation.{Derivation};
+    ghost use Rattle.mz_logic.specs.DerivationStorage.{derivation_code, sizes_of, most_le-sizes_of};
 
     ghost Value = { List Derivation };
 

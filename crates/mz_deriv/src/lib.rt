@@ -1,4 +1,4 @@
-// Derivations and their check.
+//! Derivations and their check.
 #![tactic(auto)]
 
 pub mod check;

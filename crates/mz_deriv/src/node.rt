@@ -1,7 +1,7 @@
-// The check of one node of a derivation, rule by rule.
+//! The check of one node of a derivation, rule by rule.
 ghost use Rattle.std.specs.Prelude.{◌≡◌, ◌↔◌, ◌∷◌, ◌≤◌, ◌-◌, IsTrue, [], true, false, map, slice_get, Some};
 ghost use Rattle.std.specs.List.{list_any};
-ghost use Rattle.mz_logic.specs.Constants.{formula_mentions};
+ghost use Rattle.mz_logic.specs.Constants.{occurs_in_formula};
 ghost use Rattle.mz_logic.specs.Derives.{FollowsBy, Gives, GivesFrom};
 ghost use Rattle.mz_logic.specs.Forms.{IfAll, IfAnd, IfEq, IfNot};
 ghost use Rattle.mz_logic.specs.Formula.{Not, Truth};
@@ -206,14 +206,14 @@ fn is_classical(s: &Sequent, p: &Sequent) -> bool
 
 #[tactic(auto, unfolding(mz_logic::specs::Derives::Gives))]
 fn is_general(s: &Sequent, p: &Sequent, c: u32) -> bool
-    ensures { IsTrue result ↔ IfAll s.now.conclusion (λ b. Gives s.now p.now (body_at b (Const c)) × (list_any (formula_mentions c) s.now.premises ≡ false) × (formula_mentions c b ≡ false)) }
+    ensures { IsTrue result ↔ IfAll s.now.conclusion (λ b. Gives s.now p.now (body_at b (Const c)) × (list_any (occurs_in_formula c) s.now.premises ≡ false) × (occurs_in_formula c b ≡ false)) }
 {
     match &s.conclusion.node {
         FormulaNode::All(b) => {
             p.premises.equals(&s.premises)
                 && is_body_at(&p.conclusion, b, &Term::constant(c))
-                && !s.premises.mention(c)
-                && !b.mentions(c)
+                && !s.premises.have_constant(c)
+                && !b.has_constant(c)
         }
         _ => false,
     }

@@ -1,4 +1,4 @@
-// Trees that are right and trees that are wrong, for each rule.
+//! Trees that are right and trees that are wrong, for each rule.
 
 use crate::check::check_derivation;
 use crate::derivation::{Derivation, Derivations};
@@ -12,8 +12,9 @@ use mz_logic::sequent::Sequent;
 use mz_logic::sequents::Sequents;
 use mz_logic::sym::Sym;
 use mz_logic::term::{Term, TermNode, Terms};
-use std::alloc::{AllocError, Global};
+use std::alloc::Global;
 use std::mem;
+use std::process::Abort;
 use std::test::Fail;
 
 // A derivation is written in postfix notation. A digit is a constant; `x`, `y` are the indices 0
@@ -39,91 +40,101 @@ fn sym(kind: Kind) -> Sym {
 }
 
 impl Stack {
-    fn term(&mut self) -> Result<Term, AllocError> {
-        self.terms.items.pop().ok_or(AllocError)
+    fn term(&mut self, rt: &impl Abort) -> Term {
+        self.terms.items.pop().expect(rt, "a term")
     }
 
-    fn formula(&mut self) -> Result<Formula, AllocError> {
-        self.formulas.items.pop().ok_or(AllocError)
+    fn formula(&mut self, rt: &impl Abort) -> Formula {
+        self.formulas.items.pop().expect(rt, "a formula")
     }
 
-    fn number(&mut self) -> Result<u32, AllocError> {
-        match self.term()?.node {
-            TermNode::Const(number) => Ok(number),
-            _ => Err(AllocError),
+    fn number(&mut self, rt: &impl Abort) -> u32 {
+        match self.term(rt).node {
+            TermNode::Const(number) => number,
+            _ => 0,
         }
     }
 
-    fn args(&mut self, alloc: Global) -> Result<Terms, AllocError> {
-        let t = self.term()?;
+    fn args(&mut self, rt: &impl Abort, alloc: Global) -> Terms {
+        let t = self.term(rt);
         let mut args = Terms::new(alloc);
-        args.push(t)?;
-        Ok(args)
+        args.push(t).expect(rt, "memory");
+        args
     }
 
-    fn apply(&mut self, alloc: Global, kind: Kind) -> Result<(), AllocError> {
-        let args = self.args(alloc)?;
-        self.terms.push(Term::apply(sym(kind), args))
+    fn apply(&mut self, rt: &impl Abort, alloc: Global, kind: Kind) {
+        let args = self.args(rt, alloc);
+        self.terms
+            .push(Term::apply(sym(kind), args))
+            .expect(rt, "memory");
     }
 
-    fn atom(&mut self, alloc: Global, kind: Kind) -> Result<(), AllocError> {
-        let args = self.args(alloc)?;
-        self.formulas.push(Formula::atom(sym(kind), args))
+    fn add(&mut self, rt: &impl Abort, f: Formula) {
+        self.formulas.push(f).expect(rt, "memory");
     }
 
-    fn equation(&mut self) -> Result<(), AllocError> {
-        let right = self.term()?;
-        let left = self.term()?;
-        self.formulas.push(Formula::equation(left, right))
+    fn atom(&mut self, rt: &impl Abort, alloc: Global, kind: Kind) {
+        let args = self.args(rt, alloc);
+        self.add(rt, Formula::atom(sym(kind), args));
     }
 
-    fn negate(&mut self, alloc: Global) -> Result<(), AllocError> {
-        let f = self.formula()?;
-        self.formulas.push(Formula::not(alloc, f)?)
+    fn equation(&mut self, rt: &impl Abort) {
+        let right = self.term(rt);
+        let left = self.term(rt);
+        self.add(rt, Formula::equation(left, right));
     }
 
-    fn join(&mut self, alloc: Global) -> Result<(), AllocError> {
-        let g = self.formula()?;
-        let f = self.formula()?;
-        self.formulas.push(Formula::and(alloc, f, g)?)
+    fn negate(&mut self, rt: &impl Abort, alloc: Global) {
+        let f = self.formula(rt);
+        let f = Formula::not(alloc, f).expect(rt, "memory");
+        self.add(rt, f);
     }
 
-    fn quantify(&mut self, alloc: Global) -> Result<(), AllocError> {
-        let f = self.formula()?;
-        self.formulas.push(Formula::all(alloc, f)?)
+    fn join(&mut self, rt: &impl Abort, alloc: Global) {
+        let g = self.formula(rt);
+        let f = self.formula(rt);
+        let f = Formula::and(alloc, f, g).expect(rt, "memory");
+        self.add(rt, f);
     }
 
-    fn define(&mut self, kind: Kind, body: Body) -> Result<(), AllocError> {
-        self.letters.push(Letter {
+    fn quantify(&mut self, rt: &impl Abort, alloc: Global) {
+        let f = self.formula(rt);
+        let f = Formula::all(alloc, f).expect(rt, "memory");
+        self.add(rt, f);
+    }
+
+    fn define(&mut self, rt: &impl Abort, kind: Kind, body: Body) {
+        let letter = Letter {
             letter: sym(kind),
             body,
-        })
+        };
+        self.letters.push(letter).expect(rt, "memory");
     }
 
-    fn rule(&mut self, alloc: Global, byte: u8) -> Result<Rule, AllocError> {
+    fn rule(&mut self, rt: &impl Abort, alloc: Global, byte: u8) -> Rule {
         match byte {
-            b'h' => Ok(Rule::Hypothesis),
-            b'w' => Ok(Rule::Weaken),
-            b't' => Ok(Rule::Truth),
-            b'a' => Ok(Rule::AndIn),
-            b'l' => Ok(Rule::AndLeft),
-            b'r' => Ok(Rule::AndRight),
-            b'n' => Ok(Rule::NotIn),
-            b'o' => Ok(Rule::NotOut),
-            b'k' => Ok(Rule::Classical),
-            b'g' => Ok(Rule::AllIn(self.number()?)),
-            b'i' => Ok(Rule::AllOut(self.term()?)),
-            b'e' => Ok(Rule::Reflexive),
-            b's' => Ok(Rule::Replace),
-            b'u' => Ok(Rule::Cut),
-            b'q' => Ok(Rule::Axiom(self.number()?)),
-            _ => Ok(Rule::Instance(self.letters.copy(alloc)?)),
+            b'h' => Rule::Hypothesis,
+            b'w' => Rule::Weaken,
+            b't' => Rule::Truth,
+            b'a' => Rule::AndIn,
+            b'l' => Rule::AndLeft,
+            b'r' => Rule::AndRight,
+            b'n' => Rule::NotIn,
+            b'o' => Rule::NotOut,
+            b'k' => Rule::Classical,
+            b'g' => Rule::AllIn(self.number(rt)),
+            b'i' => Rule::AllOut(self.term(rt)),
+            b'e' => Rule::Reflexive,
+            b's' => Rule::Replace,
+            b'u' => Rule::Cut,
+            b'q' => Rule::Axiom(self.number(rt)),
+            _ => Rule::Instance(self.letters.copy(alloc).expect(rt, "memory")),
         }
     }
 
-    fn node(&mut self, alloc: Global, byte: u8) -> Result<(), AllocError> {
-        let rule = self.rule(alloc, byte)?;
-        let conclusion = self.formula()?;
+    fn node(&mut self, rt: &impl Abort, alloc: Global, byte: u8) {
+        let rule = self.rule(rt, alloc, byte);
+        let conclusion = self.formula(rt);
         let premises = mem::replace(&mut self.formulas, Formulas::new(alloc));
         let parents = match byte {
             b'h' | b't' | b'e' | b'q' => Derivations::new(alloc),
@@ -133,53 +144,56 @@ impl Stack {
             premises,
             conclusion,
         };
-        self.trees.push(Derivation::new(rule, sequent, parents))
+        self.trees
+            .push(Derivation::new(rule, sequent, parents))
+            .expect(rt, "memory");
     }
 
-    fn read_term(&mut self, alloc: Global, byte: u8) -> Result<(), AllocError> {
+    fn read_term(&mut self, rt: &impl Abort, alloc: Global, byte: u8) {
+        let t = match byte {
+            b'0'..=b'9' => Term::constant((byte - b'0') as u32),
+            b'x'..=b'y' => Term::bound((byte - b'x') as u32),
+            b'f' => return self.apply(rt, alloc, Kind::Functor),
+            _ => return self.apply(rt, alloc, Kind::LetterFunctor),
+        };
+        self.terms.push(t).expect(rt, "memory");
+    }
+
+    fn read_formula(&mut self, rt: &impl Abort, alloc: Global, byte: u8) {
         match byte {
-            b'0'..=b'9' => self.terms.push(Term::constant((byte - b'0') as u32)),
-            b'x'..=b'y' => self.terms.push(Term::bound((byte - b'x') as u32)),
-            b'f' => self.apply(alloc, Kind::Functor),
-            _ => self.apply(alloc, Kind::LetterFunctor),
+            b'P' => self.atom(rt, alloc, Kind::Predicate),
+            b'Q' => self.atom(rt, alloc, Kind::LetterPredicate),
+            b'=' => self.equation(rt),
+            b'T' => self.add(rt, Formula::truth()),
+            b'!' => self.negate(rt, alloc),
+            b'&' => self.join(rt, alloc),
+            _ => self.quantify(rt, alloc),
         }
     }
 
-    fn read_formula(&mut self, alloc: Global, byte: u8) -> Result<(), AllocError> {
+    fn read_term_body(&mut self, rt: &impl Abort) {
+        let t = self.term(rt);
+        self.define(rt, Kind::LetterFunctor, Body::OfTerm(t));
+    }
+
+    fn read_formula_body(&mut self, rt: &impl Abort) {
+        let f = self.formula(rt);
+        self.define(rt, Kind::LetterPredicate, Body::OfFormula(f));
+    }
+
+    fn read(&mut self, rt: &impl Abort, alloc: Global, byte: u8) {
         match byte {
-            b'P' => self.atom(alloc, Kind::Predicate),
-            b'Q' => self.atom(alloc, Kind::LetterPredicate),
-            b'=' => self.equation(),
-            b'T' => self.formulas.push(Formula::truth()),
-            b'!' => self.negate(alloc),
-            b'&' => self.join(alloc),
-            _ => self.quantify(alloc),
-        }
-    }
-
-    fn read_term_body(&mut self) -> Result<(), AllocError> {
-        let t = self.term()?;
-        self.define(Kind::LetterFunctor, Body::OfTerm(t))
-    }
-
-    fn read_formula_body(&mut self) -> Result<(), AllocError> {
-        let f = self.formula()?;
-        self.define(Kind::LetterPredicate, Body::OfFormula(f))
-    }
-
-    fn read(&mut self, alloc: Global, byte: u8) -> Result<(), AllocError> {
-        match byte {
-            b' ' => Ok(()),
-            b'0'..=b'9' | b'x' | b'y' | b'f' | b'F' => self.read_term(alloc, byte),
-            b'P' | b'Q' | b'=' | b'T' | b'!' | b'&' | b'A' => self.read_formula(alloc, byte),
-            b'd' => self.read_term_body(),
-            b'D' => self.read_formula_body(),
-            _ => self.node(alloc, byte),
+            b' ' => {}
+            b'0'..=b'9' | b'x' | b'y' | b'f' | b'F' => self.read_term(rt, alloc, byte),
+            b'P' | b'Q' | b'=' | b'T' | b'!' | b'&' | b'A' => self.read_formula(rt, alloc, byte),
+            b'd' => self.read_term_body(rt),
+            b'D' => self.read_formula_body(rt),
+            _ => self.node(rt, alloc, byte),
         }
     }
 }
 
-fn stack_of(alloc: Global, text: &str) -> Result<Stack, AllocError> {
+fn stack_of(rt: &impl Abort, alloc: Global, text: &str) -> Stack {
     let mut stack = Stack {
         terms: Terms::new(alloc),
         formulas: Formulas::new(alloc),
@@ -187,34 +201,44 @@ fn stack_of(alloc: Global, text: &str) -> Result<Stack, AllocError> {
         trees: Derivations::new(alloc),
     };
     for byte in text.as_bytes() {
-        stack.read(alloc, *byte)?;
+        stack.read(rt, alloc, *byte);
     }
-    Ok(stack)
+    stack
 }
 
-fn roots(alloc: Global, ds: &Derivations) -> Result<Sequents, AllocError> {
+fn roots(rt: &impl Abort, alloc: Global, ds: &Derivations) -> Sequents {
     let mut roots = Sequents::new(alloc);
     for d in &ds.items {
-        roots.push(d.conclusion.copy(alloc)?)?;
+        let root = d.conclusion.copy(alloc).expect(rt, "memory");
+        roots.push(root).expect(rt, "memory");
     }
-    Ok(roots)
+    roots
 }
 
-// Whether the last node is right, and whether the whole tree is.
-fn verdicts(alloc: Global, axioms: &Formulas, text: &str) -> Result<(bool, bool), AllocError> {
-    let mut trees = stack_of(alloc, text)?.trees;
-    let d = trees.items.pop().ok_or(AllocError)?;
-    let d = d.copy(alloc)?;
-    let parents = roots(alloc, &d.parents)?;
+// Whether the last node is valid, and whether the whole tree is.
+fn verdicts(rt: &impl Abort, alloc: Global, axioms: &Formulas, text: &str) -> (bool, bool) {
+    let mut trees = stack_of(rt, alloc, text).trees;
+    let d = trees.items.pop().expect(rt, "a tree");
+    let d = d.copy(alloc).expect(rt, "memory");
+    let parents = roots(rt, alloc, &d.parents);
     let node = right_node(axioms, &d.rule, &d.conclusion, &parents);
-    Ok((node, check_derivation(axioms, &d)))
+    (node, check_derivation(axioms, &d))
 }
 
-// Each row: a tree over the axioms `All(x = x)`, `All(P(x))`, whether its last node is right, and the whole tree.
+fn are_told(rt: &impl Abort, alloc: Global, rows: &[(&str, bool, bool)]) -> bool {
+    let axioms = stack_of(rt, alloc, "xx=A xPA").formulas;
+    for (text, node_is_valid, is_valid) in rows {
+        if verdicts(rt, alloc, &axioms, text) != (*node_is_valid, *is_valid) {
+            return false;
+        }
+    }
+    true
+}
+
+// Each row: a tree over the axioms `All(x = x)`, `All(P(x))`, whether its last node is valid, and the whole tree.
 #[test]
-fn tells_right_trees_of_connectives(rt: HostRuntime) -> Result<(), Fail> {
+fn tells_valid_trees_of_connectives(rt: HostRuntime) -> Result<(), Fail> {
     let alloc = rt.alloc();
-    let axioms = stack_of(alloc, "xx=A xPA")?.formulas;
     let rows = [
         ("1P 2P 1P h", true, true),
         ("2P 1P h", false, false),
@@ -237,20 +261,13 @@ fn tells_right_trees_of_connectives(rt: HostRuntime) -> Result<(), Fail> {
         ("2P T t T 2P 2P h 2P 2P u", true, true),
         ("2P T t 2P T 2P h 2P 2P u", false, false),
     ];
-    for (text, node_is_right, is_right) in rows {
-        assert_eq!(rt;
-            verdicts(alloc, &axioms, text)?,
-            (node_is_right, is_right),
-            "{text}"
-        );
-    }
+    assert!(rt; are_told(&rt, alloc, &rows));
     Ok(())
 }
 
 #[test]
-fn tells_right_trees_of_quantifiers_and_equations(rt: HostRuntime) -> Result<(), Fail> {
+fn tells_valid_trees_of_quantifiers_and_equations(rt: HostRuntime) -> Result<(), Fail> {
     let alloc = rt.alloc();
-    let axioms = stack_of(alloc, "xx=A xPA")?.formulas;
     let rows = [
         ("11= e xx=A 1g", true, true),
         ("11= 11= e 11= xx=A 1g", false, false),
@@ -270,31 +287,18 @@ fn tells_right_trees_of_quantifiers_and_equations(rt: HostRuntime) -> Result<(),
         ("1FP 1FP h xfd 1fP 1fP v", true, true),
         ("1FP 1FP h xfd 1P 1P v", false, false),
     ];
-    for (text, node_is_right, is_right) in rows {
-        assert_eq!(rt;
-            verdicts(alloc, &axioms, text)?,
-            (node_is_right, is_right),
-            "{text}"
-        );
-    }
+    assert!(rt; are_told(&rt, alloc, &rows));
     Ok(())
 }
 
 #[test]
 fn tells_where_a_tree_is_wrong(rt: HostRuntime) -> Result<(), Fail> {
     let alloc = rt.alloc();
-    let axioms = stack_of(alloc, "xx=A xPA")?.formulas;
     let rows = [
         ("T t T t T t T w", false, false),
         ("12= e 1P 12= w", true, false),
         ("12= e 1P 12= w 1P 2P 12= w", true, false),
     ];
-    for (text, node_is_right, is_right) in rows {
-        assert_eq!(rt;
-            verdicts(alloc, &axioms, text)?,
-            (node_is_right, is_right),
-            "{text}"
-        );
-    }
+    assert!(rt; are_told(&rt, alloc, &rows));
     Ok(())
 }

@@ -1,24 +1,15 @@
 -- The facts that are made are those of the disjunct.
-use Rattle.std.proofs.Common.{◌≡◌, ℕ, List, subst}
-use Rattle.std.specs.Prelude.{Result, Ok, Err, IfOk, Contains, ◌↔◌}
+use Rattle.std.proofs.Common.{List}
 use Rattle.mz_logic.specs.declared.disjunct.Disjunct.{Disjunct}
 use Rattle.mz_ground.specs.Ground.{IsGround}
+use Rattle.mz_ground.specs.FactSet.{HasFacts}
 use Rattle.mz_ground.specs.declared.clause.Clause.{Clause}
 use Rattle.mz_ground.specs.declared.ground.Ground.{Ground}
-use Rattle.mz_facts.specs.declared.facts.Facts.{Facts}
-use Rattle.mz_facts.specs.declared.node.Node.{Node}
-use Rattle.mz_facts.specs.declared.rule.Rule.{Rule}
-use Rattle.mz_facts.specs.Closing.{Exact}
-use Rattle.mz_facts.specs.Nodes.{nodes_of}
-use Rattle.mz_facts.specs.Codes.{IsRule, IsGraph}
-use Rattle.mz_facts.specs.HoldsFacts.{HoldsFacts}
-use Rattle.mz_facts.specs.Taken.{IsTaken}
-use Rattle.mz_facts.proofs.TellLemmas.{told_taken}
+use Rattle.mz_congruence.specs.declared.fact_table.FactTable.{FactTable}
+use Rattle.mz_congruence.specs.declared.ground_graph.GroundGraph.{GroundGraph}
+use Rattle.mz_congruence.specs.FactTable.{table_view}
+use Rattle.mz_congruence.specs.GroundGraph.{IsGroundGraph, HasFactsOf}
 
-pub graph_made : (d : Disjunct) (cs : List Clause) (g : Ground) (nodes : List Node) (rules : List Rule) → nodes ≡ nodes_of g → ((r : Rule) → Contains rules r ↔ IsRule d cs g r) → IsGraph d cs g (record { nodes = nodes; rules = rules })
-graph_made d cs g nodes rules e h = record { nodes = e; sound = λ r c. (h r).0 c; complete = λ r i. (h r).1 i }
-
-pub told_close : {E : Type 0} (d : Disjunct) (cs : List Clause) (g : Ground) (nodes : List Node) (rules : List Rule) (c xs : List ℕ) (r : Result Facts E) → IsGround d cs g → nodes ≡ nodes_of g → ((s : Rule) → Contains rules s ↔ IsRule d cs g s) → Exact (record { nodes = nodes; rules = rules }) c → xs ≡ c → IfOk r (λ f. IsTaken g xs f) → IfOk r (λ f. HoldsFacts d cs f)
-told_close d cs g nodes rules c xs (Ok f) gr e h ex q t =
-    told_taken d cs g gr (record { nodes = nodes; rules = rules }) (graph_made d cs g nodes rules e h) c ex f (subst (λ (ys : List ℕ). IsTaken g ys f) q t)
-told_close d cs g nodes rules c xs (Err x) gr e h ex q t = t
+pub told_facts : (d : Disjunct) (cs : List Clause) (g : Ground) (graph : GroundGraph) (table : FactTable) → IsGround d cs g → IsGroundGraph d cs g graph → HasFactsOf g graph table → HasFacts d cs (table_view table)
+unfolding HasFactsOf
+told_facts d cs g graph table gr gg h = h d cs gr gg

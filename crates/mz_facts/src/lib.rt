@@ -1,23 +1,5 @@
-// The facts of a disjunct: congruence closure over its ground part.
+//! The facts of a disjunct, closed by passes over all nodes and rules: the plain form.
 #![tactic(auto)]
 
-mod classes;
-mod closing;
-mod collecting;
+pub mod close;
 pub mod facts;
-mod graph;
-mod head;
-mod layout;
-mod lookup;
-mod matching;
-mod node;
-mod nodes;
-mod numbering;
-mod pair;
-mod pairing;
-mod pairs;
-mod rule;
-mod rules;
-mod signatures;
-#[cfg(test)]
-mod tests;

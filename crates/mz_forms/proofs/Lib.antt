@@ -6,5 +6,9 @@ pub mod Leads
 pub mod Lists
 pub mod Nested
 pub mod One
+pub mod OneRepeat
 pub mod Places
 pub mod Maybe
+pub mod Descend
+pub mod Chain
+pub mod Words

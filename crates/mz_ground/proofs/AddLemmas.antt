@@ -7,11 +7,13 @@ use Rattle.std.proofs.lemmas.List.Elements.{Contains-append_left, Contains-appen
 use Rattle.std.proofs.lemmas.Option.{slice_get_within, same_Some, none-some, slice_get-map}
 use Rattle.std.proofs.lemmas.Bool.{false≢true, le-ltb}
 use Rattle.mz_logic.specs.declared.sym.Sym.{Sym}
-use Rattle.mz_logic.specs.Term.{Term, Terms, Bound, Const, App, none, more, terms_of, list_of, list_of-terms_of}
+use Rattle.mz_logic.specs.Term.{Term, Terms, Bound, Const, App, none, more, terms_of, list_of}
+use Rattle.mz_logic.specs.TermStorage.{list_of-terms_of}
 use Rattle.mz_logic.specs.Indices.{closed, args_below}
 use Rattle.mz_logic.proofs.IndexLemmas.{args_below-terms_of}
 use Rattle.mz_ground.specs.Piece.{IsWithin, whole, argument}
-use Rattle.mz_ground.specs.Instance.{index_filled, filled, args_filled}
+use Rattle.mz_logic.specs.Substitution.{value_at}
+use Rattle.mz_ground.specs.Instance.{filled, args_filled}
 use Rattle.mz_ground.specs.Ground.{term_at}
 use Rattle.mz_ground.specs.Table.{Extends, IsPlaced, entry_terms, IsTable, Reads, IsPart, AddedTerms, IsFound, EachFound, AreFound, AddsTerm, AddsEach, AddsTerms}
 use Rattle.mz_ground.specs.declared.ground_term.GroundTerm.{GroundTerm}
@@ -85,20 +87,20 @@ added_bound es h index =
       complete = λ u p. elim (within_cases u (within_of_part (Bound index) u p)) [ inl q ↦ absurd (apart (closed u) p.is_closed (ap closed q ∙ not_closed index)) | inr r ↦ absurd r ];
     }
 
-index_filled_some : (ts : List Term) (index : ℕ) (t : Term) → slice_get ts index ≡ Some t → index_filled ts index ≡ t
+index_filled_some : (ts : List Term) (index : ℕ) (t : Term) → slice_get ts index ≡ Some t → value_at ts index ≡ t
 index_filled_some [] index t g = absurd (none-some t g)
 index_filled_some (u ∷ us) zero t g = same_Some u t g
 index_filled_some (u ∷ us) (suc index) t g = index_filled_some us index t g
 
-pub index_filled_none : (ts : List Term) (index : ℕ) → slice_get ts index ≡ None → (j : ℕ) × (index_filled ts index ≡ Bound j)
+pub index_filled_none : (ts : List Term) (index : ℕ) → slice_get ts index ≡ None → (j : ℕ) × (value_at ts index ≡ Bound j)
 index_filled_none [] index g = (index, refl)
 index_filled_none (u ∷ us) zero g = absurd (none-some u (sym g))
 index_filled_none (u ∷ us) (suc index) g = index_filled_none us index g
 
-pub index_filled_at : (es : List GroundTerm) (args : List ℕ) (index k : ℕ) → slice_get args index ≡ Some k → index_filled (map (term_at (entry_terms es)) args) index ≡ term_at (entry_terms es) k
+pub index_filled_at : (es : List GroundTerm) (args : List ℕ) (index k : ℕ) → slice_get args index ≡ Some k → value_at (map (term_at (entry_terms es)) args) index ≡ term_at (entry_terms es) k
 index_filled_at es args index k g = index_filled_some (map (term_at (entry_terms es)) args) index (term_at (entry_terms es) k) (slice_get-map (term_at (entry_terms es)) args index ∙ ap (option_map (term_at (entry_terms es))) g)
 
-pub index_filled_past : (es : List GroundTerm) (args : List ℕ) (index : ℕ) → slice_get args index ≡ None → (j : ℕ) × (index_filled (map (term_at (entry_terms es)) args) index ≡ Bound j)
+pub index_filled_past : (es : List GroundTerm) (args : List ℕ) (index : ℕ) → slice_get args index ≡ None → (j : ℕ) × (value_at (map (term_at (entry_terms es)) args) index ≡ Bound j)
 index_filled_past es args index g = index_filled_none (map (term_at (entry_terms es)) args) index (slice_get-map (term_at (entry_terms es)) args index ∙ ap (option_map (term_at (entry_terms es))) g)
 
 added_as : (es fs : List GroundTerm) (t u : Term) → t ≡ u → AddedTerms es (u ∷ []) fs → AddedTerms es (t ∷ []) fs
@@ -107,12 +109,12 @@ added_as es fs t u q a = subst (λ (x : Term). AddedTerms es (x ∷ []) fs) (sym
 bound_at : (es : List GroundTerm) (args : List ℕ) (ts : List Term) (index : ℕ) (o : Option ℕ) → Reads es args ts → slice_get args index ≡ o → AddsTerm es ts (Bound index) o es
 bound_at es args ts index None r g =
     let p = index_filled_past es args index g in
-    let q : index_filled ts index ≡ Bound p.0 = ap (λ z. index_filled z index) (sym r.terms) ∙ p.1 in
-    record { added = added_as es es (index_filled ts index) (Bound p.0) q (added_bound es r.table p.0); found = ap closed q ∙ not_closed p.0 }
+    let q : value_at ts index ≡ Bound p.0 = ap (λ z. value_at z index) (sym r.terms) ∙ p.1 in
+    record { added = added_as es es (value_at ts index) (Bound p.0) q (added_bound es r.table p.0); found = ap closed q ∙ not_closed p.0 }
 bound_at es args ts index (Some k) r g =
-    let q : index_filled ts index ≡ term_at (entry_terms es) k = ap (λ z. index_filled z index) (sym r.terms) ∙ index_filled_at es args index k g in
+    let q : value_at ts index ≡ term_at (entry_terms es) k = ap (λ z. value_at z index) (sym r.terms) ∙ index_filled_at es args index k g in
     let lt : k < length es = r.within k (contains_get args index k g) in
-    record { added = added_as es es (index_filled ts index) (term_at (entry_terms es) k) q (added_known es r.table (term_at (entry_terms es) k) (term_at-contained (entry_terms es) k (omega (arith, entry_terms-length es)))); found = (lt, sym q) }
+    record { added = added_as es es (value_at ts index) (term_at (entry_terms es) k) q (added_known es r.table (term_at (entry_terms es) k) (term_at-contained (entry_terms es) k (omega (arith, entry_terms-length es)))); found = (lt, sym q) }
 
 pub told_bound : (es : List GroundTerm) (args : List ℕ) (index : ℕ) (o : Option ℕ) (t : Term) → t ≡ Bound index → o ≡ slice_get args index → (ts : List Term) → Reads es args ts → AddsTerm es ts t o es
 told_bound es args index o t e q ts r = subst (λ (x : Term). AddsTerm es ts x o es) (sym e) (bound_at es args ts index o r (sym q))

@@ -25,14 +25,17 @@ use Rattle.mz_ground.specs.declared.trigger.Trigger.{Trigger}
 use Rattle.mz_ground.specs.declared.trigger.Trigger.TheVariants as trigger
 use Rattle.mz_ground.specs.Variables.{has_index, args_have_index, trigger_has, has_all_below}
 use Rattle.mz_ground.specs.Piece.{Piece, piece_closed}
-use Rattle.mz_ground.specs.Instance.{index_filled, filled, args_filled, trigger_filled, premises_at, conclusion_at}
+use Rattle.mz_logic.specs.Substitution.{value_at}
+use Rattle.mz_ground.specs.Instance.{filled, args_filled, trigger_filled, premises_at, conclusion_at}
 use Rattle.mz_ground.specs.Layers as layers
 use Rattle.mz_ground.specs.Layers.{InLayer, IsGroundLiteral}
 use Rattle.mz_ground.specs.Facts as facts
 use Rattle.mz_ground.specs.Facts.{Fact, AreEqual, AreFacts, IsContradictory}
-use Rattle.mz_ground.specs.ClauseFormula.{quantified, implication, clause_formula}
+use Rattle.mz_logic.specs.Connectives.{quantified}
+use Rattle.mz_logic.proofs.Each.{Along, quantified_out}
+use Rattle.mz_ground.specs.ClauseFormula.{implication, clause_formula}
 use Rattle.mz_ground.specs.Laws.{IsGranted}
-use Rattle.mz_ground.proofs.ClauseInstance.{EachDerives, formula_puts-implication, quantified_out, implication_out}
+use Rattle.mz_ground.proofs.ClauseInstance.{substitute_formula-implication, implication_out}
 
 -- what is ground has no index
 pub piece_closed-InLayer : (d : Disjunct) (cs : List Clause) (n : ℕ) (p : Piece) → InLayer d cs n p → piece_closed p ≡ true
@@ -92,26 +95,26 @@ or_parts true b h f k = f refl
 or_parts false b h f k = k h
 
 mutual
-  index_closed : (ts : List term.Term) (i : ℕ) (t : term.Term) → has_index i t ≡ true → closed (filled ts t) ≡ true → closed (index_filled ts i) ≡ true
+  index_closed : (ts : List term.Term) (i : ℕ) (t : term.Term) → has_index i t ≡ true → closed (filled ts t) ≡ true → closed (value_at ts i) ≡ true
   index_closed ts i (Bound index) h c =
       let e : index ≡ i = eqb-true index i h in
-      subst (λ j. closed (index_filled ts j) ≡ true) e c
+      subst (λ j. closed (value_at ts j) ≡ true) e c
   index_closed ts i (Const number) h c = absurd (false-is-not-true h)
   index_closed ts i (App s us) h c = index_closed_args ts i us h c
 
-  index_closed_args : (ts : List term.Term) (i : ℕ) (us : term.Terms) → args_have_index i us ≡ true → closed_terms (args_filled ts us) ≡ true → closed (index_filled ts i) ≡ true
+  index_closed_args : (ts : List term.Term) (i : ℕ) (us : term.Terms) → args_have_index i us ≡ true → closed_terms (args_filled ts us) ≡ true → closed (value_at ts i) ≡ true
   index_closed_args ts i none h c = absurd (false-is-not-true h)
   index_closed_args ts i (more u us) h c =
       let p = and_parts (closed (filled ts u)) (closed_terms (args_filled ts us)) c in
       or_parts (has_index i u) (args_have_index i us) h (λ k. index_closed ts i u k p.0) (λ k. index_closed_args ts i us k p.1)
 
-index_closed_list : (ts : List term.Term) (i : ℕ) (us : List term.Term) → list_any (has_index i) us ≡ true → list_all closed (map (filled ts) us) ≡ true → closed (index_filled ts i) ≡ true
+index_closed_list : (ts : List term.Term) (i : ℕ) (us : List term.Term) → list_any (has_index i) us ≡ true → list_all closed (map (filled ts) us) ≡ true → closed (value_at ts i) ≡ true
 index_closed_list ts i [] h c = absurd (false-is-not-true h)
 index_closed_list ts i (u ∷ us) h c =
     let p = and_parts (closed (filled ts u)) (list_all closed (map (filled ts) us)) c in
     or_parts (has_index i u) (list_any (has_index i) us) h (λ k. index_closed ts i u k p.0) (λ k. index_closed_list ts i us k p.1)
 
-index_closed_trigger : (ts : List term.Term) (i : ℕ) (r : Trigger) → trigger_has i r ≡ true → piece_closed (trigger_filled ts r) ≡ true → closed (index_filled ts i) ≡ true
+index_closed_trigger : (ts : List term.Term) (i : ℕ) (r : Trigger) → trigger_has i r ≡ true → piece_closed (trigger_filled ts r) ≡ true → closed (value_at ts i) ≡ true
 index_closed_trigger ts i (trigger.Term t) h c = index_closed ts i t h c
 index_closed_trigger ts i (trigger.Atom s us) h c = index_closed_list ts i us h c
 
@@ -125,7 +128,7 @@ trigger_has-below r (suc n) i h lt =
     let p = and_parts (trigger_has n r) (has_all_below n r) h in
     below_or_last n i (nat_lt i n) refl lt (λ k. trigger_has-below r n i p.1 k) (λ e. subst (λ j. trigger_has j r ≡ true) (sym e) p.0)
 
-list_closed : (ts : List term.Term) → ((i : ℕ) → i < length ts → closed (index_filled ts i) ≡ true) → list_all closed ts ≡ true
+list_closed : (ts : List term.Term) → ((i : ℕ) → i < length ts → closed (value_at ts i) ≡ true) → list_all closed ts ≡ true
 list_closed [] h = refl
 list_closed (t ∷ ts) h = and_from (closed t) (list_all closed ts) (h 0 (omega arith)) (list_closed ts (λ i lt. h (suc i) (omega arith)))
 
@@ -138,7 +141,7 @@ pub clause_instance : (ax g : List Formula) (c : Clause) (ts : List term.Term) �
 clause_instance ax g c ts h n d =
     let body : Formula = implication c.premises c.conclusion in
     let at_length : Derives ax g (quantified (length ts) body) = subst (λ m. Derives ax g (quantified m body)) (sym n) d in
-    subst (Derives ax g) (formula_puts-implication ts c.premises c.conclusion h) (quantified_out ax g ts body h at_length)
+    subst (Derives ax g) (substitute_formula-implication ts c.premises c.conclusion) (quantified_out ax g ts body h at_length)
 
 turned_derives : (ax g : List Formula) (t u : term.Term) → closed t ≡ true → closed u ≡ true → Derives ax g (Not (formula.Eq t u)) → Derives ax g (Not (formula.Eq u t))
 turned_derives ax g t u ct cu d =
@@ -182,7 +185,7 @@ mutual
       let c : (closed t ≡ true) × (closed u ≡ true) = sides t u (literal_closed-Fact d cs _ f) in
       (under ax g a (formula.Eq u t) (swapped ax g t u c.0 c.1 (fact_derives ax g d cs h (Eq true t u) f)), equals_turned ax g d cs h a vs ws es)
 
-  facts_derive : (ax g : List Formula) (d : Disjunct) (cs : List Clause) → IsGranted ax g d cs → (ls : List Literal) → AreFacts d cs ls → EachDerives ax g (map literal_formula ls)
+  facts_derive : (ax g : List Formula) (d : Disjunct) (cs : List Clause) → IsGranted ax g d cs → (ls : List Literal) → AreFacts d cs ls → Along ax g (map literal_formula ls)
   facts_derive ax g d cs h ls facts.no_literals = tt
   facts_derive ax g d cs h ls (facts.and_literals l ks f fs) = (fact_derives ax g d cs h l f, facts_derive ax g d cs h ks fs)
 

@@ -7,8 +7,10 @@ use Rattle.std.proofs.lemmas.List.Elements.{Contains-get_or}
 use Rattle.std.proofs.lemmas.Option.{slice_get_within, same_Some, none-some}
 use Rattle.std.proofs.lemmas.Bool.{false≢true, eqb-true}
 use Rattle.mz_logic.specs.declared.sym.Sym.{Sym}
-use Rattle.mz_logic.specs.Term.{Term, Terms, Bound, Const, App, terms_of, terms_of-inj, size_of, sizes_of}
-use Rattle.mz_ground.specs.Instance.{index_filled, filled, args_filled}
+use Rattle.mz_logic.specs.Term.{Term, Terms, Bound, Const, App, terms_of}
+use Rattle.mz_logic.specs.TermStorage.{terms_of-inj, size_of, sizes_of}
+use Rattle.mz_logic.specs.Substitution.{value_at}
+use Rattle.mz_ground.specs.Instance.{filled, args_filled}
 use Rattle.mz_ground.specs.Variables.{has_index, args_have_index}
 use Rattle.mz_ground.specs.Ground.{term_at, term_of_entry}
 use Rattle.mz_ground.specs.Table.{entry_terms, IsTable}
@@ -20,7 +22,7 @@ use Rattle.mz_ground.proofs.VariableLemmas.{args_have_index-terms_of}
 use Rattle.mz_ground.proofs.TableLemmas.{table_read, entry_at, term_at-inj, entry_terms-length}
 use Rattle.mz_ground.proofs.AddLemmas.{args_filled-terms_of, index_filled_at, index_filled_past}
 
-get-index_filled : (ts : List Term) (index : ℕ) → index < length ts → slice_get ts index ≡ Some (index_filled ts index)
+get-index_filled : (ts : List Term) (index : ℕ) → index < length ts → slice_get ts index ≡ Some (value_at ts index)
 get-index_filled [] index lt = absurd (omega arith)
 get-index_filled (t ∷ ts) zero lt = refl
 get-index_filled (t ∷ ts) (suc index) lt = get-index_filled ts index (omega arith)
@@ -28,7 +30,7 @@ get-index_filled (t ∷ ts) (suc index) lt = get-index_filled ts index (omega ar
 pub value_bound : (es : List GroundTerm) (index n place : ℕ) (t : Term) → place < length es → t ≡ Bound n → n ≡ index → IsTermValue es index t place (Some place)
 value_bound es index n place t lt e q =
     let at : (ts : List Term) → index < length ts → filled ts t ≡ term_at (entry_terms es) place → slice_get ts index ≡ Some (term_at (entry_terms es) place) = λ ts l h.
-    get-index_filled ts index l ∙ ap Some (ap (index_filled ts) (sym q) ∙ sym (ap (filled ts) e) ∙ h) in
+    get-index_filled ts index l ∙ ap Some (ap (value_at ts) (sym q) ∙ sym (ap (filled ts) e) ∙ h) in
     record { value = (lt, at) }
 
 pub value_other : (es : List GroundTerm) (index n place : ℕ) (t : Term) → t ≡ Bound n → (n ≡ index → ⊥) → IsTermValue es index t place None

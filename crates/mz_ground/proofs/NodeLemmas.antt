@@ -5,7 +5,8 @@ use Rattle.mz_logic.specs.declared.sym.Sym.{Sym}
 use Rattle.mz_logic.specs.Term.{Term, Terms, Bound, Const, App, none, more, terms_of}
 use Rattle.mz_logic.specs.declared.literal.Literal.{Literal}
 use Rattle.mz_logic.specs.declared.literal.Literal.TheVariants as literals
-use Rattle.mz_ground.specs.Instance.{index_filled, filled, args_filled, literal_filled, term_nodes, args_nodes, literal_nodes, literals_nodes, instance_nodes}
+use Rattle.mz_logic.specs.Substitution.{value_at}
+use Rattle.mz_ground.specs.Instance.{filled, args_filled, literal_filled, term_nodes, args_nodes, literal_nodes, literals_nodes, instance_nodes}
 use Rattle.mz_ground.specs.Ground.{term_at}
 use Rattle.mz_ground.specs.Layers.{most_nodes}
 use Rattle.mz_ground.specs.Nodes.{IsSpent}

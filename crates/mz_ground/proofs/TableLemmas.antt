@@ -8,7 +8,8 @@ use Rattle.std.proofs.lemmas.Option.{slice_get_within, same_Some, none-some, sli
 use Rattle.std.proofs.lemmas.Bool.{cases_lt}
 use Rattle.mz_logic.specs.declared.sym.Sym.{Sym}
 use Rattle.mz_logic.specs.Term as term
-use Rattle.mz_logic.specs.Term.{Term, terms_of, terms_of-inj}
+use Rattle.mz_logic.specs.Term.{Term, terms_of}
+use Rattle.mz_logic.specs.TermStorage.{terms_of-inj}
 use Rattle.mz_logic.specs.Indices.{closed, args_below}
 use Rattle.mz_ground.specs.Piece.{IsWithin, whole, argument}
 use Rattle.mz_ground.specs.Ground.{term_at, term_or_zero, term_of_entry, terms_after, IsDistinct}

@@ -7,6 +7,7 @@ use Rattle.mz_ground.specs.declared.hash_places.HashPlaces.{HashPlaces}
 use Rattle.mz_ground.specs.declared.ground_term.GroundTerm.{GroundTerm}
 use Rattle.mz_ground.specs.declared.ground_term.GroundTerm.TheVariants.{Const, App}
 use Rattle.mz_ground.specs.declared.ground_atom.GroundAtom.{GroundAtom}
+use Rattle.mz_ground.specs.declared.ground_equation.GroundEquation.{GroundEquation}
 
 -- a hash with one more number taken into it
 unfoldable pub mixed : ℕ → ℕ → ℕ
@@ -27,6 +28,9 @@ term_hash (App sym args) = all_mixed (sym_mixed 1 sym) args
 
 abbrev pub atom_hash : GroundAtom → ℕ
 atom_hash a = all_mixed (sym_mixed 0 a.sym) a.args
+
+abbrev pub equation_hash : GroundEquation → ℕ
+equation_hash e = mixed (mixed 2 e.left) e.right
 
 -- the place of a hash
 abbrev pub place_of : HashPlaces → ℕ → Option ℕ

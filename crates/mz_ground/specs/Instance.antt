@@ -2,6 +2,7 @@
 use Rattle.std.specs.Prelude.{ℕ, zero, suc, ◌+◌, List, [], ◌∷◌, ◌++◌, map}
 use Rattle.mz_logic.specs.Term as term
 use Rattle.mz_logic.specs.Term.{Bound, Const, App, none, more, terms_of}
+use Rattle.mz_logic.specs.Substitution.{value_at}
 use Rattle.mz_logic.specs.declared.literal.Literal as literal
 use Rattle.mz_logic.specs.declared.literal.Literal.TheVariants as literals
 use Rattle.mz_ground.specs.Piece.{Piece, TermPiece, AtomPiece}
@@ -9,15 +10,11 @@ use Rattle.mz_ground.specs.declared.trigger.Trigger.{Trigger}
 use Rattle.mz_ground.specs.declared.trigger.Trigger.TheVariants.{Term, Atom}
 use Rattle.mz_ground.specs.declared.clause.Clause.{Clause}
 
--- the terms stand for the indices from 0 on, and further indices are lowered by as many
-abbrev pub index_filled : List term.Term → ℕ → term.Term
-index_filled [] index = Bound index
-index_filled (t ∷ ts) zero = t
-index_filled (t ∷ ts) (suc index) = index_filled ts index
-
+-- the terms stand for the indices from 0 on, and further indices are lowered by as many: the simultaneous
+-- substitution under no binder, where nothing is shifted
 abbrev mutual
   pub filled : List term.Term → term.Term → term.Term
-  filled ts (Bound index) = index_filled ts index
+  filled ts (Bound index) = value_at ts index
   filled ts (Const number) = Const number
   filled ts (App s us) = App s (args_filled ts us)
 

@@ -13,3 +13,4 @@ pub mod Nodes
 pub mod Instances
 pub mod Making
 pub mod Hash
+pub mod FactSet

@@ -1,5 +1,8 @@
 // Ground equations, by the places of their sides.
 ghost use Rattle.std.specs.Prelude.{◌≡◌, ◌↔◌, IsTrue};
+ghost use Rattle.mz_ground.specs.Hash.{equation_hash};
+
+use crate::hash_places::mixed;
 
 /// A ground equation: both sides by their places in the list of ground terms.
 #[derive(Clone, Copy, Debug, PartialEq, Eq, PartialOrd, Ord, Hash)]
@@ -14,6 +17,13 @@ impl GroundEquation {
         ensures { IsTrue result ↔ (self.now ≡ other.now) }
     {
         self.left == other.left && self.right == other.right
+    }
+
+    /// A number by which the entry is found.
+    pub fn hash(&self) -> u64
+        ensures { result ≡ equation_hash self.now }
+    {
+        mixed(mixed(2, self.left as u64), self.right as u64)
     }
 
     /// An equal entry.

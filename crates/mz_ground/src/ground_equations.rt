@@ -1,8 +1,9 @@
 // Lists of ground equations.
-ghost use Rattle.std.specs.Prelude.{◌≡◌, ◌<◌, ℕ, [], ◌∷◌, ◌++◌, length, slice_get, Some, MatchOption, IfOk, OnOk, OnErr};
+ghost use Rattle.std.specs.Prelude.{◌≡◌, ◌<◌, ℕ, [], ◌∷◌, ◌++◌, length, slice_get, Some, MatchOption, IfOk, OnOk, OnErr, IsTrue};
 ghost use Rattle.mz_ground.specs.Table.{IsPlaced};
 
 use crate::ground_equation::GroundEquation;
+use crate::hash_places::HashPlaces;
 use std::alloc::{AllocError, Global};
 use std::marker::Model;
 
@@ -10,6 +11,8 @@ use std::marker::Model;
 #[derive(Drop)]
 pub struct GroundEquations {
     pub items: Vec<GroundEquation>,
+    /// Where items stand, by their hashes.
+    places: HashPlaces,
 }
 
 impl Model for GroundEquations {
@@ -23,6 +26,10 @@ impl Model for GroundEquations {
     ghost coded = { coded_list the_row.coded };
 
     ghost view = { λ a. a.items.items };
+
+    ghost use Rattle.mz_ground.specs.Hash.{AreHashed, equation_hash};
+
+    ghost invariant = { λ a. AreHashed equation_hash a.items.items a.places };
 }
 
 impl GroundEquations {
@@ -32,6 +39,7 @@ impl GroundEquations {
     {
         GroundEquations {
             items: Vec::new(alloc),
+            places: HashPlaces::new(alloc),
         }
     }
 
@@ -51,10 +59,12 @@ impl GroundEquations {
     }
 
     /// Puts one at the end.
+    #[tactic(auto, using(crate::proofs::HashLemmas::hashed_rules))]
     pub fn push(&mut self, item: GroundEquation) -> Result<(), AllocError>
         ensures ok { OnOk result (self.new ≡ self.old ++ item ∷ []) }
         ensures err { OnErr result (self.new ≡ self.old) }
     {
+        self.places.insert(item.hash(), self.items.len())?;
         self.items.push(item)?;
         Ok(())
     }
@@ -74,7 +84,33 @@ impl GroundEquations {
     }
 
     /// The place of an item, if the list has it.
+    #[tactic(auto, using(crate::proofs::HashLemmas::hashed_rules))]
     pub fn find(&self, item: &GroundEquation) -> Option<usize>
+        ensures { MatchOption result ((k : ℕ) → slice_get self.now k ≡ Some item.now → ⊥) (λ k. slice_get self.now k ≡ Some item.now) }
+    {
+        match self.places.find(item.hash()) {
+            Some(place) => {
+                if self.has_at(place, item) {
+                    Some(place)
+                } else {
+                    self.first(item)
+                }
+            }
+            None => None,
+        }
+    }
+
+    fn has_at(&self, place: usize, item: &GroundEquation) -> bool
+        ensures { IsTrue result → slice_get self.now place ≡ Some item.now }
+    {
+        match self.items.get(place) {
+            Some(other) => other.equals(item),
+            None => false,
+        }
+    }
+
+    // The first place of an item, sought from the beginning: another item with its hash may stand in its stead.
+    fn first(&self, item: &GroundEquation) -> Option<usize>
         ensures { MatchOption result ((k : ℕ) → slice_get self.now k ≡ Some item.now → ⊥) (λ k. slice_get self.now k ≡ Some item.now) }
     {
         for k in 0..self.items.len() {
@@ -89,10 +125,10 @@ impl GroundEquations {
     pub fn copy(&self, alloc: Global) -> Result<GroundEquations, AllocError>
         ensures { IfOk result (λ items. items ≡ self.now) }
     {
-        let mut out = Vec::new(alloc);
+        let mut out = GroundEquations::new(alloc);
         for item in &self.items {
             out.push(*item)?;
         }
-        Ok(GroundEquations { items: out })
+        Ok(out)
     }
 }

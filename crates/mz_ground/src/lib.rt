@@ -5,6 +5,7 @@ pub mod add_pieces;
 pub mod add_terms;
 pub mod clause;
 pub mod clauses;
+pub mod fact_set;
 pub mod ground;
 pub mod ground_atom;
 pub mod ground_atoms;

@@ -9,6 +9,7 @@ pub mod folder_shelf;
 pub mod gate;
 pub mod memory_shelf;
 pub mod memory_sink;
+pub mod quiet_shelf;
 pub mod shelf;
 pub mod sink;
 pub mod stream_sink;

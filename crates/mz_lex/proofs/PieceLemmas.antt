@@ -5,7 +5,7 @@ use Rattle.std.specs.List.{list_any, list_all, prefix_len}
 use Rattle.std.proofs.lemmas.List.{take-append-drop, length-take-le}
 use borrow.Author.Tests.{ltb-true, ltb-false, eqb-true}
 use Rattle.mz_base.specs.Words.{is_word_byte}
-use Rattle.mz_base.specs.declared.token_kind.TokenKind.{TokenKind}
+use Rattle.mz_base.specs.declared.token.TokenKind.{TokenKind}
 use Rattle.mz_lex.specs.declared.lexeme.Lexeme.{Lexeme}
 use Rattle.mz_lex.specs.declared.longest.Longest.{Longest}
 use Rattle.mz_lex.specs.Longest.{IsLongestLexeme}

@@ -6,8 +6,8 @@ use Rattle.std.specs.HashSet.{HashSet, contains}
 use Rattle.std.specs.List.{list_any}
 use Rattle.std.proofs.lemmas.List.Folds.{list_any-append}
 use Rattle.mz_base.specs.NamedText.{NamedText}
-use Rattle.mz_base.specs.declared.directive.Directive.{Directive}
-use Rattle.mz_base.specs.declared.placed_name.PlacedName.{PlacedName}
+use Rattle.mz_base.specs.declared.head.Directive.{Directive}
+use Rattle.mz_base.specs.declared.head.PlacedName.{PlacedName}
 use Rattle.mz_voc.specs.declared.entry.Entry.{Entry}
 use Rattle.mz_voc.specs.Vocabulary.{IsVocabulary}
 use Rattle.mz_lex.specs.declared.table_fault.TableFault.{TableFault}

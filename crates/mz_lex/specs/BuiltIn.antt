@@ -1,8 +1,8 @@
 -- The lexemes of every text.
 use Rattle.std.specs.Prelude.{ℕ, List, ◌++◌, map}
 use Rattle.mz_base.specs.Words.{reserved_words, special_symbols, built_in_symbols}
-use Rattle.mz_base.specs.declared.token_kind.TokenKind.{TokenKind}
-use Rattle.mz_base.specs.declared.token_kind.TokenKind.TheVariants.{Reserved, Special, Symbol}
+use Rattle.mz_base.specs.declared.token.TokenKind.{TokenKind}
+use Rattle.mz_base.specs.declared.token.TokenKind.TheVariants.{Reserved, Special, Symbol}
 use Rattle.mz_lex.specs.declared.lexeme.Lexeme.{Lexeme}
 
 -- a lexeme without a priority

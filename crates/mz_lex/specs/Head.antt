@@ -4,27 +4,27 @@ use Rattle.mz_base.specs.Bytes.{raised}
 use Rattle.mz_base.specs.Name.{number_of}
 use Rattle.mz_base.specs.declared.place.Place.{Place}
 use Rattle.mz_base.specs.declared.token.Token.{Token}
-use Rattle.mz_base.specs.declared.directive_kind.DirectiveKind.{DirectiveKind}
-use Rattle.mz_base.specs.declared.directive.Directive.{Directive}
-use Rattle.mz_base.specs.declared.placed_name.PlacedName.{PlacedName}
-use Rattle.mz_lex.specs.declared.sign.Sign.{Sign}
-use Rattle.mz_lex.specs.declared.sign.Sign.TheVariants as signs
+use Rattle.mz_base.specs.declared.head.DirectiveKind.{DirectiveKind}
+use Rattle.mz_base.specs.declared.head.Directive.{Directive}
+use Rattle.mz_base.specs.declared.head.PlacedName.{PlacedName}
+use Rattle.mz_lex.specs.declared.head_token.HeadToken.{HeadToken}
+use Rattle.mz_lex.specs.declared.head_token.HeadToken.TheVariants as head_tokens
 use Rattle.mz_lex.specs.declared.head_fault.HeadFault.{HeadFault}
 use Rattle.mz_lex.specs.declared.head_fault.HeadFault.TheVariants.{BadByte, TooManyTokens, Pragma, Unexpected, EndsEarly, Profile2, Memory}
-use Rattle.mz_lex.specs.Sign.{sign_of}
+use Rattle.mz_lex.specs.HeadToken.{head_token_of}
 use Rattle.mz_lex.specs.BuiltIn.{built_in_lexemes}
 use Rattle.mz_lex.specs.Cut.{Stop, Whole, AtBadByte, AtPragma, AtTooManyTokens, IsCut}
 
 -- what a token of an environment part has to be
 pub data Pattern : Type 0 where
-  AWord : Sign → Pattern
+  AWord : HeadToken → Pattern
   ADirective : DirectiveKind → Place → Pattern
   AName : PlacedName → Pattern
 
 abbrev pub Fits : Pattern → Token → Type 0
-Fits (AWord sign) token = sign_of token ≡ sign
-Fits (ADirective kind place) token = (sign_of token ≡ signs.Directive kind) × (place ≡ token.place)
-Fits (AName name) token = (sign_of token ≡ signs.Name) × (name.name.number ≡ number_of (raised token.spelling)) × (name.place ≡ token.place)
+Fits (AWord head_token) token = head_token_of token ≡ head_token
+Fits (ADirective kind place) token = (head_token_of token ≡ head_tokens.Directive kind) × (place ≡ token.place)
+Fits (AName name) token = (head_token_of token ≡ head_tokens.Name) × (name.name.number ≡ number_of (raised token.spelling)) × (name.place ≡ token.place)
 
 -- the tokens are what they have to be, one by one
 abbrev pub Matches : List Pattern → List Token → Type 0
@@ -36,7 +36,7 @@ Matches (p ∷ ps) (t ∷ ts) = Fits p t × Matches ps ts
 -- further names of a list
 abbrev pub more_names : List PlacedName → List Pattern
 more_names [] = []
-more_names (n ∷ ns) = AWord signs.Comma ∷ AName n ∷ more_names ns
+more_names (n ∷ ns) = AWord head_tokens.Comma ∷ AName n ∷ more_names ns
 
 -- names with commas between
 abbrev pub names_between : List PlacedName → List Pattern
@@ -46,11 +46,11 @@ names_between (n ∷ ns) = AName n ∷ more_names ns
 -- word, names, semicolon; word, names, semicolon ..
 abbrev pub spell_directives : List Directive → List Pattern
 spell_directives [] = []
-spell_directives (d ∷ ds) = ADirective d.kind d.place ∷ (names_between d.names ++ (AWord signs.Semicolon ∷ spell_directives ds))
+spell_directives (d ∷ ds) = ADirective d.kind d.place ∷ (names_between d.names ++ (AWord head_tokens.Semicolon ∷ spell_directives ds))
 
 -- `environ`, the directives, `begin`
 abbrev pub spell_head : List Directive → List Pattern
-spell_head ds = AWord signs.Environ ∷ (spell_directives ds ++ AWord signs.Begin ∷ [])
+spell_head ds = AWord head_tokens.Environ ∷ (spell_directives ds ++ AWord head_tokens.Begin ∷ [])
 
 -- each directive has a name
 abbrev pub EachNamed : List Directive → Type 0
@@ -72,7 +72,7 @@ pub record BeginsHead (ts : List Token) : Type 0 where
 pub record ExpectsDirective (ts : List Token) : Type 0 where
   pub some : List Directive
   pub named : EachNamed some
-  pub spelled : Matches (AWord signs.Environ ∷ spell_directives some) ts
+  pub spelled : Matches (AWord head_tokens.Environ ∷ spell_directives some) ts
 
 -- the first token with which the tokens begin no environment part stands there, and it is no directive's word of later on
 pub record IsUnexpected (ts : List Token) (p : Place) : Type 0 where
@@ -82,7 +82,7 @@ pub record IsUnexpected (ts : List Token) (p : Place) : Type 0 where
   pub split : ts ≡ before ++ token ∷ behind
   pub begins : BeginsHead before
   pub breaks : BeginsHead (before ++ token ∷ []) → ⊥
-  pub not_later : ExpectsDirective before → sign_of token ≡ signs.Later → ⊥
+  pub not_later : ExpectsDirective before → head_token_of token ≡ head_tokens.Later → ⊥
   pub at : p ≡ token.place
 
 -- a directive's word of later on stands there, where a directive's word may come
@@ -92,7 +92,7 @@ pub record IsLater (ts : List Token) (p : Place) : Type 0 where
   pub behind : List Token
   pub split : ts ≡ before ++ token ∷ behind
   pub expects : ExpectsDirective before
-  pub later : sign_of token ≡ signs.Later
+  pub later : head_token_of token ≡ head_tokens.Later
   pub at : p ≡ token.place
 
 -- the tokens begin an environment part and are none

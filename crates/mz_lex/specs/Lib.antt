@@ -1,13 +1,13 @@
 pub mod BuiltIn
 pub mod Cut
-pub mod Expected
+pub mod State
 pub mod Head
 pub mod HeadFault
 pub mod Known
 pub mod Longest
 pub mod Part
 pub mod Piece
-pub mod Sign
+pub mod HeadToken
 pub mod SymbolTable
 pub mod Table
 pub mod Tokens

@@ -6,11 +6,11 @@ use Rattle.mz_base.specs.Name.{number_of, is_built_in}
 use Rattle.mz_base.specs.NamedText.{NamedText}
 use Rattle.mz_base.specs.declared.symbol_kind.SymbolKind.{SymbolKind}
 use Rattle.mz_base.specs.declared.symbol_kind.SymbolKind.TheVariants.{Structure, LeftBracket, RightBracket, Mode, Functor, Predicate, Selector, Attribute}
-use Rattle.mz_base.specs.declared.token_kind.TokenKind.TheVariants.{Symbol}
-use Rattle.mz_base.specs.declared.directive_kind.DirectiveKind.{DirectiveKind}
-use Rattle.mz_base.specs.declared.directive_kind.DirectiveKind.TheVariants.{Vocabularies}
-use Rattle.mz_base.specs.declared.directive.Directive.{Directive}
-use Rattle.mz_base.specs.declared.placed_name.PlacedName.{PlacedName}
+use Rattle.mz_base.specs.declared.token.TokenKind.TheVariants.{Symbol}
+use Rattle.mz_base.specs.declared.head.DirectiveKind.{DirectiveKind}
+use Rattle.mz_base.specs.declared.head.DirectiveKind.TheVariants.{Vocabularies}
+use Rattle.mz_base.specs.declared.head.Directive.{Directive}
+use Rattle.mz_base.specs.declared.head.PlacedName.{PlacedName}
 use Rattle.mz_voc.specs.declared.entry.Entry.{Entry}
 use Rattle.mz_voc.specs.Lines.{lines_of}
 use Rattle.mz_voc.specs.Vocabulary.{is_spelled, IsVocabulary, IsFirstFault}

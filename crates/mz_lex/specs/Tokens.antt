@@ -6,8 +6,8 @@ use Rattle.mz_base.specs.Bytes.{is_digit}
 use Rattle.mz_base.specs.Words.{is_word_byte}
 use Rattle.mz_base.specs.declared.place.Place.{Place}
 use Rattle.mz_base.specs.declared.token.Token.{Token}
-use Rattle.mz_base.specs.declared.token_kind.TokenKind.{TokenKind}
-use Rattle.mz_base.specs.declared.token_kind.TokenKind.TheVariants.{Identifier, Numeral}
+use Rattle.mz_base.specs.declared.token.TokenKind.{TokenKind}
+use Rattle.mz_base.specs.declared.token.TokenKind.TheVariants.{Identifier, Numeral}
 use Rattle.mz_lex.specs.declared.lexeme.Lexeme.{Lexeme}
 
 -- a byte between tokens

@@ -1,12 +1,12 @@
 //! The lexemes of every text.
 ghost use Rattle.std.specs.Prelude.{◌≡◌, ◌++◌, IfOk, OnOk, map};
 ghost use Rattle.mz_lex.specs.BuiltIn.{built_in_lexemes, lexeme};
-ghost use Rattle.mz_base.specs.declared.token_kind.TokenKind.TheVariants.{Symbol};
+ghost use Rattle.mz_base.specs.declared.token.TokenKind.TheVariants.{Symbol};
 
 use crate::lexeme::Lexeme;
 use mz_base::symbol_kind::SymbolKind;
 use mz_base::text::Text;
-use mz_base::token_kind::TokenKind;
+use mz_base::token::TokenKind;
 use mz_base::words::{BUILT_IN_SYMBOLS, RESERVED_WORDS, SPECIAL_SYMBOLS};
 use std::alloc::{AllocError, Global};
 

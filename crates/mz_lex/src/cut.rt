@@ -12,8 +12,7 @@ use crate::piece::{Piece, first_piece};
 use crate::symbol_table::SymbolTable;
 use mz_base::place::Place;
 use mz_base::text::Text;
-use mz_base::token::Token;
-use mz_base::tokens::Tokens;
+use mz_base::token::{Token, Tokens};
 use std::alloc::{AllocError, Global};
 
 /// The most tokens that a text has.

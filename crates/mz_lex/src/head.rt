@@ -2,70 +2,66 @@
 ghost use Rattle.std.specs.Prelude.{◌≡◌, ◌++◌, ◌∷◌, [], IfOk, IfErr, OnOk};
 ghost use Rattle.mz_lex.specs.BuiltIn.{built_in_lexemes};
 ghost use Rattle.mz_lex.specs.Cut.{Stop, OneCut};
-ghost use Rattle.mz_lex.specs.Expected.{next_of, is_at_directive, is_later, fault_at, AreRefused};
+ghost use Rattle.mz_lex.specs.State.{next_of, is_at_directive, is_later, fault_at, AreRefused};
 ghost use Rattle.mz_lex.specs.Head.{SpellsHead, IsHeadOf, IsHeadRefused};
 
 use crate::built_in::built_in_lexemes;
 use crate::cut::cut;
-use crate::expected::Expected;
 use crate::head_fault::HeadFault;
+use crate::head_token::{HeadToken, head_token_of};
 use crate::part::Part;
-use crate::sign::{Sign, sign_of};
+use crate::state::State;
 use crate::symbol_table::SymbolTable;
-use mz_base::directive::Directive;
-use mz_base::directive_kind::DirectiveKind;
-use mz_base::head::Head;
+use mz_base::head::{Directive, DirectiveKind, Head, PlacedName, PlacedNames};
 use mz_base::name::Name;
 use mz_base::place::Place;
-use mz_base::placed_name::PlacedName;
-use mz_base::placed_names::PlacedNames;
 use mz_base::token::Token;
 use std::alloc::{AllocError, Global};
 use std::mem;
 
-/// What may come behind the sign, where that may come.
-fn next_of(expected: Expected, sign: Sign) -> Option<Expected>
-    ensures { result ≡ next_of expected sign }
+/// What may come behind the token, where that may come.
+fn next_of(state: State, head_token: HeadToken) -> Option<State>
+    ensures { result ≡ next_of state head_token }
 {
-    match expected {
-        Expected::AtEnviron => match sign {
-            Sign::Environ => Some(Expected::AtDirective),
+    match state {
+        State::AtEnviron => match head_token {
+            HeadToken::Environ => Some(State::AtDirective),
             _ => None,
         },
-        Expected::AtDirective => match sign {
-            Sign::Directive(_) => Some(Expected::AtName),
-            Sign::Begin => Some(Expected::AtEnd),
+        State::AtDirective => match head_token {
+            HeadToken::Directive(_) => Some(State::AtName),
+            HeadToken::Begin => Some(State::AtEnd),
             _ => None,
         },
-        Expected::AtName => match sign {
-            Sign::Name => Some(Expected::AtSign),
+        State::AtName => match head_token {
+            HeadToken::Name => Some(State::AtSeparator),
             _ => None,
         },
-        Expected::AtSign => match sign {
-            Sign::Comma => Some(Expected::AtName),
-            Sign::Semicolon => Some(Expected::AtDirective),
+        State::AtSeparator => match head_token {
+            HeadToken::Comma => Some(State::AtName),
+            HeadToken::Semicolon => Some(State::AtDirective),
             _ => None,
         },
-        Expected::AtEnd => None,
+        State::AtEnd => None,
     }
 }
 
-fn is_at_directive(expected: Expected) -> bool
-    ensures { result ≡ is_at_directive expected }
+fn is_at_directive(state: State) -> bool
+    ensures { result ≡ is_at_directive state }
 {
-    matches!(expected, Expected::AtDirective)
+    matches!(state, State::AtDirective)
 }
 
-fn is_later(sign: Sign) -> bool
-    ensures { result ≡ is_later sign }
+fn is_later(head_token: HeadToken) -> bool
+    ensures { result ≡ is_later head_token }
 {
-    matches!(sign, Sign::Later)
+    matches!(head_token, HeadToken::Later)
 }
 
-fn fault_at(expected: Expected, sign: Sign, place: Place) -> HeadFault
-    ensures { result ≡ fault_at expected sign place }
+fn fault_at(state: State, head_token: HeadToken, place: Place) -> HeadFault
+    ensures { result ≡ fault_at state head_token place }
 {
-    if is_at_directive(expected) && is_later(sign) {
+    if is_at_directive(state) && is_later(head_token) {
         HeadFault::Profile2 { place }
     } else {
         HeadFault::Unexpected { place }
@@ -92,42 +88,42 @@ fn read_head(alloc: Global, tokens: &[Token], end: Place) -> Result<Head, HeadFa
     ensures refused { IfErr result (AreRefused tokens.now end) }
 {
     let mut items = Vec::new(alloc);
-    let mut expected = Expected::AtEnviron;
+    let mut state = State::AtEnviron;
     let mut kind = DirectiveKind::Vocabularies;
     let mut place = end;
     let mut names = Vec::new(alloc);
     for token in tokens {
-        let sign = sign_of(token);
-        let Some(next) = next_of(expected, sign) else {
-            return Err(fault_at(expected, sign, token.place));
+        let head_token = head_token_of(token);
+        let Some(next) = next_of(state, head_token) else {
+            return Err(fault_at(state, head_token, token.place));
         };
-        expected = next;
-        match sign {
-            Sign::Environ => {}
-            Sign::Begin => {}
-            Sign::Directive(word) => {
+        state = next;
+        match head_token {
+            HeadToken::Environ => {}
+            HeadToken::Begin => {}
+            HeadToken::Directive(word) => {
                 kind = word;
                 place = token.place;
                 names = Vec::new(alloc);
             }
-            Sign::Later => {}
-            Sign::Name => match Name::read(token.spelling.as_slice()) {
+            HeadToken::Later => {}
+            HeadToken::Name => match Name::read(token.spelling.as_slice()) {
                 Ok(name) => names.push(PlacedName {
                     name,
                     place: token.place,
                 })?,
                 Err(_) => return Err(HeadFault::Unexpected { place: token.place }),
             },
-            Sign::Comma => {}
-            Sign::Semicolon => {
+            HeadToken::Comma => {}
+            HeadToken::Semicolon => {
                 let all = mem::replace(&mut names, Vec::new(alloc));
                 add_directive(&mut items, kind, place, all)?;
             }
-            Sign::Other => {}
+            HeadToken::Other => {}
         }
     }
-    match expected {
-        Expected::AtEnd => Ok(Head { items }),
+    match state {
+        State::AtEnd => Ok(Head { items }),
         _ => Err(HeadFault::EndsEarly { place: end }),
     }
 }

@@ -1,6 +1,6 @@
 //! What a text may be cut into besides words.
 use mz_base::text::Text;
-use mz_base::token_kind::TokenKind;
+use mz_base::token::TokenKind;
 
 /// A reserved word, a special symbol or a symbol of the environment.
 #[derive(Debug, Drop)]

@@ -3,19 +3,17 @@
 
 pub mod built_in;
 pub mod cut;
-pub mod expected;
 pub mod head;
 pub mod head_fault;
+pub mod head_token;
 pub mod known;
 pub mod lex_fault;
 pub mod lexeme;
 pub mod longest;
 pub mod part;
 pub mod piece;
-pub mod sign;
+pub mod state;
 pub mod symbol_table;
 pub mod table;
 pub mod table_fault;
-#[cfg(test)]
-mod tests;
 pub mod tokens;

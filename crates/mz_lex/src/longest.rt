@@ -1,5 +1,5 @@
 //! The longest lexeme at the start of a text.
-use mz_base::token_kind::TokenKind;
+use mz_base::token::TokenKind;
 
 /// How long the token at the start of a text is, and what it is; length 0 where there is none.
 #[derive(Clone, Copy, Debug, PartialEq, Eq)]

@@ -8,7 +8,7 @@ ghost use Rattle.mz_lex.specs.Piece.{IsPiece, IsLongestToken, comment_len, word_
 
 use crate::longest::Longest;
 use crate::symbol_table::SymbolTable;
-use mz_base::token_kind::TokenKind;
+use mz_base::token::TokenKind;
 use mz_base::words::{are_digits, is_word_byte};
 
 /// What stands at the start of a text that isn't empty.

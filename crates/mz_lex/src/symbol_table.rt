@@ -7,7 +7,7 @@ ghost use Rattle.mz_lex.specs.Tokens.{lexeme_of};
 
 use crate::lexeme::Lexeme;
 use crate::longest::Longest;
-use mz_base::token_kind::TokenKind;
+use mz_base::token::TokenKind;
 use mz_voc::spelled::Spelled;
 use std::alloc::{AllocError, Global};
 use std::marker::Model;

@@ -8,7 +8,7 @@ use crate::cut::cut;
 use crate::lex_fault::LexFault;
 use crate::part::Part;
 use crate::symbol_table::SymbolTable;
-use mz_base::tokens::Tokens;
+use mz_base::token::Tokens;
 use std::alloc::Global;
 
 /// The tokens of a text: at each token's start the longest of a lexeme and a word, and at equal length the lexeme.

@@ -8,18 +8,18 @@ use Rattle.mz_logic.specs.declared.sequent.Sequent.{Sequent}
 use Rattle.mz_logic.specs.declared.rule.Rule.{Rule}
 use Rattle.mz_logic.specs.declared.rule.Rule.TheVariants.{Hypothesis, Weaken, Truth, AndIn, AndLeft, AndRight, NotIn, NotOut, Classical, AllIn, AllOut, Reflexive, Replace, Cut, Axiom, Instance}
 use Rattle.mz_logic.specs.Derivation.{Derivation, Derivations, Node, none, more, root, roots}
-use Rattle.mz_logic.specs.Derives.{IsRight, AreRight, FollowsBy, Derives}
+use Rattle.mz_logic.specs.Derives.{IsValid, AreValid, FollowsBy, Derives}
 use Rattle.mz_logic.proofs.Connectives.{anywhere}
 
 -- a right derivation with that sequent at its root
 abbrev Reaches : List Formula → Sequent → Type 0
-Reaches ax s = (d : Derivation) × (root d ≡ s) × IsRight ax d
+Reaches ax s = (d : Derivation) × (root d ≡ s) × IsValid ax d
 
 abbrev ReachesAll : List Formula → List Sequent → Type 0
-ReachesAll ax ss = (ds : Derivations) × (roots ds ≡ ss) × AreRight ax ds
+ReachesAll ax ss = (ds : Derivations) × (roots ds ≡ ss) × AreValid ax ds
 
 on_top : (ax : List Formula) (r : Rule) (s : Sequent) (ps : List Sequent) → FollowsBy ax r s ps → ReachesAll ax ps → Reaches ax s
-unfolding IsRight AreRight
+unfolding IsValid AreValid
 on_top ax r s ps h up = (Node r s up.0, refl, (rw up.1 h, up.2))
 
 axiom_reached : (ax others : List Formula) → ((f : Formula) → IsMember ax f → Derives others [] f) → (i : ℕ) (s : Sequent) → 1 ≤ i → slice_get ax (i - 1) ≡ Some s.conclusion → Reaches others s
@@ -50,12 +50,12 @@ node_reached ax others each Cut s ps h up = on_top others Cut s ps h up
 node_reached ax others each (Instance ls) s ps h up = on_top others (Instance ls) s ps h up
 
 mutual
-  unfolding IsRight AreRight
+  unfolding IsValid AreValid
 
-  root_reached : (ax others : List Formula) → ((f : Formula) → IsMember ax f → Derives others [] f) → (d : Derivation) → IsRight ax d → Reaches others (root d)
+  root_reached : (ax others : List Formula) → ((f : Formula) → IsMember ax f → Derives others [] f) → (d : Derivation) → IsValid ax d → Reaches others (root d)
   root_reached ax others each (Node r s ds) h = node_reached ax others each r s (roots ds) h.0 (roots_reached ax others each ds h.1)
 
-  roots_reached : (ax others : List Formula) → ((f : Formula) → IsMember ax f → Derives others [] f) → (ds : Derivations) → AreRight ax ds → ReachesAll others (roots ds)
+  roots_reached : (ax others : List Formula) → ((f : Formula) → IsMember ax f → Derives others [] f) → (ds : Derivations) → AreValid ax ds → ReachesAll others (roots ds)
   roots_reached ax others each none h = (none, refl, tt)
   roots_reached ax others each (more d ds) h =
       let one : Reaches others (root d) = root_reached ax others each d h.0 in

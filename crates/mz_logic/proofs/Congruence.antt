@@ -1,5 +1,5 @@
 -- Equal terms may stand for one another in terms, atoms, equations and formulas.
-use Rattle.std.proofs.Common.{◌≡◌, refl, ℕ, ◌+◌, ◌-◌, List, [], ◌∷◌, map, Bool, true, false}
+use Rattle.std.proofs.Common.{◌≡◌, refl, sym, subst, ℕ, ◌+◌, ◌-◌, List, [], ◌∷◌, map, Bool, true, false}
 use Rattle.std.specs.Prelude.{nat_lt, nat_eq, if◌then◌else◌}
 use Rattle.std.specs.List.{list_all}
 use Rattle.std.proofs.lemmas.Bool.{and_parts}
@@ -7,11 +7,12 @@ use Rattle.mz_logic.specs.declared.sym.Sym.{Sym}
 use Rattle.mz_logic.specs.Term.{Term, Terms, Bound, Const, App, none, more, terms_of}
 use Rattle.mz_logic.specs.Formula.{Formula, Truth, Eq, Atom, Not, And, All}
 use Rattle.mz_logic.specs.Indices.{closed}
-use Rattle.mz_logic.specs.Substitution.{put, put_args, put_formula, body_at}
+use Rattle.mz_logic.specs.Substitution.{substitute, substitute_args, substitute_formula, value_at, body_at}
 use Rattle.mz_logic.specs.Replacement.{TermReplaced, ArgsReplaced, Replaced, replaced, kept, within, end, next}
 use Rattle.mz_logic.specs.Derives.{Derives}
 use Rattle.mz_logic.specs.Equality.{AreEqual}
 use Rattle.mz_logic.proofs.IndexLemmas.{args_below-terms_of}
+use Rattle.mz_logic.proofs.ValueLaws.{substitute-one}
 use Rattle.mz_logic.proofs.Rules.{reflexive, replace}
 use Rattle.mz_logic.proofs.Connectives.{swapped, chained}
 
@@ -21,37 +22,47 @@ index_replaced t u index depth true b = kept (Bound index)
 index_replaced t u index depth false true = replaced
 index_replaced t u index depth false false = kept (Bound (index - 1))
 
+index_at_replaced : (t u : Term) (depth index : ℕ) → closed t ≡ true → closed u ≡ true → TermReplaced t u (substitute depth (value_at (t ∷ [])) (Bound index)) (substitute depth (value_at (u ∷ [])) (Bound index))
+index_at_replaced t u depth index ct cu =
+    subst (λ x. TermReplaced t u x (substitute depth (value_at (u ∷ [])) (Bound index))) (sym (substitute-one depth t index ct))
+    (subst (TermReplaced t u (if nat_lt index depth then Bound index else (if nat_eq index depth then t else Bound (index - 1)))) (sym (substitute-one depth u index cu))
+    (index_replaced t u index depth (nat_lt index depth) (nat_eq index depth)))
+
 mutual
-  pub put_replaced : (t u : Term) (depth : ℕ) (a : Term) → TermReplaced t u (put depth t a) (put depth u a)
-  put_replaced t u depth (Bound index) = index_replaced t u index depth (nat_lt index depth) (nat_eq index depth)
-  put_replaced t u depth (Const number) = kept (Const number)
-  put_replaced t u depth (App s xs) = within s (put_args depth t xs) (put_args depth u xs) (put_args_replaced t u depth xs)
+  pub substitute_replaced : (t u : Term) (depth : ℕ) (a : Term) → closed t ≡ true → closed u ≡ true → TermReplaced t u (substitute depth (value_at (t ∷ [])) a) (substitute depth (value_at (u ∷ [])) a)
+  substitute_replaced t u depth (Bound index) ct cu = index_at_replaced t u depth index ct cu
+  substitute_replaced t u depth (Const number) ct cu = kept (Const number)
+  substitute_replaced t u depth (App s xs) ct cu = within s (substitute_args depth (value_at (t ∷ [])) xs) (substitute_args depth (value_at (u ∷ [])) xs) (substitute_args_replaced t u depth xs ct cu)
 
-  pub put_args_replaced : (t u : Term) (depth : ℕ) (xs : Terms) → ArgsReplaced t u (put_args depth t xs) (put_args depth u xs)
-  put_args_replaced t u depth none = end
-  put_args_replaced t u depth (more a xs) = next (put depth t a) (put depth u a) (put_args depth t xs) (put_args depth u xs) (put_replaced t u depth a) (put_args_replaced t u depth xs)
+  pub substitute_args_replaced : (t u : Term) (depth : ℕ) (xs : Terms) → closed t ≡ true → closed u ≡ true → ArgsReplaced t u (substitute_args depth (value_at (t ∷ [])) xs) (substitute_args depth (value_at (u ∷ [])) xs)
+  substitute_args_replaced t u depth none ct cu = end
+  substitute_args_replaced t u depth (more a xs) ct cu =
+      next (substitute depth (value_at (t ∷ [])) a) (substitute depth (value_at (u ∷ [])) a) (substitute_args depth (value_at (t ∷ [])) xs) (substitute_args depth (value_at (u ∷ [])) xs)
+      (substitute_replaced t u depth a ct cu) (substitute_args_replaced t u depth xs ct cu)
 
-list_replaced : (t u : Term) (depth : ℕ) (xs : List Term) → ArgsReplaced t u (terms_of (map (put depth t) xs)) (terms_of (map (put depth u) xs))
-list_replaced t u depth [] = end
-list_replaced t u depth (a ∷ xs) = next (put depth t a) (put depth u a) (terms_of (map (put depth t) xs)) (terms_of (map (put depth u) xs)) (put_replaced t u depth a) (list_replaced t u depth xs)
+list_replaced : (t u : Term) (depth : ℕ) (xs : List Term) → closed t ≡ true → closed u ≡ true → ArgsReplaced t u (terms_of (map (substitute depth (value_at (t ∷ []))) xs)) (terms_of (map (substitute depth (value_at (u ∷ []))) xs))
+list_replaced t u depth [] ct cu = end
+list_replaced t u depth (a ∷ xs) ct cu =
+    next (substitute depth (value_at (t ∷ [])) a) (substitute depth (value_at (u ∷ [])) a) (terms_of (map (substitute depth (value_at (t ∷ []))) xs)) (terms_of (map (substitute depth (value_at (u ∷ []))) xs))
+    (substitute_replaced t u depth a ct cu) (list_replaced t u depth xs ct cu)
 
-pub put_formula_replaced : (t u : Term) (depth : ℕ) (f : Formula) → Replaced t u (put_formula depth t f) (put_formula depth u f)
-put_formula_replaced t u depth Truth = refl
-put_formula_replaced t u depth (Eq a b) = (put_replaced t u depth a, put_replaced t u depth b)
-put_formula_replaced t u depth (Atom s xs) = (refl, list_replaced t u depth xs)
-put_formula_replaced t u depth (Not f) = put_formula_replaced t u depth f
-put_formula_replaced t u depth (And f g) = (put_formula_replaced t u depth f, put_formula_replaced t u depth g)
-put_formula_replaced t u depth (All f) = put_formula_replaced t u (depth + 1) f
+pub substitute_formula_replaced : (t u : Term) (depth : ℕ) (f : Formula) → closed t ≡ true → closed u ≡ true → Replaced t u (substitute_formula depth (value_at (t ∷ [])) f) (substitute_formula depth (value_at (u ∷ [])) f)
+substitute_formula_replaced t u depth Truth ct cu = refl
+substitute_formula_replaced t u depth (Eq a b) ct cu = (substitute_replaced t u depth a ct cu, substitute_replaced t u depth b ct cu)
+substitute_formula_replaced t u depth (Atom s xs) ct cu = (refl, list_replaced t u depth xs ct cu)
+substitute_formula_replaced t u depth (Not f) ct cu = substitute_formula_replaced t u depth f ct cu
+substitute_formula_replaced t u depth (And f g) ct cu = (substitute_formula_replaced t u depth f ct cu, substitute_formula_replaced t u depth g ct cu)
+substitute_formula_replaced t u depth (All f) ct cu = substitute_formula_replaced t u (depth + 1) f ct cu
 
 -- a formula with an equal term
 pub formula_congruence : (ax g : List Formula) (t u : Term) (b : Formula) → closed t ≡ true → closed u ≡ true → Derives ax g (Eq t u) → Derives ax g (body_at b t) → Derives ax g (body_at b u)
-formula_congruence ax g t u b ct cu e d = replace ax g t u (body_at b t) (body_at b u) ct cu (put_formula_replaced t u 0 b) e d
+formula_congruence ax g t u b ct cu e d = replace ax g t u (body_at b t) (body_at b u) ct cu (substitute_formula_replaced t u 0 b ct cu) e d
 
 -- a term with an equal term in it
-pub term_congruence : (ax g : List Formula) (t u a : Term) → closed t ≡ true → closed u ≡ true → closed (put 0 t a) ≡ true → Derives ax g (Eq t u) → Derives ax g (Eq (put 0 t a) (put 0 u a))
+pub term_congruence : (ax g : List Formula) (t u a : Term) → closed t ≡ true → closed u ≡ true → closed (substitute 0 (value_at (t ∷ [])) a) ≡ true → Derives ax g (Eq t u) → Derives ax g (Eq (substitute 0 (value_at (t ∷ [])) a) (substitute 0 (value_at (u ∷ [])) a))
 term_congruence ax g t u a ct cu ca e =
-    let at : Term = put 0 t a in
-    replace ax g t u (Eq at at) (Eq at (put 0 u a)) ct cu (kept at, put_replaced t u 0 a) e (reflexive ax g at ca)
+    let at : Term = substitute 0 (value_at (t ∷ [])) a in
+    replace ax g t u (Eq at at) (Eq at (substitute 0 (value_at (u ∷ [])) a)) ct cu (kept at, substitute_replaced t u 0 a ct cu) e (reflexive ax g at ca)
 
 -- arguments that are equal one by one
 all_kept : (t u : Term) (xs : List Term) → ArgsReplaced t u (terms_of xs) (terms_of xs)

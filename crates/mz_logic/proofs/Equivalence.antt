@@ -1,17 +1,18 @@
 -- Formulas that derive one another, and their normal forms.
-use Rattle.std.proofs.Common.{◌≡◌, ◌≤◌, ℕ, zero, suc, ◌+◌, max, List, [], ◌∷◌, refl, ap, ◌∙◌, subst, arith, Bool, false}
-use Rattle.std.specs.Prelude.{◌||◌}
+use Rattle.std.proofs.Common.{◌≡◌, ◌≤◌, ℕ, zero, suc, ◌+◌, max, List, [], ◌∷◌, refl, ap, ◌∙◌, subst, arith, false}
+use Rattle.std.proofs.lemmas.Bool.{or_from}
 use Rattle.mz_logic.specs.Term.{Term, Const}
-use Rattle.mz_logic.specs.Formula.{Formula, Truth, Eq, Atom, Not, And, All, formula_size}
-use Rattle.mz_logic.specs.Constants.{formula_mentions}
-use Rattle.mz_logic.specs.Substitution.{put_formula, body_at}
+use Rattle.mz_logic.specs.Formula.{Formula, Truth, Eq, Atom, Not, And, All}
+use Rattle.mz_logic.specs.FormulaStorage.{formula_size}
+use Rattle.mz_logic.specs.Constants.{occurs_in_formula}
+use Rattle.mz_logic.specs.Substitution.{substitute_formula, value_at, body_at}
 use Rattle.mz_logic.specs.Negation.{falsity, negated}
 use Rattle.mz_logic.specs.Same.{IsSame, grouped, normal_form}
 use Rattle.mz_logic.specs.Derives.{Derives}
 use Rattle.mz_logic.proofs.Rules.{and_in, and_left, and_right, not_in, not_out, all_in, all_out}
 use Rattle.mz_logic.proofs.Connectives.{first, second, through, twice_in, twice_out}
 use Rattle.mz_logic.proofs.SameRelation.{normal_form-IsSame}
-use Rattle.mz_logic.proofs.Fresh.{formula_greatest, formula_mentions-above}
+use Rattle.mz_logic.proofs.Fresh.{formula_greatest, occurs_in_formula-above}
 
 -- each derives the other
 abbrev pub Equivalent : List Formula → Formula → Formula → Type 0
@@ -42,17 +43,14 @@ one_And ax f g h k d e =
 pub equivalent_And : (ax : List Formula) (f g h k : Formula) → Equivalent ax f h → Equivalent ax g k → Equivalent ax (And f g) (And h k)
 equivalent_And ax f g h k d e = (one_And ax f g h k d.0 e.0, one_And ax h k f g d.1 e.1)
 
-either : (a b : Bool) → a ≡ false → b ≡ false → (a || b) ≡ false
-either a b p q = rw (p, q) refl
-
-one_All : (ax : List Formula) (f g : Formula) (c : ℕ) → formula_mentions c f ≡ false → formula_mentions c g ≡ false → Derives ax (body_at f (Const c) ∷ []) (body_at g (Const c)) → Derives ax (All f ∷ []) (All g)
+one_All : (ax : List Formula) (f g : Formula) (c : ℕ) → occurs_in_formula c f ≡ false → occurs_in_formula c g ≡ false → Derives ax (body_at f (Const c) ∷ []) (body_at g (Const c)) → Derives ax (All f ∷ []) (All g)
 one_All ax f g c nf ng d =
     let h : List Formula = All f ∷ [] in
     let at : Derives ax h (body_at f (Const c)) = all_out ax h f (Const c) refl (first ax [] (All f)) in
-    all_in ax h g c (either _ _ nf refl) ng (through ax h (body_at f (Const c)) (body_at g (Const c)) d at)
+    all_in ax h g c (or_from _ _ nf refl) ng (through ax h (body_at f (Const c)) (body_at g (Const c)) d at)
 
 -- bodies that are equivalent at a constant that neither has
-pub equivalent_All : (ax : List Formula) (f g : Formula) (c : ℕ) → formula_mentions c f ≡ false → formula_mentions c g ≡ false → Equivalent ax (body_at f (Const c)) (body_at g (Const c)) → Equivalent ax (All f) (All g)
+pub equivalent_All : (ax : List Formula) (f g : Formula) (c : ℕ) → occurs_in_formula c f ≡ false → occurs_in_formula c g ≡ false → Equivalent ax (body_at f (Const c)) (body_at g (Const c)) → Equivalent ax (All f) (All g)
 equivalent_All ax f g c nf ng e = (one_All ax f g c nf ng e.0, one_All ax g f c ng nf e.1)
 
 pub equivalent_negated : (ax : List Formula) (f : Formula) → Equivalent ax (Not f) (negated f)
@@ -84,37 +82,37 @@ equivalent_grouped ax (And f g) h = equivalent_chain ax (And (And f g) h) (And f
 equivalent_grouped ax (All f) h = equivalent_self ax (And (All f) h)
 
 -- normal forms and the body of a quantifier
-negated-put_formula : (depth : ℕ) (t : Term) (f : Formula) → negated (put_formula depth t f) ≡ put_formula depth t (negated f)
-negated-put_formula depth t Truth = refl
-negated-put_formula depth t (Eq u v) = refl
-negated-put_formula depth t (Atom s us) = refl
-negated-put_formula depth t (Not f) = refl
-negated-put_formula depth t (And f g) = refl
-negated-put_formula depth t (All f) = refl
+negated-substitute_formula : (depth : ℕ) (v : ℕ → Term) (f : Formula) → negated (substitute_formula depth v f) ≡ substitute_formula depth v (negated f)
+negated-substitute_formula depth v Truth = refl
+negated-substitute_formula depth v (Eq t u) = refl
+negated-substitute_formula depth v (Atom s us) = refl
+negated-substitute_formula depth v (Not f) = refl
+negated-substitute_formula depth v (And f g) = refl
+negated-substitute_formula depth v (All f) = refl
 
-grouped-put_formula : (depth : ℕ) (t : Term) (f h : Formula) → grouped (put_formula depth t f) (put_formula depth t h) ≡ put_formula depth t (grouped f h)
-grouped-put_formula depth t Truth h = refl
-grouped-put_formula depth t (Eq u v) h = refl
-grouped-put_formula depth t (Atom s us) h = refl
-grouped-put_formula depth t (Not f) h = refl
-grouped-put_formula depth t (And f g) h = ap (λ k. And (put_formula depth t f) k) (grouped-put_formula depth t g h)
-grouped-put_formula depth t (All f) h = refl
+grouped-substitute_formula : (depth : ℕ) (v : ℕ → Term) (f h : Formula) → grouped (substitute_formula depth v f) (substitute_formula depth v h) ≡ substitute_formula depth v (grouped f h)
+grouped-substitute_formula depth v Truth h = refl
+grouped-substitute_formula depth v (Eq t u) h = refl
+grouped-substitute_formula depth v (Atom s us) h = refl
+grouped-substitute_formula depth v (Not f) h = refl
+grouped-substitute_formula depth v (And f g) h = ap (λ k. And (substitute_formula depth v f) k) (grouped-substitute_formula depth v g h)
+grouped-substitute_formula depth v (All f) h = refl
 
-pub normal_form-put_formula : (depth : ℕ) (t : Term) (f : Formula) → normal_form (put_formula depth t f) ≡ put_formula depth t (normal_form f)
-normal_form-put_formula depth t Truth = refl
-normal_form-put_formula depth t (Eq u v) = refl
-normal_form-put_formula depth t (Atom s us) = refl
-normal_form-put_formula depth t (Not f) = ap negated (normal_form-put_formula depth t f) ∙ negated-put_formula depth t (normal_form f)
-normal_form-put_formula depth t (And f g) = (λ i. grouped (normal_form-put_formula depth t f i) (normal_form-put_formula depth t g i)) ∙ grouped-put_formula depth t (normal_form f) (normal_form g)
-normal_form-put_formula depth t (All f) = ap All (normal_form-put_formula (depth + 1) t f)
+pub normal_form-substitute_formula : (depth : ℕ) (v : ℕ → Term) (f : Formula) → normal_form (substitute_formula depth v f) ≡ substitute_formula depth v (normal_form f)
+normal_form-substitute_formula depth v Truth = refl
+normal_form-substitute_formula depth v (Eq t u) = refl
+normal_form-substitute_formula depth v (Atom s us) = refl
+normal_form-substitute_formula depth v (Not f) = ap negated (normal_form-substitute_formula depth v f) ∙ negated-substitute_formula depth v (normal_form f)
+normal_form-substitute_formula depth v (And f g) = (λ i. grouped (normal_form-substitute_formula depth v f i) (normal_form-substitute_formula depth v g i)) ∙ grouped-substitute_formula depth v (normal_form f) (normal_form g)
+normal_form-substitute_formula depth v (All f) = ap All (normal_form-substitute_formula (depth + 1) v f)
 
-pub formula_size-put_formula : (depth : ℕ) (t : Term) (f : Formula) → formula_size (put_formula depth t f) ≡ formula_size f
-formula_size-put_formula depth t Truth = refl
-formula_size-put_formula depth t (Eq u v) = refl
-formula_size-put_formula depth t (Atom s us) = refl
-formula_size-put_formula depth t (Not f) = ap suc (formula_size-put_formula depth t f)
-formula_size-put_formula depth t (And f g) = λ i. suc (formula_size-put_formula depth t f i + formula_size-put_formula depth t g i)
-formula_size-put_formula depth t (All f) = ap suc (formula_size-put_formula (depth + 1) t f)
+pub formula_size-substitute_formula : (depth : ℕ) (v : ℕ → Term) (f : Formula) → formula_size (substitute_formula depth v f) ≡ formula_size f
+formula_size-substitute_formula depth v Truth = refl
+formula_size-substitute_formula depth v (Eq t u) = refl
+formula_size-substitute_formula depth v (Atom s us) = refl
+formula_size-substitute_formula depth v (Not f) = ap suc (formula_size-substitute_formula depth v f)
+formula_size-substitute_formula depth v (And f g) = λ i. suc (formula_size-substitute_formula depth v f i + formula_size-substitute_formula depth v g i)
+formula_size-substitute_formula depth v (All f) = ap suc (formula_size-substitute_formula (depth + 1) v f)
 
 -- each formula and its normal form
 normal_within : (ax : List Formula) (n : ℕ) (f : Formula) → formula_size f ≤ n → Equivalent ax f (normal_form f)
@@ -134,10 +132,10 @@ normal_within ax zero (All f) le = absurd (omega arith)
 normal_within ax (suc n) (All f) le =
     let m : Formula = normal_form f in
     let c : ℕ = suc (max (formula_greatest f) (formula_greatest m)) in
-    let smaller : formula_size (body_at f (Const c)) ≤ n = omega (arith, formula_size-put_formula 0 (Const c) f) in
+    let smaller : formula_size (body_at f (Const c)) ≤ n = omega (arith, formula_size-substitute_formula 0 (value_at (Const c ∷ [])) f) in
     let inner : Equivalent ax (body_at f (Const c)) (normal_form (body_at f (Const c))) = normal_within ax n (body_at f (Const c)) smaller in
-    let moved : Equivalent ax (body_at f (Const c)) (body_at m (Const c)) = subst (Equivalent ax (body_at f (Const c))) (normal_form-put_formula 0 (Const c) f) inner in
-    equivalent_All ax f m c (formula_mentions-above c f (omega arith)) (formula_mentions-above c m (omega arith)) moved
+    let moved : Equivalent ax (body_at f (Const c)) (body_at m (Const c)) = subst (Equivalent ax (body_at f (Const c))) (normal_form-substitute_formula 0 (value_at (Const c ∷ [])) f) inner in
+    equivalent_All ax f m c (occurs_in_formula-above c f (omega arith)) (occurs_in_formula-above c m (omega arith)) moved
 
 pub equivalent_normal_form : (ax : List Formula) (f : Formula) → Equivalent ax f (normal_form f)
 equivalent_normal_form ax f = normal_within ax (formula_size f) f (omega arith)

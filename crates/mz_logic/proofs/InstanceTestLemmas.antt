@@ -1,104 +1,97 @@
--- Instances of applications, lifted instances and filled bodies, for the test of instances.
+-- Instances of applications, shifted instances and bodies at arguments, for the test of instances.
 use Rattle.std.proofs.Common.{◌≡◌, ◌<◌, ◌≤◌, ℕ, zero, suc, ◌+◌, ◌-◌, List, [], ◌∷◌, map, length, get_or, refl, sym, ap, ◌∙◌, arith, Bool, true, false}
-use Rattle.std.specs.Prelude.{nat_lt, if◌then◌else◌, Option, Some, None, find, slice_index_or}
-use Rattle.std.proofs.lemmas.Bool.{le-ltb}
+use Rattle.std.specs.Prelude.{nat_lt, if◌then◌else◌, Option, Some, None, find}
+use Rattle.std.proofs.lemmas.Bool.{le-ltb, true≢false}
 use Rattle.std.proofs.lemmas.List.{get_or-map}
 use Rattle.mz_logic.specs.declared.sym.Sym.{Sym}
 use Rattle.mz_logic.specs.declared.letters.Letter.{Letter}
 use Rattle.mz_logic.specs.declared.letters.Body.{Body}
 use Rattle.mz_logic.specs.declared.letters.Body.TheVariants.{OfTerm, OfFormula}
-use Rattle.mz_logic.specs.Term.{Term, Terms, Bound, Const, App, none, more, terms_of, list_of, list_of-terms_of, terms_of-inj, size_of}
+use Rattle.mz_logic.specs.Term.{Term, Terms, Bound, Const, App, none, more, terms_of, list_of}
+use Rattle.mz_logic.specs.TermStorage.{list_of-terms_of, terms_of-inj, size_of}
 use Rattle.mz_logic.specs.Formula.{Formula}
 use Rattle.mz_logic.specs.Letters.{is_functor_letter, is_predicate_letter, is_of, term_in, formula_in, term_at, formula_at, term_for, formula_for}
-use Rattle.mz_logic.specs.Instance.{lift, lift_args, fill, fill_args, term_instance, args_instance, term_or}
-use Rattle.mz_logic.specs.InstanceTest.{lifted_instance, fill_by, fill_args_by, terms_size, body_size, bodies_size, weight, args_weight, letter_weight, letter_weights}
-use Rattle.mz_logic.proofs.InstanceLemmas.{lift_args-terms_of, args_instance-terms_of}
+use Rattle.mz_logic.specs.Substitution.{shift, shift_args, substitute, substitute_args, argument_at}
+use Rattle.mz_logic.specs.Instance.{term_instance, args_instance, term_or}
+use Rattle.mz_logic.specs.InstanceTest.{shifted_instance, term_at_by, args_at_by, terms_size, body_size, bodies_size, weight, args_weight, letter_weight, letter_weights}
+use Rattle.mz_logic.proofs.InstanceLemmas.{args_instance-terms_of}
+use Rattle.mz_logic.proofs.ShiftLaws.{shift-zero, shift-Bound, shift_args-terms_of}
 
--- lifting by nothing
+-- no further binders
+pub shifted_instance-zero : (ls : List Letter) (t : Term) → shifted_instance ls 0 t ≡ term_instance ls t
+unfolding shifted_instance
+shifted_instance-zero ls t = shift-zero 0 (term_instance ls t)
+
+pub shifted_instances-zero : (ls : List Letter) (ts : List Term) → map (shifted_instance ls 0) ts ≡ map (term_instance ls) ts
+shifted_instances-zero ls [] = refl
+shifted_instances-zero ls (t ∷ ts) = λ i. shifted_instance-zero ls t i ∷ shifted_instances-zero ls ts i
+
+-- a body under as many binders as its arguments are shifted by
 mutual
-  lift-zero : (t : Term) → lift 0 t ≡ t
-  lift-zero (Bound index) = ap Bound (omega arith)
-  lift-zero (Const number) = refl
-  lift-zero (App s ts) = ap (λ us. App s us) (lift_args-zero ts)
+  pub term_at_by-substitute : (depth : ℕ) (args : List Term) (t : Term) → term_at_by depth depth args t ≡ substitute depth (argument_at args) t
+  term_at_by-substitute depth args (Bound index) = refl
+  term_at_by-substitute depth args (Const number) = refl
+  term_at_by-substitute depth args (App s ts) = ap (λ us. App s us) (args_at_by-substitute depth args ts)
 
-  lift_args-zero : (ts : Terms) → lift_args 0 ts ≡ ts
-  lift_args-zero none = refl
-  lift_args-zero (more t ts) = λ i. more (lift-zero t i) (lift_args-zero ts i)
+  args_at_by-substitute : (depth : ℕ) (args : List Term) (ts : Terms) → args_at_by depth depth args ts ≡ substitute_args depth (argument_at args) ts
+  args_at_by-substitute depth args none = refl
+  args_at_by-substitute depth args (more t ts) = λ i. more (term_at_by-substitute depth args t i) (args_at_by-substitute depth args ts i)
 
-pub lifted_instance-zero : (ls : List Letter) (t : Term) → lifted_instance ls 0 t ≡ term_instance ls t
-unfolding lifted_instance
-lifted_instance-zero ls t = lift-zero (term_instance ls t)
+pub terms_at_by-substitute : (depth : ℕ) (args ts : List Term) → map (term_at_by depth depth args) ts ≡ map (substitute depth (argument_at args)) ts
+terms_at_by-substitute depth args [] = refl
+terms_at_by-substitute depth args (t ∷ ts) = λ i. term_at_by-substitute depth args t i ∷ terms_at_by-substitute depth args ts i
 
-pub lifted_instances-zero : (ls : List Letter) (ts : List Term) → map (lifted_instance ls 0) ts ≡ map (term_instance ls) ts
-lifted_instances-zero ls [] = refl
-lifted_instances-zero ls (t ∷ ts) = λ i. lifted_instance-zero ls t i ∷ lifted_instances-zero ls ts i
+pub args_at_by-terms_of : (inner by : ℕ) (args ts : List Term) → args_at_by inner by args (terms_of ts) ≡ terms_of (map (term_at_by inner by args) ts)
+args_at_by-terms_of inner by args [] = refl
+args_at_by-terms_of inner by args (t ∷ ts) = ap (λ us. more (term_at_by inner by args t) us) (args_at_by-terms_of inner by args ts)
 
--- a body under as many binders as its arguments are lifted by
-mutual
-  pub fill_by-fill : (depth : ℕ) (args : List Term) (t : Term) → fill_by depth depth args t ≡ fill depth args t
-  fill_by-fill depth args (Bound index) = refl
-  fill_by-fill depth args (Const number) = refl
-  fill_by-fill depth args (App s ts) = ap (λ us. App s us) (fill_args_by-fill depth args ts)
-
-  fill_args_by-fill : (depth : ℕ) (args : List Term) (ts : Terms) → fill_args_by depth depth args ts ≡ fill_args depth args ts
-  fill_args_by-fill depth args none = refl
-  fill_args_by-fill depth args (more t ts) = λ i. more (fill_by-fill depth args t i) (fill_args_by-fill depth args ts i)
-
-pub fills_by-fill : (depth : ℕ) (args ts : List Term) → map (fill_by depth depth args) ts ≡ map (fill depth args) ts
-fills_by-fill depth args [] = refl
-fills_by-fill depth args (t ∷ ts) = λ i. fill_by-fill depth args t i ∷ fills_by-fill depth args ts i
-
-pub fill_args_by-terms_of : (inner by : ℕ) (args ts : List Term) → fill_args_by inner by args (terms_of ts) ≡ terms_of (map (fill_by inner by args) ts)
-fill_args_by-terms_of inner by args [] = refl
-fill_args_by-terms_of inner by args (t ∷ ts) = ap (λ us. more (fill_by inner by args t) us) (fill_args_by-terms_of inner by args ts)
-
--- a functor letter's body, lifted
-lifted_index : (by : ℕ) (args : List Term) (index : ℕ) (b : Bool) → b ≡ false → lift by (if b then Bound index else lift 0 (slice_index_or args (index - 0) (Const 0))) ≡ (if b then Bound index else lift by (slice_index_or args (index - 0) (Const 0)))
-lifted_index by args index true e = cc
-lifted_index by args index false e = ap (lift by) (lift-zero (slice_index_or args (index - 0) (Const 0)))
+-- a functor letter's body, shifted
+shifted_index : (by index : ℕ) (args : List Term) (b : Bool) → b ≡ false → shift 0 by (if b then Bound index else shift 0 0 (argument_at args (index - 0))) ≡ (if b then Bound index else shift 0 by (argument_at args (index - 0)))
+shifted_index by index args true e = absurd (true≢false e)
+shifted_index by index args false e = ap (shift 0 by) (shift-zero 0 (argument_at args (index - 0)))
 
 mutual
-  lift-fill : (by : ℕ) (args : List Term) (t : Term) → lift by (fill 0 args t) ≡ fill_by 0 by args t
-  lift-fill by args (Bound index) = lifted_index by args index (nat_lt index 0) (le-ltb index 0 (omega arith))
-  lift-fill by args (Const number) = refl
-  lift-fill by args (App s ts) = ap (λ us. App s us) (lift_args-fill_args by args ts)
+  shift-substitute : (by : ℕ) (args : List Term) (t : Term) → shift 0 by (substitute 0 (argument_at args) t) ≡ term_at_by 0 by args t
+  shift-substitute by args (Bound index) = shifted_index by index args (nat_lt index 0) (le-ltb index 0 (omega arith))
+  shift-substitute by args (Const number) = refl
+  shift-substitute by args (App s ts) = ap (λ us. App s us) (shift_args-substitute_args by args ts)
 
-  lift_args-fill_args : (by : ℕ) (args : List Term) (ts : Terms) → lift_args by (fill_args 0 args ts) ≡ fill_args_by 0 by args ts
-  lift_args-fill_args by args none = refl
-  lift_args-fill_args by args (more t ts) = λ i. more (lift-fill by args t i) (lift_args-fill_args by args ts i)
+  shift_args-substitute_args : (by : ℕ) (args : List Term) (ts : Terms) → shift_args 0 by (substitute_args 0 (argument_at args) ts) ≡ args_at_by 0 by args ts
+  shift_args-substitute_args by args none = refl
+  shift_args-substitute_args by args (more t ts) = λ i. more (shift-substitute by args t i) (shift_args-substitute_args by args ts i)
 
--- lifted instances by cases
-pub lifted_instance-Bound : (ls : List Letter) (by index : ℕ) → lifted_instance ls by (Bound index) ≡ Bound (index + by)
-unfolding lifted_instance
-lifted_instance-Bound ls by index = refl
+-- shifted instances by cases
+pub shifted_instance-Bound : (ls : List Letter) (by index : ℕ) → shifted_instance ls by (Bound index) ≡ Bound (index + by)
+unfolding shifted_instance
+shifted_instance-Bound ls by index = shift-Bound by index
 
-pub lifted_instance-Const : (ls : List Letter) (by number : ℕ) → lifted_instance ls by (Const number) ≡ Const number
-unfolding lifted_instance
-lifted_instance-Const ls by number = refl
+pub shifted_instance-Const : (ls : List Letter) (by number : ℕ) → shifted_instance ls by (Const number) ≡ Const number
+unfolding shifted_instance
+shifted_instance-Const ls by number = refl
 
-lifts_of_instances : (ls : List Letter) (by : ℕ) (ts : List Term) → map (lift by) (map (term_instance ls) ts) ≡ map (lifted_instance ls by) ts
-unfolding lifted_instance
-lifts_of_instances ls by [] = refl
-lifts_of_instances ls by (t ∷ ts) = ap (λ us. lift by (term_instance ls t) ∷ us) (lifts_of_instances ls by ts)
+shifts_of_instances : (ls : List Letter) (by : ℕ) (ts : List Term) → map (shift 0 by) (map (term_instance ls) ts) ≡ map (shifted_instance ls by) ts
+unfolding shifted_instance
+shifts_of_instances ls by [] = refl
+shifts_of_instances ls by (t ∷ ts) = ap (λ us. shift 0 by (term_instance ls t) ∷ us) (shifts_of_instances ls by ts)
 
-pub lifted_instance-None : (ls : List Letter) (by : ℕ) (s : Sym) (ts : List Term) → term_for s ls ≡ None → lifted_instance ls by (App s (terms_of ts)) ≡ App s (terms_of (map (lifted_instance ls by) ts))
-unfolding lifted_instance
-lifted_instance-None ls by s ts e =
-    let inside : lift by (term_or (term_for s ls) s (list_of (args_instance ls (terms_of ts)))) ≡ lift by (term_or None s (map (term_instance ls) ts)) = λ i. lift by (term_or (e i) s (args_instance-terms_of ls ts i)) in
-    inside ∙ ap (λ us. App s us) (lift_args-terms_of by (map (term_instance ls) ts) ∙ ap terms_of (lifts_of_instances ls by ts))
+pub shifted_instance-None : (ls : List Letter) (by : ℕ) (s : Sym) (ts : List Term) → term_for s ls ≡ None → shifted_instance ls by (App s (terms_of ts)) ≡ App s (terms_of (map (shifted_instance ls by) ts))
+unfolding shifted_instance
+shifted_instance-None ls by s ts e =
+    let inside : shift 0 by (term_or (term_for s ls) s (list_of (args_instance ls (terms_of ts)))) ≡ shift 0 by (term_or None s (map (term_instance ls) ts)) = λ i. shift 0 by (term_or (e i) s (args_instance-terms_of ls ts i)) in
+    inside ∙ ap (λ us. App s us) (shift_args-terms_of 0 by (map (term_instance ls) ts) ∙ ap terms_of (shifts_of_instances ls by ts))
 
-pub lifted_instance-Some : (ls : List Letter) (by : ℕ) (s : Sym) (ts : List Term) (b : Term) → term_for s ls ≡ Some b → lifted_instance ls by (App s (terms_of ts)) ≡ fill_by 0 by (map (term_instance ls) ts) b
-unfolding lifted_instance
-lifted_instance-Some ls by s ts b e =
-    let inside : lift by (term_or (term_for s ls) s (list_of (args_instance ls (terms_of ts)))) ≡ lift by (term_or (Some b) s (map (term_instance ls) ts)) = λ i. lift by (term_or (e i) s (args_instance-terms_of ls ts i)) in
-    inside ∙ lift-fill by (map (term_instance ls) ts) b
+pub shifted_instance-Some : (ls : List Letter) (by : ℕ) (s : Sym) (ts : List Term) (b : Term) → term_for s ls ≡ Some b → shifted_instance ls by (App s (terms_of ts)) ≡ term_at_by 0 by (map (term_instance ls) ts) b
+unfolding shifted_instance
+shifted_instance-Some ls by s ts b e =
+    let inside : shift 0 by (term_or (term_for s ls) s (list_of (args_instance ls (terms_of ts)))) ≡ shift 0 by (term_or (Some b) s (map (term_instance ls) ts)) = λ i. shift 0 by (term_or (e i) s (args_instance-terms_of ls ts i)) in
+    inside ∙ shift-substitute by (map (term_instance ls) ts) b
 
 -- an argument at its place
-pub argument_at : (ls : List Letter) (by : ℕ) (args : List Term) (k : ℕ) (t : Term) → k < length args → t ≡ get_or args k t → lift by (get_or (map (term_instance ls) args) k (Const 0)) ≡ lifted_instance ls by t
-unfolding lifted_instance
-argument_at ls by args k t lt e = ap (lift by) (get_or-map (term_instance ls) args k t (Const 0) lt ∙ ap (term_instance ls) (sym e))
+pub argument_shifted : (ls : List Letter) (by : ℕ) (args : List Term) (k : ℕ) (t : Term) → k < length args → t ≡ get_or args k t → shift 0 by (argument_at (map (term_instance ls) args) k) ≡ shifted_instance ls by t
+unfolding shifted_instance
+argument_shifted ls by args k t lt e = ap (shift 0 by) (get_or-map (term_instance ls) args k t (Const 0) lt ∙ ap (term_instance ls) (sym e))
 
-pub argument_missing : (ls : List Letter) (args : List Term) (k : ℕ) → length args ≤ k → get_or (map (term_instance ls) args) k (Const 0) ≡ Const 0
+pub argument_missing : (ls : List Letter) (args : List Term) (k : ℕ) → length args ≤ k → argument_at (map (term_instance ls) args) k ≡ Const 0
 argument_missing ls [] k le = refl
 argument_missing ls (t ∷ ts) zero le = absurd (omega arith)
 argument_missing ls (t ∷ ts) (suc k) le = argument_missing ls ts k (omega arith)
@@ -162,14 +155,14 @@ pub letter_weight-item : (ls : List Letter) (ts : List Term) (k : ℕ) (t : Term
 unfolding letter_weight letter_weights
 letter_weight-item ls ts k t lt e = rw e (item_weight (suc (bodies_size ls)) ts k t (omega arith) lt)
 
-pub ruleset lift_rules = (lifted_instance-zero, lifted_instances-zero)
+pub ruleset shift_rules = (shifted_instance-zero, shifted_instances-zero)
 
-pub ruleset fill_rules = (fill_by-fill, fills_by-fill)
+pub ruleset substitute_rules = (term_at_by-substitute, terms_at_by-substitute)
 
 pub ruleset formula_rules = (formula_for-size)
 
-pub ruleset instance_rules = (lifted_instance-Bound, lifted_instance-Const, lifted_instance-None, lifted_instance-Some, term_for-size, letter_weight-App, terms_of-inj)
+pub ruleset instance_rules = (shifted_instance-Bound, shifted_instance-Const, shifted_instance-None, shifted_instance-Some, term_for-size, letter_weight-App, terms_of-inj)
 
 pub ruleset list_rules = (letter_weight-item)
 
-pub ruleset filled_rules = (fill_args_by-terms_of, argument_at, argument_missing, letter_weight-item, terms_of-inj)
+pub ruleset term_rules = (args_at_by-terms_of, argument_shifted, argument_missing, letter_weight-item, terms_of-inj)

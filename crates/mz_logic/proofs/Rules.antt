@@ -7,7 +7,7 @@ use Rattle.mz_logic.specs.Formula as formula
 use Rattle.mz_logic.specs.Formula.{Formula}
 use Rattle.mz_logic.specs.Formulas.{IsMember, sequent}
 use Rattle.mz_logic.specs.Indices.{closed}
-use Rattle.mz_logic.specs.Constants.{formula_mentions}
+use Rattle.mz_logic.specs.Constants.{occurs_in_formula}
 use Rattle.mz_logic.specs.Substitution.{body_at}
 use Rattle.mz_logic.specs.Negation.{falsity}
 use Rattle.mz_logic.specs.Instance.{instance}
@@ -16,21 +16,21 @@ use Rattle.mz_logic.specs.declared.letters.Letter.{Letter}
 use Rattle.mz_logic.specs.declared.rule.Rule.{Rule}
 use Rattle.mz_logic.specs.declared.rule.Rule.TheVariants.{Hypothesis, Weaken, Truth, AndIn, AndLeft, AndRight, NotIn, NotOut, Classical, AllIn, AllOut, Reflexive, Replace, Cut, Axiom, Instance}
 use Rattle.mz_logic.specs.Derivation.{Node, none, more, root}
-use Rattle.mz_logic.specs.Derives.{IsRight, AreRight, FollowsBy, Gives, GivesFrom, Derives}
+use Rattle.mz_logic.specs.Derives.{IsValid, AreValid, FollowsBy, Gives, GivesFrom, Derives}
 
 -- a node without parents, with one and with two
 from_none : (ax g : List Formula) (f : Formula) (r : Rule) → FollowsBy ax r (sequent g f) [] → Derives ax g f
-unfolding IsRight AreRight
+unfolding IsValid AreValid
 from_none ax g f r h = (Node r (sequent g f) none, refl, (h, tt))
 
 from_one : (ax g h : List Formula) (f k : Formula) (r : Rule) → FollowsBy ax r (sequent g f) (sequent h k ∷ []) → Derives ax h k → Derives ax g f
-unfolding IsRight AreRight
+unfolding IsValid AreValid
 from_one ax g h f k r right d =
     let it : FollowsBy ax r (sequent g f) (root d.0 ∷ []) = rw d.1 right in
     (Node r (sequent g f) (more d.0 none), refl, (it, (d.2, tt)))
 
 from_two : (ax g h i : List Formula) (f k l : Formula) (r : Rule) → FollowsBy ax r (sequent g f) (sequent h k ∷ sequent i l ∷ []) → Derives ax h k → Derives ax i l → Derives ax g f
-unfolding IsRight AreRight
+unfolding IsValid AreValid
 from_two ax g h i f k l r right d e =
     let it : FollowsBy ax r (sequent g f) (root d.0 ∷ root e.0 ∷ []) = rw (d.1, e.1) right in
     (Node r (sequent g f) (more d.0 (more e.0 none)), refl, (it, (d.2, (e.2, tt))))
@@ -67,7 +67,7 @@ pub classical : (ax g : List Formula) (f : Formula) → Derives ax (formula.Not 
 unfolding GivesFrom
 classical ax g f d = from_one ax g (formula.Not f ∷ g) f falsity Classical (refl, refl) d
 
-pub all_in : (ax g : List Formula) (b : Formula) (c : ℕ) → list_any (formula_mentions c) g ≡ false → formula_mentions c b ≡ false → Derives ax g (body_at b (Const c)) → Derives ax g (formula.All b)
+pub all_in : (ax g : List Formula) (b : Formula) (c : ℕ) → list_any (occurs_in_formula c) g ≡ false → occurs_in_formula c b ≡ false → Derives ax g (body_at b (Const c)) → Derives ax g (formula.All b)
 unfolding Gives
 all_in ax g b c fresh apart d = from_one ax g g (formula.All b) (body_at b (Const c)) (AllIn c) ((refl, refl), fresh, apart) d
 

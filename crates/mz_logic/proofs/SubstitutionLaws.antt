@@ -1,139 +1,268 @@
--- Indices and constants of the body of a quantifier at a closed term.
-use Rattle.std.proofs.Common.{◌≡◌, ◌<◌, ◌≤◌, ℕ, ◌+◌, ◌-◌, List, [], ◌∷◌, map, refl, ap, arith, Bool, true, false}
-use Rattle.std.specs.Prelude.{◌||◌, nat_lt, nat_eq, if◌then◌else◌}
-use Rattle.std.specs.List.{list_all, list_any}
-use Rattle.std.proofs.lemmas.Bool.{ltb-true, ltb-false, lt-ltb, eqb-false, and_parts, and_from}
-use Rattle.mz_logic.specs.Term.{Term, Terms, Bound, Const, App, none, more}
+-- Laws of the simultaneous substitution: what has no index in its reach is unchanged, the indices themselves
+-- are the identity, substitutions compose, and one at a time is all at once.
+use Rattle.std.proofs.Common.{◌≡◌, ◌<◌, ◌≤◌, inl, inr, ℕ, ◌+◌, ◌-◌, List, [], ◌∷◌, map, refl, ap, sym, ◌∙◌, arith, true, false}
+use Rattle.std.proofs.lemmas.Bool.{ltb-true, lt-ltb, le-ltb, cases_lt, and_parts, and_from, or_parts, or_from}
+use Rattle.mz_logic.specs.Term.{Term, Terms, Bound, Const, App, none, more, terms_of}
 use Rattle.mz_logic.specs.Formula.{Formula, Truth, Eq, Atom, Not, And, All}
 use Rattle.mz_logic.specs.Indices.{is_below, args_below, formula_below, closed, formula_closed}
-use Rattle.mz_logic.specs.Constants.{mentions, args_mention, formula_mentions}
-use Rattle.mz_logic.specs.Substitution.{put, put_args, put_formula, body_at}
+use Rattle.mz_logic.specs.Constants.{occurs, occurs_in_args, occurs_in_formula}
+use Rattle.mz_logic.specs.Substitution.{shift, shift_args, shift_formula, substitute, substitute_args, substitute_formula}
+use Rattle.mz_logic.proofs.ListLemmas.{map-same, map-map, map-agree_where, map-same_where, list_all-map_where, list_any-map_none}
+use Rattle.mz_logic.proofs.IndexLemmas.{is_below-closed, formula_below-closed}
+use Rattle.mz_logic.proofs.ShiftLaws.{shift-inside, shift-outside, shift-Bound, shift-shift, is_below-shift, occurs-shift}
 
--- what is below a number is below each greater one
+-- arguments as a list
+pub substitute_args-terms_of : (depth : ℕ) (v : ℕ → Term) (ts : List Term) → substitute_args depth v (terms_of ts) ≡ terms_of (map (substitute depth v) ts)
+substitute_args-terms_of depth v [] = refl
+substitute_args-terms_of depth v (t ∷ ts) = ap (λ us. more (substitute depth v t) us) (substitute_args-terms_of depth v ts)
+
+pub ruleset substitute_rules = (substitute_args-terms_of)
+
+-- an index that is bound inside, and one that has a value
+pub substitute-inside : (depth : ℕ) (v : ℕ → Term) (index : ℕ) → index < depth → substitute depth v (Bound index) ≡ Bound index
+substitute-inside depth v index lt = rw (lt-ltb index depth lt) refl
+
+pub substitute-outside : (depth : ℕ) (v : ℕ → Term) (index : ℕ) → depth ≤ index → substitute depth v (Bound index) ≡ shift 0 depth (v (index - depth))
+substitute-outside depth v index le = rw (le-ltb index depth le) refl
+
+-- nothing in reach
 mutual
-  pub is_below-more : (m n : ℕ) (t : Term) → m ≤ n → is_below m t ≡ true → is_below n t ≡ true
-  is_below-more m n (Bound index) le h =
-      let lt : index < m = ltb-true index m h in
-      lt-ltb index n (omega arith)
-  is_below-more m n (Const number) le h = refl
-  is_below-more m n (App s ts) le h = args_below-more m n ts le h
+  pub substitute-below : (depth : ℕ) (v : ℕ → Term) (t : Term) → is_below depth t ≡ true → substitute depth v t ≡ t
+  substitute-below depth v (Bound index) h = substitute-inside depth v index (ltb-true index depth h)
+  substitute-below depth v (Const number) h = refl
+  substitute-below depth v (App s ts) h = ap (λ us. App s us) (substitute_args-below depth v ts h)
 
-  pub args_below-more : (m n : ℕ) (ts : Terms) → m ≤ n → args_below m ts ≡ true → args_below n ts ≡ true
-  args_below-more m n none le h = refl
-  args_below-more m n (more t ts) le h =
-      let p : (is_below m t ≡ true) × (args_below m ts ≡ true) = and_parts (is_below m t) (args_below m ts) h in
-      and_from (is_below n t) (args_below n ts) (is_below-more m n t le p.0) (args_below-more m n ts le p.1)
+  pub substitute_args-below : (depth : ℕ) (v : ℕ → Term) (ts : Terms) → args_below depth ts ≡ true → substitute_args depth v ts ≡ ts
+  substitute_args-below depth v none h = refl
+  substitute_args-below depth v (more t ts) h =
+      let p : (is_below depth t ≡ true) × (args_below depth ts ≡ true) = and_parts (is_below depth t) (args_below depth ts) h in
+      λ i. more (substitute-below depth v t p.0 i) (substitute_args-below depth v ts p.1 i)
 
--- a term without the quantifier's own index and those outside it stays
-index_kept : (n : ℕ) (t : Term) (index : ℕ) → nat_lt index n ≡ true → put n t (Bound index) ≡ Bound index
-index_kept n t index h = rw h refl
+pub substitute_formula-below : (depth : ℕ) (v : ℕ → Term) (f : Formula) → formula_below depth f ≡ true → substitute_formula depth v f ≡ f
+substitute_formula-below depth v Truth h = refl
+substitute_formula-below depth v (Eq t u) h =
+    let p : (is_below depth t ≡ true) × (is_below depth u ≡ true) = and_parts (is_below depth t) (is_below depth u) h in
+    λ i. Eq (substitute-below depth v t p.0 i) (substitute-below depth v u p.1 i)
+substitute_formula-below depth v (Atom s ts) h = ap (λ us. Atom s us) (map-same_where (is_below depth) (substitute depth v) (λ t. substitute-below depth v t) ts h)
+substitute_formula-below depth v (Not f) h = ap Not (substitute_formula-below depth v f h)
+substitute_formula-below depth v (And f g) h =
+    let p : (formula_below depth f ≡ true) × (formula_below depth g ≡ true) = and_parts (formula_below depth f) (formula_below depth g) h in
+    λ i. And (substitute_formula-below depth v f p.0 i) (substitute_formula-below depth v g p.1 i)
+substitute_formula-below depth v (All f) h = ap All (substitute_formula-below (depth + 1) v f h)
 
-mutual
-  pub put-below : (n : ℕ) (t u : Term) → is_below n u ≡ true → put n t u ≡ u
-  put-below n t (Bound index) h = index_kept n t index h
-  put-below n t (Const number) h = refl
-  put-below n t (App s us) h = ap (λ vs. App s vs) (put_args-below n t us h)
+pub substitute-closed : (depth : ℕ) (v : ℕ → Term) (t : Term) → closed t ≡ true → substitute depth v t ≡ t
+substitute-closed depth v t h = substitute-below depth v t (is_below-closed depth t h)
 
-  pub put_args-below : (n : ℕ) (t : Term) (us : Terms) → args_below n us ≡ true → put_args n t us ≡ us
-  put_args-below n t none h = refl
-  put_args-below n t (more u us) h =
-      let p : (is_below n u ≡ true) × (args_below n us ≡ true) = and_parts (is_below n u) (args_below n us) h in
-      λ i. more (put-below n t u p.0 i) (put_args-below n t us p.1 i)
+pub substitute_formula-closed : (depth : ℕ) (v : ℕ → Term) (f : Formula) → formula_closed f ≡ true → substitute_formula depth v f ≡ f
+substitute_formula-closed depth v f h = substitute_formula-below depth v f (formula_below-closed depth f h)
 
-put_list-below : (n : ℕ) (t : Term) (us : List Term) → list_all (is_below n) us ≡ true → map (put n t) us ≡ us
-put_list-below n t [] h = refl
-put_list-below n t (u ∷ us) h =
-    let p : (is_below n u ≡ true) × (list_all (is_below n) us ≡ true) = and_parts (is_below n u) (list_all (is_below n) us) h in
-    λ i. put-below n t u p.0 i ∷ put_list-below n t us p.1 i
-
-pub put_formula-below : (n : ℕ) (t : Term) (f : Formula) → formula_below n f ≡ true → put_formula n t f ≡ f
-put_formula-below n t Truth h = refl
-put_formula-below n t (Eq u v) h =
-    let p : (is_below n u ≡ true) × (is_below n v ≡ true) = and_parts (is_below n u) (is_below n v) h in
-    λ i. Eq (put-below n t u p.0 i) (put-below n t v p.1 i)
-put_formula-below n t (Atom s us) h = ap (λ vs. Atom s vs) (put_list-below n t us h)
-put_formula-below n t (Not f) h = ap Not (put_formula-below n t f h)
-put_formula-below n t (And f g) h =
-    let p : (formula_below n f ≡ true) × (formula_below n g ≡ true) = and_parts (formula_below n f) (formula_below n g) h in
-    λ i. And (put_formula-below n t f p.0 i) (put_formula-below n t g p.1 i)
-put_formula-below n t (All f) h = ap All (put_formula-below (n + 1) t f h)
-
--- a body at a closed term has the indices of the quantifier's own formula
-index_below-put : (n : ℕ) (t : Term) (index : ℕ) (a b : Bool) → nat_lt index n ≡ a → nat_eq index n ≡ b → index < n + 1 → closed t ≡ true → is_below n (if a then Bound index else (if b then t else Bound (index - 1))) ≡ true
-index_below-put n t index true b ea eb lt ct = ea
-index_below-put n t index false true ea eb lt ct = is_below-more 0 n t (omega arith) ct
-index_below-put n t index false false ea eb lt ct =
-    let far : n ≤ index = ltb-false index n ea in
-    absurd (eqb-false index n eb (omega arith))
-
-mutual
-  pub is_below-put : (n : ℕ) (t u : Term) → closed t ≡ true → is_below (n + 1) u ≡ true → is_below n (put n t u) ≡ true
-  is_below-put n t (Bound index) ct h = index_below-put n t index (nat_lt index n) (nat_eq index n) refl refl (ltb-true index (n + 1) h) ct
-  is_below-put n t (Const number) ct h = refl
-  is_below-put n t (App s us) ct h = args_below-put n t us ct h
-
-  pub args_below-put : (n : ℕ) (t : Term) (us : Terms) → closed t ≡ true → args_below (n + 1) us ≡ true → args_below n (put_args n t us) ≡ true
-  args_below-put n t none ct h = refl
-  args_below-put n t (more u us) ct h =
-      let p : (is_below (n + 1) u ≡ true) × (args_below (n + 1) us ≡ true) = and_parts (is_below (n + 1) u) (args_below (n + 1) us) h in
-      and_from _ _ (is_below-put n t u ct p.0) (args_below-put n t us ct p.1)
-
-list_below-put : (n : ℕ) (t : Term) (us : List Term) → closed t ≡ true → list_all (is_below (n + 1)) us ≡ true → list_all (is_below n) (map (put n t) us) ≡ true
-list_below-put n t [] ct h = refl
-list_below-put n t (u ∷ us) ct h =
-    let p : (is_below (n + 1) u ≡ true) × (list_all (is_below (n + 1)) us ≡ true) = and_parts (is_below (n + 1) u) (list_all (is_below (n + 1)) us) h in
-    and_from _ _ (is_below-put n t u ct p.0) (list_below-put n t us ct p.1)
-
-pub formula_below-put : (n : ℕ) (t : Term) (f : Formula) → closed t ≡ true → formula_below (n + 1) f ≡ true → formula_below n (put_formula n t f) ≡ true
-formula_below-put n t Truth ct h = refl
-formula_below-put n t (Eq u v) ct h =
-    let p : (is_below (n + 1) u ≡ true) × (is_below (n + 1) v ≡ true) = and_parts (is_below (n + 1) u) (is_below (n + 1) v) h in
-    and_from _ _ (is_below-put n t u ct p.0) (is_below-put n t v ct p.1)
-formula_below-put n t (Atom s us) ct h = list_below-put n t us ct h
-formula_below-put n t (Not f) ct h = formula_below-put n t f ct h
-formula_below-put n t (And f g) ct h =
-    let p : (formula_below (n + 1) f ≡ true) × (formula_below (n + 1) g ≡ true) = and_parts (formula_below (n + 1) f) (formula_below (n + 1) g) h in
-    and_from _ _ (formula_below-put n t f ct p.0) (formula_below-put n t g ct p.1)
-formula_below-put n t (All f) ct h = formula_below-put (n + 1) t f ct h
-
-pub formula_closed-body_at : (b : Formula) (t : Term) → closed t ≡ true → formula_closed (All b) ≡ true → formula_closed (body_at b t) ≡ true
-formula_closed-body_at b t ct h = formula_below-put 0 t b ct h
-
--- a constant that neither the body nor the term has
-neither : (a b : Bool) → a ≡ false → b ≡ false → (a || b) ≡ false
-neither a b p q = rw (p, q) refl
-
-or_left : (a b : Bool) → (a || b) ≡ false → a ≡ false
-or_left true b h = h
-or_left false b h = refl
-
-or_right : (a b : Bool) → (a || b) ≡ false → b ≡ false
-or_right true b h = cc
-or_right false b h = h
-
-index_mentions : (c : ℕ) (t : Term) (index : ℕ) (a b : Bool) → mentions c t ≡ false → mentions c (if a then Bound index else (if b then t else Bound (index - 1))) ≡ false
-index_mentions c t index true b h = refl
-index_mentions c t index false true h = h
-index_mentions c t index false false h = refl
+-- values that agree where there are indices
+substitute_index-agree : (depth n : ℕ) (v w : ℕ → Term) (index : ℕ) → ((k : ℕ) → k < n → v k ≡ w k) → index < depth + n → substitute depth v (Bound index) ≡ substitute depth w (Bound index)
+substitute_index-agree depth n v w index same lt = elim (cases_lt index depth) [
+  | inl inside ↦ substitute-inside depth v index inside ∙ sym (substitute-inside depth w index inside)
+  | inr le ↦
+      let within : index - depth < n = omega arith in
+      substitute-outside depth v index le ∙ ap (shift 0 depth) (same (index - depth) within) ∙ sym (substitute-outside depth w index le)
+]
 
 mutual
-  pub mentions-put : (c n : ℕ) (t u : Term) → mentions c t ≡ false → mentions c u ≡ false → mentions c (put n t u) ≡ false
-  mentions-put c n t (Bound index) ht h = index_mentions c t index (nat_lt index n) (nat_eq index n) ht
-  mentions-put c n t (Const number) ht h = h
-  mentions-put c n t (App s us) ht h = args_mention-put c n t us ht h
+  pub substitute-agree : (depth n : ℕ) (v w : ℕ → Term) (t : Term) → ((k : ℕ) → k < n → v k ≡ w k) → is_below (depth + n) t ≡ true → substitute depth v t ≡ substitute depth w t
+  substitute-agree depth n v w (Bound index) same h = substitute_index-agree depth n v w index same (ltb-true index (depth + n) h)
+  substitute-agree depth n v w (Const number) same h = refl
+  substitute-agree depth n v w (App s ts) same h = ap (λ us. App s us) (substitute_args-agree depth n v w ts same h)
 
-  pub args_mention-put : (c n : ℕ) (t : Term) (us : Terms) → mentions c t ≡ false → args_mention c us ≡ false → args_mention c (put_args n t us) ≡ false
-  args_mention-put c n t none ht h = refl
-  args_mention-put c n t (more u us) ht h = neither _ _ (mentions-put c n t u ht (or_left (mentions c u) (args_mention c us) h)) (args_mention-put c n t us ht (or_right (mentions c u) (args_mention c us) h))
+  pub substitute_args-agree : (depth n : ℕ) (v w : ℕ → Term) (ts : Terms) → ((k : ℕ) → k < n → v k ≡ w k) → args_below (depth + n) ts ≡ true → substitute_args depth v ts ≡ substitute_args depth w ts
+  substitute_args-agree depth n v w none same h = refl
+  substitute_args-agree depth n v w (more t ts) same h =
+      let p : (is_below (depth + n) t ≡ true) × (args_below (depth + n) ts ≡ true) = and_parts (is_below (depth + n) t) (args_below (depth + n) ts) h in
+      λ i. more (substitute-agree depth n v w t same p.0 i) (substitute_args-agree depth n v w ts same p.1 i)
 
-list_mention-put : (c n : ℕ) (t : Term) (us : List Term) → mentions c t ≡ false → list_any (mentions c) us ≡ false → list_any (mentions c) (map (put n t) us) ≡ false
-list_mention-put c n t [] ht h = refl
-list_mention-put c n t (u ∷ us) ht h = neither _ _ (mentions-put c n t u ht (or_left (mentions c u) (list_any (mentions c) us) h)) (list_mention-put c n t us ht (or_right (mentions c u) (list_any (mentions c) us) h))
+pub substitute_formula-agree : (depth n : ℕ) (v w : ℕ → Term) (f : Formula) → ((k : ℕ) → k < n → v k ≡ w k) → formula_below (depth + n) f ≡ true → substitute_formula depth v f ≡ substitute_formula depth w f
+substitute_formula-agree depth n v w Truth same h = refl
+substitute_formula-agree depth n v w (Eq t u) same h =
+    let p : (is_below (depth + n) t ≡ true) × (is_below (depth + n) u ≡ true) = and_parts (is_below (depth + n) t) (is_below (depth + n) u) h in
+    λ i. Eq (substitute-agree depth n v w t same p.0 i) (substitute-agree depth n v w u same p.1 i)
+substitute_formula-agree depth n v w (Atom s ts) same h = ap (λ us. Atom s us) (map-agree_where (is_below (depth + n)) (substitute depth v) (substitute depth w) (λ t. substitute-agree depth n v w t same) ts h)
+substitute_formula-agree depth n v w (Not f) same h = ap Not (substitute_formula-agree depth n v w f same h)
+substitute_formula-agree depth n v w (And f g) same h =
+    let p : (formula_below (depth + n) f ≡ true) × (formula_below (depth + n) g ≡ true) = and_parts (formula_below (depth + n) f) (formula_below (depth + n) g) h in
+    λ i. And (substitute_formula-agree depth n v w f same p.0 i) (substitute_formula-agree depth n v w g same p.1 i)
+substitute_formula-agree depth n v w (All f) same h =
+    let e : (depth + n) + 1 ≡ (depth + 1) + n = omega arith in
+    ap All (substitute_formula-agree (depth + 1) n v w f same (ap (λ m. formula_below m f) (sym e) ∙ h))
 
-pub formula_mentions-put : (c n : ℕ) (t : Term) (f : Formula) → mentions c t ≡ false → formula_mentions c f ≡ false → formula_mentions c (put_formula n t f) ≡ false
-formula_mentions-put c n t Truth ht h = refl
-formula_mentions-put c n t (Eq u v) ht h = neither _ _ (mentions-put c n t u ht (or_left (mentions c u) (mentions c v) h)) (mentions-put c n t v ht (or_right (mentions c u) (mentions c v) h))
-formula_mentions-put c n t (Atom s us) ht h = list_mention-put c n t us ht h
-formula_mentions-put c n t (Not f) ht h = formula_mentions-put c n t f ht h
-formula_mentions-put c n t (And f g) ht h = neither _ _ (formula_mentions-put c n t f ht (or_left (formula_mentions c f) (formula_mentions c g) h)) (formula_mentions-put c n t g ht (or_right (formula_mentions c f) (formula_mentions c g) h))
-formula_mentions-put c n t (All f) ht h = formula_mentions-put c (n + 1) t f ht h
+-- the identity
+substitute_index-Bound : (depth index : ℕ) → substitute depth Bound (Bound index) ≡ Bound index
+substitute_index-Bound depth index = elim (cases_lt index depth) [
+  | inl lt ↦ substitute-inside depth Bound index lt
+  | inr le ↦ substitute-outside depth Bound index le ∙ shift-Bound depth (index - depth) ∙ ap Bound (omega arith)
+]
+
+mutual
+  pub substitute-Bound : (depth : ℕ) (t : Term) → substitute depth Bound t ≡ t
+  substitute-Bound depth (Bound index) = substitute_index-Bound depth index
+  substitute-Bound depth (Const number) = refl
+  substitute-Bound depth (App s ts) = ap (λ us. App s us) (substitute_args-Bound depth ts)
+
+  pub substitute_args-Bound : (depth : ℕ) (ts : Terms) → substitute_args depth Bound ts ≡ ts
+  substitute_args-Bound depth none = refl
+  substitute_args-Bound depth (more t ts) = λ i. more (substitute-Bound depth t i) (substitute_args-Bound depth ts i)
+
+pub substitute_formula-Bound : (depth : ℕ) (f : Formula) → substitute_formula depth Bound f ≡ f
+substitute_formula-Bound depth Truth = refl
+substitute_formula-Bound depth (Eq t u) = λ i. Eq (substitute-Bound depth t i) (substitute-Bound depth u i)
+substitute_formula-Bound depth (Atom s ts) = ap (λ us. Atom s us) (map-same (substitute depth Bound) (substitute-Bound depth) ts)
+substitute_formula-Bound depth (Not f) = ap Not (substitute_formula-Bound depth f)
+substitute_formula-Bound depth (And f g) = λ i. And (substitute_formula-Bound depth f i) (substitute_formula-Bound depth g i)
+substitute_formula-Bound depth (All f) = ap All (substitute_formula-Bound (depth + 1) f)
+
+-- a substitution in what is shifted by binders that it lies outside
+substitute_index-shift : (depth by : ℕ) (v : ℕ → Term) (index : ℕ) → substitute (depth + by) v (shift 0 by (Bound index)) ≡ shift 0 by (substitute depth v (Bound index))
+substitute_index-shift depth by v index = elim (cases_lt index depth) [
+  | inl lt ↦
+      let low : index + by < depth + by = omega arith in
+      ap (substitute (depth + by) v) (shift-Bound by index) ∙ substitute-inside (depth + by) v (index + by) low ∙ sym (shift-Bound by index) ∙ sym (ap (shift 0 by) (substitute-inside depth v index lt))
+  | inr le ↦
+      let high : depth + by ≤ index + by = omega arith in
+      let place : (index + by) - (depth + by) ≡ index - depth = omega arith in
+      ap (substitute (depth + by) v) (shift-Bound by index) ∙ substitute-outside (depth + by) v (index + by) high ∙ ap (λ k. shift 0 (depth + by) (v k)) place
+      ∙ sym (shift-shift 0 depth by (v (index - depth))) ∙ sym (ap (shift 0 by) (substitute-outside depth v index le))
+]
+
+mutual
+  pub substitute-shift : (depth by : ℕ) (v : ℕ → Term) (t : Term) → substitute (depth + by) v (shift 0 by t) ≡ shift 0 by (substitute depth v t)
+  substitute-shift depth by v (Bound index) = substitute_index-shift depth by v index
+  substitute-shift depth by v (Const number) = refl
+  substitute-shift depth by v (App s ts) = ap (λ us. App s us) (substitute_args-shift depth by v ts)
+
+  pub substitute_args-shift : (depth by : ℕ) (v : ℕ → Term) (ts : Terms) → substitute_args (depth + by) v (shift_args 0 by ts) ≡ shift_args 0 by (substitute_args depth v ts)
+  substitute_args-shift depth by v none = refl
+  substitute_args-shift depth by v (more t ts) = λ i. more (substitute-shift depth by v t i) (substitute_args-shift depth by v ts i)
+
+-- a substitution in what is shifted by binders that it takes away: the first values go unused
+substitute_index-unused : (depth by : ℕ) (v : ℕ → Term) (index : ℕ) → substitute depth v (shift depth by (Bound index)) ≡ substitute depth (λ k. v (k + by)) (Bound index)
+substitute_index-unused depth by v index = elim (cases_lt index depth) [
+  | inl lt ↦ ap (substitute depth v) (shift-inside depth by index lt) ∙ substitute-inside depth v index lt ∙ sym (substitute-inside depth (λ k. v (k + by)) index lt)
+  | inr le ↦
+      let high : depth ≤ index + by = omega arith in
+      let place : (index + by) - depth ≡ (index - depth) + by = omega arith in
+      ap (substitute depth v) (shift-outside depth by index le) ∙ substitute-outside depth v (index + by) high ∙ ap (λ k. shift 0 depth (v k)) place ∙ sym (substitute-outside depth (λ k. v (k + by)) index le)
+]
+
+mutual
+  pub substitute-unused : (depth by : ℕ) (v : ℕ → Term) (t : Term) → substitute depth v (shift depth by t) ≡ substitute depth (λ k. v (k + by)) t
+  substitute-unused depth by v (Bound index) = substitute_index-unused depth by v index
+  substitute-unused depth by v (Const number) = refl
+  substitute-unused depth by v (App s ts) = ap (λ us. App s us) (substitute_args-unused depth by v ts)
+
+  pub substitute_args-unused : (depth by : ℕ) (v : ℕ → Term) (ts : Terms) → substitute_args depth v (shift_args depth by ts) ≡ substitute_args depth (λ k. v (k + by)) ts
+  substitute_args-unused depth by v none = refl
+  substitute_args-unused depth by v (more t ts) = λ i. more (substitute-unused depth by v t i) (substitute_args-unused depth by v ts i)
+
+pub substitute_formula-unused : (depth by : ℕ) (v : ℕ → Term) (f : Formula) → substitute_formula depth v (shift_formula depth by f) ≡ substitute_formula depth (λ k. v (k + by)) f
+substitute_formula-unused depth by v Truth = refl
+substitute_formula-unused depth by v (Eq t u) = λ i. Eq (substitute-unused depth by v t i) (substitute-unused depth by v u i)
+substitute_formula-unused depth by v (Atom s ts) = ap (λ us. Atom s us) (map-map (substitute depth v) (shift depth by) (substitute depth (λ k. v (k + by))) (substitute-unused depth by v) ts)
+substitute_formula-unused depth by v (Not f) = ap Not (substitute_formula-unused depth by v f)
+substitute_formula-unused depth by v (And f g) = λ i. And (substitute_formula-unused depth by v f i) (substitute_formula-unused depth by v g i)
+substitute_formula-unused depth by v (All f) = ap All (substitute_formula-unused (depth + 1) by v f)
+
+-- the composition
+substitute_index-substitute : (depth : ℕ) (v w : ℕ → Term) (index : ℕ) → substitute depth w (substitute depth v (Bound index)) ≡ substitute depth (λ k. substitute 0 w (v k)) (Bound index)
+substitute_index-substitute depth v w index = elim (cases_lt index depth) [
+  | inl lt ↦ ap (substitute depth w) (substitute-inside depth v index lt) ∙ substitute-inside depth w index lt ∙ sym (substitute-inside depth (λ k. substitute 0 w (v k)) index lt)
+  | inr le ↦
+      let here : depth ≡ 0 + depth = omega arith in
+      let value : Term = v (index - depth) in
+      ap (substitute depth w) (substitute-outside depth v index le) ∙ ap (λ n. substitute n w (shift 0 depth value)) here ∙ substitute-shift 0 depth w value
+      ∙ sym (substitute-outside depth (λ k. substitute 0 w (v k)) index le)
+]
+
+mutual
+  pub substitute-substitute : (depth : ℕ) (v w : ℕ → Term) (t : Term) → substitute depth w (substitute depth v t) ≡ substitute depth (λ k. substitute 0 w (v k)) t
+  substitute-substitute depth v w (Bound index) = substitute_index-substitute depth v w index
+  substitute-substitute depth v w (Const number) = refl
+  substitute-substitute depth v w (App s ts) = ap (λ us. App s us) (substitute_args-substitute depth v w ts)
+
+  pub substitute_args-substitute : (depth : ℕ) (v w : ℕ → Term) (ts : Terms) → substitute_args depth w (substitute_args depth v ts) ≡ substitute_args depth (λ k. substitute 0 w (v k)) ts
+  substitute_args-substitute depth v w none = refl
+  substitute_args-substitute depth v w (more t ts) = λ i. more (substitute-substitute depth v w t i) (substitute_args-substitute depth v w ts i)
+
+pub substitute_formula-substitute : (depth : ℕ) (v w : ℕ → Term) (f : Formula) → substitute_formula depth w (substitute_formula depth v f) ≡ substitute_formula depth (λ k. substitute 0 w (v k)) f
+substitute_formula-substitute depth v w Truth = refl
+substitute_formula-substitute depth v w (Eq t u) = λ i. Eq (substitute-substitute depth v w t i) (substitute-substitute depth v w u i)
+substitute_formula-substitute depth v w (Atom s ts) = ap (λ us. Atom s us) (map-map (substitute depth w) (substitute depth v) (substitute depth (λ k. substitute 0 w (v k))) (substitute-substitute depth v w) ts)
+substitute_formula-substitute depth v w (Not f) = ap Not (substitute_formula-substitute depth v w f)
+substitute_formula-substitute depth v w (And f g) = λ i. And (substitute_formula-substitute depth v w f i) (substitute_formula-substitute depth v w g i)
+substitute_formula-substitute depth v w (All f) = ap All (substitute_formula-substitute (depth + 1) v w f)
+
+-- indices of what is substituted in
+substitute_index-bound : (depth m n : ℕ) (v : ℕ → Term) (index : ℕ) → ((k : ℕ) → k < n → is_below m (v k) ≡ true) → index < depth + n → is_below (depth + m) (substitute depth v (Bound index)) ≡ true
+substitute_index-bound depth m n v index each lt = elim (cases_lt index depth) [
+  | inl inside ↦
+      let low : index < depth + m = omega arith in
+      ap (is_below (depth + m)) (substitute-inside depth v index inside) ∙ lt-ltb index (depth + m) low
+  | inr le ↦
+      let within : index - depth < n = omega arith in
+      let turned : depth + m ≡ m + depth = omega arith in
+      ap (is_below (depth + m)) (substitute-outside depth v index le) ∙ ap (λ k. is_below k (shift 0 depth (v (index - depth)))) turned
+      ∙ is_below-shift 0 depth m (v (index - depth)) (each (index - depth) within)
+]
+
+mutual
+  pub is_below-substitute : (depth m n : ℕ) (v : ℕ → Term) (t : Term) → ((k : ℕ) → k < n → is_below m (v k) ≡ true) → is_below (depth + n) t ≡ true → is_below (depth + m) (substitute depth v t) ≡ true
+  is_below-substitute depth m n v (Bound index) each h = substitute_index-bound depth m n v index each (ltb-true index (depth + n) h)
+  is_below-substitute depth m n v (Const number) each h = refl
+  is_below-substitute depth m n v (App s ts) each h = args_below-substitute depth m n v ts each h
+
+  pub args_below-substitute : (depth m n : ℕ) (v : ℕ → Term) (ts : Terms) → ((k : ℕ) → k < n → is_below m (v k) ≡ true) → args_below (depth + n) ts ≡ true → args_below (depth + m) (substitute_args depth v ts) ≡ true
+  args_below-substitute depth m n v none each h = refl
+  args_below-substitute depth m n v (more t ts) each h =
+      let p : (is_below (depth + n) t ≡ true) × (args_below (depth + n) ts ≡ true) = and_parts (is_below (depth + n) t) (args_below (depth + n) ts) h in
+      and_from _ _ (is_below-substitute depth m n v t each p.0) (args_below-substitute depth m n v ts each p.1)
+
+pub formula_below-substitute : (depth m n : ℕ) (v : ℕ → Term) (f : Formula) → ((k : ℕ) → k < n → is_below m (v k) ≡ true) → formula_below (depth + n) f ≡ true → formula_below (depth + m) (substitute_formula depth v f) ≡ true
+formula_below-substitute depth m n v Truth each h = refl
+formula_below-substitute depth m n v (Eq t u) each h =
+    let p : (is_below (depth + n) t ≡ true) × (is_below (depth + n) u ≡ true) = and_parts (is_below (depth + n) t) (is_below (depth + n) u) h in
+    and_from _ _ (is_below-substitute depth m n v t each p.0) (is_below-substitute depth m n v u each p.1)
+formula_below-substitute depth m n v (Atom s ts) each h = list_all-map_where (is_below (depth + n)) (is_below (depth + m)) (substitute depth v) (λ t. is_below-substitute depth m n v t each) ts h
+formula_below-substitute depth m n v (Not f) each h = formula_below-substitute depth m n v f each h
+formula_below-substitute depth m n v (And f g) each h =
+    let p : (formula_below (depth + n) f ≡ true) × (formula_below (depth + n) g ≡ true) = and_parts (formula_below (depth + n) f) (formula_below (depth + n) g) h in
+    and_from _ _ (formula_below-substitute depth m n v f each p.0) (formula_below-substitute depth m n v g each p.1)
+formula_below-substitute depth m n v (All f) each h =
+    let inner : (depth + n) + 1 ≡ (depth + 1) + n = omega arith in
+    let outer : (depth + m) + 1 ≡ (depth + 1) + m = omega arith in
+    ap (λ k. formula_below k (substitute_formula (depth + 1) v f)) outer ∙ formula_below-substitute (depth + 1) m n v f each (ap (λ k. formula_below k f) (sym inner) ∙ h)
+
+-- constants of what is substituted in
+substitute_index-occurs : (c depth : ℕ) (v : ℕ → Term) (index : ℕ) → ((k : ℕ) → occurs c (v k) ≡ false) → occurs c (substitute depth v (Bound index)) ≡ false
+substitute_index-occurs c depth v index apart = elim (cases_lt index depth) [
+  | inl lt ↦ ap (occurs c) (substitute-inside depth v index lt)
+  | inr le ↦ ap (occurs c) (substitute-outside depth v index le) ∙ occurs-shift c 0 depth (v (index - depth)) ∙ apart (index - depth)
+]
+
+mutual
+  pub occurs-substitute : (c depth : ℕ) (v : ℕ → Term) (t : Term) → ((k : ℕ) → occurs c (v k) ≡ false) → occurs c t ≡ false → occurs c (substitute depth v t) ≡ false
+  occurs-substitute c depth v (Bound index) apart h = substitute_index-occurs c depth v index apart
+  occurs-substitute c depth v (Const number) apart h = h
+  occurs-substitute c depth v (App s ts) apart h = occurs_in_args-substitute c depth v ts apart h
+
+  pub occurs_in_args-substitute : (c depth : ℕ) (v : ℕ → Term) (ts : Terms) → ((k : ℕ) → occurs c (v k) ≡ false) → occurs_in_args c ts ≡ false → occurs_in_args c (substitute_args depth v ts) ≡ false
+  occurs_in_args-substitute c depth v none apart h = refl
+  occurs_in_args-substitute c depth v (more t ts) apart h =
+      let p : (occurs c t ≡ false) × (occurs_in_args c ts ≡ false) = or_parts (occurs c t) (occurs_in_args c ts) h in
+      or_from _ _ (occurs-substitute c depth v t apart p.0) (occurs_in_args-substitute c depth v ts apart p.1)
+
+pub occurs_in_formula-substitute : (c depth : ℕ) (v : ℕ → Term) (f : Formula) → ((k : ℕ) → occurs c (v k) ≡ false) → occurs_in_formula c f ≡ false → occurs_in_formula c (substitute_formula depth v f) ≡ false
+occurs_in_formula-substitute c depth v Truth apart h = refl
+occurs_in_formula-substitute c depth v (Eq t u) apart h =
+    let p : (occurs c t ≡ false) × (occurs c u ≡ false) = or_parts (occurs c t) (occurs c u) h in
+    or_from _ _ (occurs-substitute c depth v t apart p.0) (occurs-substitute c depth v u apart p.1)
+occurs_in_formula-substitute c depth v (Atom s ts) apart h = list_any-map_none (occurs c) (occurs c) (substitute depth v) (λ t. occurs-substitute c depth v t apart) ts h
+occurs_in_formula-substitute c depth v (Not f) apart h = occurs_in_formula-substitute c depth v f apart h
+occurs_in_formula-substitute c depth v (And f g) apart h =
+    let p : (occurs_in_formula c f ≡ false) × (occurs_in_formula c g ≡ false) = or_parts (occurs_in_formula c f) (occurs_in_formula c g) h in
+    or_from _ _ (occurs_in_formula-substitute c depth v f apart p.0) (occurs_in_formula-substitute c depth v g apart p.1)
+occurs_in_formula-substitute c depth v (All f) apart h = occurs_in_formula-substitute c (depth + 1) v f apart h

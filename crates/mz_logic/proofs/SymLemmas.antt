@@ -1,6 +1,7 @@
 -- A kind is known by its number.
 use Rattle.std.proofs.Common.{◌≡◌, sym, ap, ◌∙◌}
-use Rattle.mz_logic.specs.Sym.{kind_number, kind_at, kind_at-kind_number}
+use Rattle.mz_logic.specs.Sym.{kind_number}
+use Rattle.mz_logic.specs.SymStorage.{kind_at, kind_at-kind_number}
 use Rattle.mz_logic.specs.declared.kind.Kind.{Kind}
 
 pub kind_number-inj : (j k : Kind) → kind_number j ≡ kind_number k → j ≡ k

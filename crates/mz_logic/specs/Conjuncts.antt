@@ -1,6 +1,7 @@
 -- Conjuncts that are compared side by side.
 use Rattle.std.specs.Prelude.{◌≡◌, ℕ, ◌+◌, List, [], ◌∷◌}
-use Rattle.mz_logic.specs.Formula.{Formula, Truth, Eq, Atom, Not, And, All, formula_size}
+use Rattle.mz_logic.specs.Formula.{Formula, Truth, Eq, Atom, Not, And, All}
+use Rattle.mz_logic.specs.FormulaStorage.{formula_size}
 use Rattle.mz_logic.specs.Same.{grouped, normal_form}
 
 -- the normal form of a conjunction

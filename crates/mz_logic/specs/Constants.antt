@@ -6,20 +6,20 @@ use Rattle.mz_logic.specs.Formula.{Formula, Truth, Eq, Atom, Not, And, All}
 
 -- the constant c occurs in the term
 abbrev mutual
-  pub mentions : ℕ → Term → Bool
-  mentions c (Bound index) = false
-  mentions c (Const number) = nat_eq number c
-  mentions c (App s ts) = args_mention c ts
+  pub occurs : ℕ → Term → Bool
+  occurs c (Bound index) = false
+  occurs c (Const number) = nat_eq number c
+  occurs c (App s ts) = occurs_in_args c ts
 
-  pub args_mention : ℕ → Terms → Bool
-  args_mention c none = false
-  args_mention c (more t ts) = mentions c t || args_mention c ts
+  pub occurs_in_args : ℕ → Terms → Bool
+  occurs_in_args c none = false
+  occurs_in_args c (more t ts) = occurs c t || occurs_in_args c ts
 
 -- the constant c occurs in the formula
-abbrev pub formula_mentions : ℕ → Formula → Bool
-formula_mentions c Truth = false
-formula_mentions c (Eq t u) = mentions c t || mentions c u
-formula_mentions c (Atom s ts) = list_any (mentions c) ts
-formula_mentions c (Not f) = formula_mentions c f
-formula_mentions c (And f g) = formula_mentions c f || formula_mentions c g
-formula_mentions c (All f) = formula_mentions c f
+abbrev pub occurs_in_formula : ℕ → Formula → Bool
+occurs_in_formula c Truth = false
+occurs_in_formula c (Eq t u) = occurs c t || occurs c u
+occurs_in_formula c (Atom s ts) = list_any (occurs c) ts
+occurs_in_formula c (Not f) = occurs_in_formula c f
+occurs_in_formula c (And f g) = occurs_in_formula c f || occurs_in_formula c g
+occurs_in_formula c (All f) = occurs_in_formula c f

@@ -6,7 +6,7 @@ use Rattle.mz_logic.specs.Formula as formula
 use Rattle.mz_logic.specs.Formula.{Formula}
 use Rattle.mz_logic.specs.Formulas.{IsMember, sequent}
 use Rattle.mz_logic.specs.Indices.{closed}
-use Rattle.mz_logic.specs.Constants.{formula_mentions}
+use Rattle.mz_logic.specs.Constants.{occurs_in_formula}
 use Rattle.mz_logic.specs.Substitution.{body_at}
 use Rattle.mz_logic.specs.Forms.{IfEq, IfNot, IfAnd, IfAll}
 use Rattle.mz_logic.specs.Negation.{falsity}
@@ -72,7 +72,7 @@ FollowsBy axioms Classical s ps =
     IfOne ps (λ p. GivesFrom s (formula.Not s.conclusion) p falsity)
 -- a quantifier over b from b at the constant c, which is neither in the premises nor in b
 FollowsBy axioms (AllIn c) s ps =
-    IfOne ps (λ p. IfAll s.conclusion (λ b. Gives s p (body_at b (Const c)) × (list_any (formula_mentions c) s.premises ≡ false) × (formula_mentions c b ≡ false)))
+    IfOne ps (λ p. IfAll s.conclusion (λ b. Gives s p (body_at b (Const c)) × (list_any (occurs_in_formula c) s.premises ≡ false) × (occurs_in_formula c b ≡ false)))
 -- b at the closed term t from a quantifier over b
 FollowsBy axioms (AllOut t) s ps =
     IfOne ps (λ p. (p.premises ≡ s.premises) × IfAll p.conclusion (λ b. body_at b t ≡ s.conclusion) × (closed t ≡ true))
@@ -94,13 +94,13 @@ FollowsBy axioms (Instance ls) s ps =
 
 -- each node of the derivation follows by its rule
 unfoldable mutual
-  pub IsRight : List Formula → Derivation → Type 0
-  IsRight axioms (Node rule s ds) = FollowsBy axioms rule s (roots ds) × AreRight axioms ds
+  pub IsValid : List Formula → Derivation → Type 0
+  IsValid axioms (Node rule s ds) = FollowsBy axioms rule s (roots ds) × AreValid axioms ds
 
-  pub AreRight : List Formula → Derivations → Type 0
-  AreRight axioms none = Unit {0}
-  AreRight axioms (more d ds) = IsRight axioms d × AreRight axioms ds
+  pub AreValid : List Formula → Derivations → Type 0
+  AreValid axioms none = Unit {0}
+  AreValid axioms (more d ds) = IsValid axioms d × AreValid axioms ds
 
--- some right derivation ends in the sequent of f from the premises
+-- some valid derivation ends in the sequent of f from the premises
 abbrev pub Derives : List Formula → List Formula → Formula → Type 0
-Derives axioms premises f = (d : Derivation) × (root d ≡ sequent premises f) × IsRight axioms d
+Derives axioms premises f = (d : Derivation) × (root d ≡ sequent premises f) × IsValid axioms d

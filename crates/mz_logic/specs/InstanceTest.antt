@@ -1,31 +1,33 @@
 -- Words for the test of instances: a term and its letters' arguments are walked side by side with
 -- the term that is tested, and nothing is built.
-use Rattle.std.specs.Prelude.{ℕ, suc, ◌+◌, ◌-◌, List, [], ◌∷◌, nat_lt, if◌then◌else◌, slice_index_or}
-use Rattle.mz_logic.specs.Term.{Term, Terms, Bound, Const, App, none, more, size_of, sizes_of, terms_of}
+use Rattle.std.specs.Prelude.{ℕ, suc, ◌+◌, ◌-◌, List, [], ◌∷◌, nat_lt, if◌then◌else◌}
+use Rattle.mz_logic.specs.Term.{Term, Terms, Bound, Const, App, none, more, terms_of}
+use Rattle.mz_logic.specs.TermStorage.{size_of, sizes_of}
 use Rattle.mz_logic.specs.Formula.{Formula, Truth, Eq, Atom, Not, And, All}
-use Rattle.mz_logic.specs.Instance.{lift, term_instance}
+use Rattle.mz_logic.specs.Substitution.{shift, argument_at}
+use Rattle.mz_logic.specs.Instance.{term_instance}
 use Rattle.mz_logic.specs.declared.letters.Letter.{Letter}
 use Rattle.mz_logic.specs.declared.letters.Body.{Body}
 use Rattle.mz_logic.specs.declared.letters.Body.TheVariants.{OfTerm, OfFormula}
 
 -- the instance of a term, below `by` more binders
-unfoldable pub lifted_instance : List Letter → ℕ → Term → Term
-lifted_instance ls by t = lift by (term_instance ls t)
+unfoldable pub shifted_instance : List Letter → ℕ → Term → Term
+shifted_instance ls by t = shift 0 by (term_instance ls t)
 
--- a term of a body below `inner` binders of it, with arguments that are lifted by `by`
-abbrev pub index_fill_by : ℕ → ℕ → List Term → ℕ → Term
-index_fill_by inner by args index =
-    if nat_lt index inner then Bound index else lift by (slice_index_or args (index - inner) (Const 0))
+-- a term of a body below `inner` binders of it, with arguments that are shifted by `by`
+abbrev pub index_at_by : ℕ → ℕ → List Term → ℕ → Term
+index_at_by inner by args index =
+    if nat_lt index inner then Bound index else shift 0 by (argument_at args (index - inner))
 
 abbrev mutual
-  pub fill_by : ℕ → ℕ → List Term → Term → Term
-  fill_by inner by args (Bound index) = index_fill_by inner by args index
-  fill_by inner by args (Const number) = Const number
-  fill_by inner by args (App s ts) = App s (fill_args_by inner by args ts)
+  pub term_at_by : ℕ → ℕ → List Term → Term → Term
+  term_at_by inner by args (Bound index) = index_at_by inner by args index
+  term_at_by inner by args (Const number) = Const number
+  term_at_by inner by args (App s ts) = App s (args_at_by inner by args ts)
 
-  pub fill_args_by : ℕ → ℕ → List Term → Terms → Terms
-  fill_args_by inner by args none = none
-  fill_args_by inner by args (more t ts) = more (fill_by inner by args t) (fill_args_by inner by args ts)
+  pub args_at_by : ℕ → ℕ → List Term → Terms → Terms
+  args_at_by inner by args none = none
+  args_at_by inner by args (more t ts) = more (term_at_by inner by args t) (args_at_by inner by args ts)
 
 -- how large the terms of a body are, and those of all bodies
 abbrev pub terms_size : Formula → ℕ

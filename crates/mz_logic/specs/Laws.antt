@@ -7,7 +7,7 @@ use Rattle.mz_logic.specs.Term.{Term, App, terms_of}
 use Rattle.mz_logic.specs.Formula.{Formula, Eq, Atom}
 use Rattle.mz_logic.specs.Formulas.{IsMember}
 use Rattle.mz_logic.specs.Indices.{closed}
-use Rattle.mz_logic.specs.Substitution.{put, body_at}
+use Rattle.mz_logic.specs.Substitution.{substitute, value_at, body_at}
 use Rattle.mz_logic.specs.Instance.{instance}
 use Rattle.mz_logic.specs.ConstantTerm.{formula_with}
 use Rattle.mz_logic.specs.Same.{IsSame, normal_form}
@@ -66,8 +66,9 @@ FormulaCongruenceLaw =
 abbrev pub TermCongruenceLaw : Type 0
 TermCongruenceLaw =
     (axioms premises : List Formula) (t u inside : Term) →
-    closed t ≡ true → closed u ≡ true → closed (put 0 t inside) ≡ true →
-    Derives axioms premises (Eq t u) → Derives axioms premises (Eq (put 0 t inside) (put 0 u inside))
+    closed t ≡ true → closed u ≡ true → closed (substitute 0 (value_at (t ∷ [])) inside) ≡ true →
+    Derives axioms premises (Eq t u) →
+    Derives axioms premises (Eq (substitute 0 (value_at (t ∷ [])) inside) (substitute 0 (value_at (u ∷ [])) inside))
 
 -- applications of a symbol to closed arguments that are equal one by one are equal
 abbrev pub ApplicationLaw : Type 0

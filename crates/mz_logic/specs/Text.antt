@@ -47,6 +47,10 @@ abbrev mutual
   args_text none = []
   args_text (more t ts) = 32 ∷ term_text t ++ args_text ts
 
+-- an argument, with the space before it
+abbrev pub argument_text : Term → List ℕ
+argument_text t = 32 ∷ term_text t
+
 -- the words `true`, `=`, `not`, `and`, `all`
 abbrev pub true_word : List ℕ
 true_word = 116 ∷ 114 ∷ 117 ∷ 101 ∷ []

@@ -1,4 +1,4 @@
-// Disjuncts.
+//! Disjuncts.
 ghost use Rattle.std.specs.Prelude.{◌≡◌, IfOk};
 
 use crate::formulas::Formulas;

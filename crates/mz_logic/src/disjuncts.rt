@@ -1,4 +1,4 @@
-// Lists of disjuncts.
+//! Lists of disjuncts.
 ghost use Rattle.std.specs.Prelude.{◌≡◌, ◌<◌, [], ◌∷◌, ◌++◌, length, slice_get, Some, IfOk, OnOk, OnErr};
 
 use crate::disjunct::Disjunct;

@@ -1,6 +1,7 @@
-// Formulas.
+//! Formulas.
 ghost use Rattle.std.specs.Prelude.{◌≡◌, ◌↔◌, IfOk, IsTrue};
-ghost use Rattle.mz_logic.specs.Formula.{Formula, Truth, Eq, Atom, Not, And, All, binders_of};
+ghost use Rattle.mz_logic.specs.Formula.{Formula, Truth, Eq, Atom, Not, And, All};
+ghost use Rattle.mz_logic.specs.FormulaStorage.{binders_of};
 
 use crate::sym::Sym;
 use crate::term::{Term, Terms};
@@ -31,7 +32,8 @@ pub enum FormulaNode {
 
 impl Model for Formula {
     ghost use Rattle.std.specs.Prelude.{◌≡◌};
-    ghost use Rattle.mz_logic.specs.Formula.{Formula, formula_code, formula_size, binders_of};
+    ghost use Rattle.mz_logic.specs.Formula.{Formula};
+    ghost use Rattle.mz_logic.specs.FormulaStorage.{formula_code, formula_size, binders_of};
 
     ghost Value = { Formula };
 
@@ -45,9 +47,9 @@ impl Model for Formula {
 
     ghost size = { formula_size };
 
-    ghost use Rattle.mz_logic.specs.FormulaFalls.{formula_falls};
+    ghost use Rattle.mz_logic.specs.FormulaDecreases.{formula_decreases};
 
-    ghost size_decreases = { λ a h. formula_falls a.node };
+    ghost size_decreases = { λ a h. formula_decreases a.node };
 }
 
 impl Formula {

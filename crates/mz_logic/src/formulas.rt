@@ -1,7 +1,7 @@
-// Lists of formulas.
+//! Lists of formulas.
 ghost use Rattle.std.specs.Prelude.{◌≡◌, ◌↔◌, ◌<◌, List, [], ◌∷◌, ◌++◌, length, slice_get, Some, IfOk, OnOk, OnErr, IsTrue, All};
 ghost use Rattle.std.specs.List.{list_any};
-ghost use Rattle.mz_logic.specs.Constants.{formula_mentions};
+ghost use Rattle.mz_logic.specs.Constants.{occurs_in_formula};
 ghost use Rattle.mz_logic.specs.Formula.{Not};
 ghost use Rattle.mz_logic.specs.Formulas.{IsMember};
 
@@ -18,7 +18,8 @@ pub struct Formulas {
 impl Model for Formulas {
     ghost use Rattle.std.specs.Prelude.{List};
     ghost use Rattle.std.specs.Coded.{coded_list};
-    ghost use Rattle.mz_logic.specs.Formula.{Formula, formula_code};
+    ghost use Rattle.mz_logic.specs.Formula.{Formula};
+    ghost use Rattle.mz_logic.specs.FormulaStorage.{formula_code};
 
     ghost Value = { List Formula };
 
@@ -135,10 +136,10 @@ impl Formulas {
     }
 
     /// Whether the constant occurs in one of them.
-    pub fn mention(&self, number: u32) -> bool
-        ensures { result ≡ list_any (formula_mentions number) self.now }
+    pub fn have_constant(&self, number: u32) -> bool
+        ensures { result ≡ list_any (occurs_in_formula number) self.now }
     {
-        self.items.iter().any(|f| f.mentions(number))
+        self.items.iter().any(|f| f.has_constant(number))
     }
 
     /// An equal list.

@@ -1,7 +1,7 @@
-// Free indices of terms and formulas.
+//! Free indices of terms and formulas.
 ghost use Rattle.std.specs.Prelude.{◌≡◌, ◌+◌, ◌<◌, ◌^◌};
 ghost use Rattle.std.specs.List.{list_all};
-ghost use Rattle.mz_logic.specs.Formula.{binders_of};
+ghost use Rattle.mz_logic.specs.FormulaStorage.{binders_of};
 ghost use Rattle.mz_logic.specs.Indices.{is_below, formula_below, closed, formula_closed};
 
 use crate::formula::{Formula, FormulaNode};

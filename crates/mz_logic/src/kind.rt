@@ -1,4 +1,4 @@
-// Kinds of symbols.
+//! Kinds of symbols.
 ghost use Rattle.std.specs.Prelude.{◌≡◌};
 ghost use Rattle.mz_logic.specs.Sym.{kind_number};
 

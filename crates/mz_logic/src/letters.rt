@@ -1,4 +1,4 @@
-// Letters of schemes, and what stands for them.
+//! Letters of schemes, and what stands for them.
 ghost use Rattle.std.specs.Prelude.{◌≡◌, ◌++◌, ◌∷◌, [], find, IfOk, OnOk, OnErr};
 ghost use Rattle.std.specs.Option.{option_copied};
 ghost use Rattle.mz_logic.specs.Letters.{is_of, term_for, formula_for};

@@ -1,7 +1,10 @@
-// Terms, formulas and sequents of first-order logic, and what is derivable.
+//! Terms, formulas and sequents of first-order logic, and what is derivable.
 #![tactic(auto)]
 
+pub mod beyond;
 pub mod bodies;
+pub mod capped;
+pub mod conjunction;
 pub mod constants;
 pub mod disjunct;
 pub mod disjuncts;
@@ -16,13 +19,15 @@ pub mod letters;
 pub mod literal;
 pub mod literals;
 pub mod negation;
+pub mod order;
 pub mod replacement;
 pub mod rule;
 pub mod sameness;
 pub mod sequent;
 pub mod sequents;
+pub mod set_laws;
+pub mod shift;
 pub mod substitution;
 pub mod sym;
 pub mod term;
-#[cfg(test)]
-mod tests;
+pub mod texts;

@@ -1,4 +1,4 @@
-// Literals.
+//! Literals.
 ghost use Rattle.std.specs.Prelude.{◌≡◌, ◌↔◌, IfOk, IsTrue};
 ghost use Rattle.mz_logic.specs.Literal.{signed, literal_formula};
 

@@ -1,4 +1,4 @@
-// Lists of literals.
+//! Lists of literals.
 ghost use Rattle.std.specs.Prelude.{◌≡◌, ◌<◌, [], ◌∷◌, ◌++◌, length, slice_get, Some, IfOk, OnOk, OnErr};
 
 use crate::literal::Literal;

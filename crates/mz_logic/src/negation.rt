@@ -1,4 +1,4 @@
-// Negations.
+//! Negations.
 ghost use Rattle.std.specs.Prelude.{◌≡◌, IfOk};
 ghost use Rattle.mz_logic.specs.Negation.{negated};
 

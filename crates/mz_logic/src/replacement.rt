@@ -1,4 +1,4 @@
-// Whether a formula is another with some occurrences of a term replaced, without memory.
+//! Whether a formula is another with some occurrences of a term replaced, without memory.
 ghost use Rattle.std.specs.Prelude.{◌≡◌, ◌↔◌, IsTrue};
 ghost use Rattle.mz_logic.specs.Term.{terms_of};
 ghost use Rattle.mz_logic.specs.Replacement.{TermReplaced, ArgsReplaced, WithinReplaced, Replaced};

@@ -1,4 +1,4 @@
-// The rules of derivations.
+//! The rules of derivations.
 ghost use Rattle.std.specs.Prelude.{◌≡◌, IfOk};
 
 use crate::letters::Letters;

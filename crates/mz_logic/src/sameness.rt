@@ -1,4 +1,4 @@
-// Whether two formulas are the same up to association of `&` and double negation.
+//! Whether two formulas are the same up to association of `&` and double negation.
 ghost use Rattle.std.specs.Prelude.{◌≡◌, ◌↔◌, IsTrue};
 ghost use Rattle.mz_logic.specs.Same.{IsSame, normal_form};
 ghost use Rattle.mz_logic.specs.Conjuncts.{conjunction, IsPlain, RestsAgree};

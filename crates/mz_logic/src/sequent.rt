@@ -1,4 +1,4 @@
-// Sequents.
+//! Sequents.
 ghost use Rattle.std.specs.Prelude.{◌≡◌, ◌↔◌, IfOk, IsTrue};
 
 use crate::formula::Formula;

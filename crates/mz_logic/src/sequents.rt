@@ -1,4 +1,4 @@
-// Lists of sequents.
+//! Lists of sequents.
 ghost use Rattle.std.specs.Prelude.{◌≡◌, ◌<◌, [], ◌∷◌, ◌++◌, length, slice_get, Some, IfOk, OnOk, OnErr};
 
 use crate::sequent::Sequent;

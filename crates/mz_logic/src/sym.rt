@@ -1,4 +1,4 @@
-// Symbols.
+//! Symbols.
 ghost use Rattle.std.specs.Prelude.{◌≡◌, ◌↔◌, IsTrue};
 ghost use Rattle.mz_logic.specs.Sym.{same_sym};
 ghost use Rattle.mz_logic.specs.Letters.{is_functor_letter, is_predicate_letter};

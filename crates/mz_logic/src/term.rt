@@ -1,4 +1,4 @@
-// Terms.
+//! Terms.
 ghost use Rattle.std.specs.Prelude.{◌≡◌, ◌<◌, ◌↔◌, List, [], ◌∷◌, ◌++◌, length, slice_get, Some, IfOk, OnOk, OnErr, IsTrue};
 ghost use Rattle.mz_logic.specs.Term.{Term, Bound, Const, App, terms_of};
 
@@ -31,7 +31,8 @@ pub struct Terms {
 }
 
 impl Model for Term {
-    ghost use Rattle.mz_logic.specs.Term.{Term, term_code, size_of};
+    ghost use Rattle.mz_logic.specs.Term.{Term};
+    ghost use Rattle.mz_logic.specs.TermStorage.{term_code, size_of};
 
     ghost Value = { Term };
 
@@ -43,15 +44,16 @@ impl Model for Term {
 
     ghost size = { size_of };
 
-    ghost use Rattle.mz_logic.specs.TermFalls.{falls};
+    ghost use Rattle.mz_logic.specs.TermDecreases.{decreases};
 
-    ghost size_decreases = { λ a h. falls a.node };
+    ghost size_decreases = { λ a h. decreases a.node };
 }
 
 impl Model for Terms {
     ghost use Rattle.std.specs.Prelude.{List};
     ghost use Rattle.std.specs.Coded.{coded_list};
-    ghost use Rattle.mz_logic.specs.Term.{Term, term_code, sizes_of, most_le-sizes_of};
+    ghost use Rattle.mz_logic.specs.Term.{Term};
+    ghost use Rattle.mz_logic.specs.TermStorage.{term_code, sizes_of, most_le-sizes_of};
 
     ghost Value = { List Term };
 

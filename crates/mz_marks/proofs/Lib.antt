@@ -1,3 +1,3 @@
-pub mod AheadLemmas
+pub mod SuffixLemmas
 pub mod MarkLemmas
 pub mod MarkAll

@@ -1,8 +1,8 @@
 -- The marks that are computed are those of the definition.
 use Rattle.std.proofs.Common.{◌≡◌, ℕ, zero, suc, ◌+◌, ◌≤◌, Bool, true, false, ◌⊎◌, inl, inr, List, [], ◌∷◌, ◌++◌, length, refl, sym, ap, subst, ◌∙◌, append_assoc, arith, length-append, Option}
-use Rattle.mz_marks.specs.declared.role.Role.{Role}
-use Rattle.mz_marks.specs.declared.role.Role.TheVariants.{Identifier, Comma, Open, Close, Bracket, Being, Arrow, For, Reserve, Semicolon, Structure, Aggregate, Term, Other}
-use Rattle.mz_marks.specs.Ahead.{first, is_arrow, begins, segment, tail, reserve_segment, reserve_tail, front, top, arrows, arrows_with}
+use Rattle.mz_marks.specs.declared.token_class.TokenClass.{TokenClass}
+use Rattle.mz_marks.specs.declared.token_class.TokenClass.TheVariants.{Identifier, Comma, Open, Close, Bracket, Being, Arrow, For, Reserve, Semicolon, Structure, Aggregate, Term, Other}
+use Rattle.mz_marks.specs.Suffix.{first, is_arrow, begins, segment, tail, reserve_segment, reserve_tail, front, top, arrows, arrows_with}
 use Rattle.mz_marks.specs.Marks.{may_begin_term, is_parenthesis, Balanced, nothing, other, group, Idents, one, more, InReserve, EndsIdents, NewSegment}
 
 -- lists with a last member
@@ -42,13 +42,13 @@ pub same_last : (xs ys : List Bool) (x y : Bool) → xs ++ x ∷ [] ≡ ys ++ y 
 same_last xs ys x y e = (sym (front_last xs x) ∙ (ap front e ∙ front_last ys y), sym (top_last xs x) ∙ (ap top e ∙ top_last ys y))
 
 -- a token that is no parenthesis
-plain_arrows : (r : Role) (f : Option Role) (xs : List Bool) → is_parenthesis r ≡ false → arrows_with r f xs ≡ xs
+plain_arrows : (r : TokenClass) (f : Option TokenClass) (xs : List Bool) → is_parenthesis r ≡ false → arrows_with r f xs ≡ xs
 plain_arrows Open f xs e = cc
 plain_arrows Close f xs e = cc
 plain_arrows _ f xs e = refl
 
 -- parentheses with their partners leave nothing
-pub arrows-balanced : (a s : List Role) → Balanced a → arrows (a ++ s) ≡ arrows s
+pub arrows-balanced : (a s : List TokenClass) → Balanced a → arrows (a ++ s) ≡ arrows s
 arrows-balanced _ s nothing = refl
 arrows-balanced _ s (other r a e h) = plain_arrows r (first (a ++ s)) (arrows (a ++ s)) e ∙ arrows-balanced a s h
 arrows-balanced _ s (group a b h k) =
@@ -57,15 +57,15 @@ arrows-balanced _ s (group a b h k) =
     ∙ (front_last (arrows (b ++ s)) (is_arrow (first (b ++ s))) ∙ arrows-balanced b s k))
 
 -- the nearest `)` without its `(` in what follows
-pub record Nearest (s : List Role) (xs : List Bool) (x : Bool) : Type 0 where
-  pub inside : List Role
-  pub behind : List Role
+pub record Nearest (s : List TokenClass) (xs : List Bool) (x : Bool) : Type 0 where
+  pub inside : List TokenClass
+  pub behind : List TokenClass
   pub balanced : Balanced inside
   pub split : s ≡ inside ++ Close ∷ behind
   pub arrow : x ≡ is_arrow (first behind)
   pub others : xs ≡ arrows behind
 
-nearest_other : (r : Role) (s : List Role) (xs : List Bool) (x : Bool) → is_parenthesis r ≡ false → Nearest s xs x → Nearest (r ∷ s) xs x
+nearest_other : (r : TokenClass) (s : List TokenClass) (xs : List Bool) (x : Bool) → is_parenthesis r ≡ false → Nearest s xs x → Nearest (r ∷ s) xs x
 nearest_other r s xs x e h = record {
   inside = r ∷ h.inside;
   behind = h.behind;
@@ -75,7 +75,7 @@ nearest_other r s xs x e h = record {
   others = h.others;
 }
 
-pub nearest : (n : ℕ) (s : List Role) (xs : List Bool) (x : Bool) → length s ≤ n → arrows s ≡ xs ++ x ∷ [] → Nearest s xs x
+pub nearest : (n : ℕ) (s : List TokenClass) (xs : List Bool) (x : Bool) → length s ≤ n → arrows s ≡ xs ++ x ∷ [] → Nearest s xs x
 nearest n [] xs x fit e = absurd (not_nil xs x e)
   where
     not_nil : (xs : List Bool) (x : Bool) → [] ≡ xs ++ x ∷ [] → ⊥
@@ -111,7 +111,7 @@ nearest (suc n) (Aggregate ∷ s) xs x fit e = nearest_other Aggregate s xs x re
 nearest (suc n) (Term ∷ s) xs x fit e = nearest_other Term s xs x refl (nearest n s xs x (omega (arith, fit)) e)
 nearest (suc n) (Other ∷ s) xs x fit e = nearest_other Other s xs x refl (nearest n s xs x (omega (arith, fit)) e)
 
-is_arrow_first : (s : List Role) → true ≡ is_arrow (first s) → (m : List Role) × (s ≡ Arrow ∷ m)
+is_arrow_first : (s : List TokenClass) → true ≡ is_arrow (first s) → (m : List TokenClass) × (s ≡ Arrow ∷ m)
 is_arrow_first [] e = cc
 is_arrow_first (Arrow ∷ m) e = (m, refl)
 is_arrow_first (Identifier ∷ m) e = cc
@@ -129,26 +129,26 @@ is_arrow_first (Term ∷ m) e = cc
 is_arrow_first (Other ∷ m) e = cc
 
 -- a `(` whose `)` has `->` behind it
-pub matched_sound : (before s : List Role) → top (arrows s) ≡ true → EndsIdents before (Open ∷ s)
+pub matched_sound : (before s : List TokenClass) → top (arrows s) ≡ true → EndsIdents before (Open ∷ s)
 matched_sound before s e =
     let g = top_true (arrows s) e in
     let h = nearest (length s) s g.0 true (omega arith) g.1 in
     let k = is_arrow_first h.behind h.arrow in
     (h.inside, k.0, h.balanced, h.split ∙ ap (λ q. h.inside ++ Close ∷ q) k.1)
 
-pub matched_complete : (a m s : List Role) → Balanced a → s ≡ a ++ Close ∷ (Arrow ∷ m) → top (arrows s) ≡ true
+pub matched_complete : (a m s : List TokenClass) → Balanced a → s ≡ a ++ Close ∷ (Arrow ∷ m) → top (arrows s) ≡ true
 matched_complete a m s h e = ap (λ q. top (arrows q)) e ∙ (ap top (arrows-balanced a (Close ∷ (Arrow ∷ m)) h) ∙ top_last (arrows m) true)
 
 -- what follows an identifier: the end of a segment's identifiers, or a comma and further ones
-abbrev pub GoesOn : List Role → List Role → Type 0
-GoesOn before s = EndsIdents before s ⊎ ((m : List Role) × (s ≡ Comma ∷ m) × NewSegment before m)
+abbrev pub GoesOn : List TokenClass → List TokenClass → Type 0
+GoesOn before s = EndsIdents before s ⊎ ((m : List TokenClass) × (s ≡ Comma ∷ m) × NewSegment before m)
 
-from_identifier : (before s : List Role) → GoesOn before s → NewSegment before (Identifier ∷ s)
+from_identifier : (before s : List TokenClass) → GoesOn before s → NewSegment before (Identifier ∷ s)
 from_identifier before s (inl h) = (Identifier ∷ [], s, one, refl, h)
 from_identifier before s (inr h) = (Identifier ∷ (Comma ∷ h.2.0), h.2.1, more h.2.0 h.2.2, ap (λ q. Identifier ∷ q) (h.1 ∙ ap (λ q. Comma ∷ q) h.2.3), h.2.4)
 
 mutual
-  pub segment_sound : (before s : List Role) → segment s ≡ true → NewSegment before s
+  pub segment_sound : (before s : List TokenClass) → segment s ≡ true → NewSegment before s
   segment_sound before [] e = cc
   segment_sound before (Identifier ∷ s) e = from_identifier before s (tail_sound before s e)
   segment_sound before (Comma ∷ s) e = cc
@@ -165,7 +165,7 @@ mutual
   segment_sound before (Term ∷ s) e = cc
   segment_sound before (Other ∷ s) e = cc
 
-  pub tail_sound : (before s : List Role) → tail s ≡ true → GoesOn before s
+  pub tail_sound : (before s : List TokenClass) → tail s ≡ true → GoesOn before s
   tail_sound before [] e = cc
   tail_sound before (Comma ∷ s) e = inr (s, refl, segment_sound before s e)
   tail_sound before (Open ∷ s) e = inl (matched_sound before s e)
@@ -183,7 +183,7 @@ mutual
   tail_sound before (Other ∷ s) e = cc
 
 mutual
-  pub reserve_segment_sound : (before s : List Role) → InReserve before → reserve_segment s ≡ true → NewSegment before s
+  pub reserve_segment_sound : (before s : List TokenClass) → InReserve before → reserve_segment s ≡ true → NewSegment before s
   reserve_segment_sound before [] h e = cc
   reserve_segment_sound before (Identifier ∷ s) h e = from_identifier before s (reserve_tail_sound before s h e)
   reserve_segment_sound before (Comma ∷ s) h e = cc
@@ -200,7 +200,7 @@ mutual
   reserve_segment_sound before (Term ∷ s) h e = cc
   reserve_segment_sound before (Other ∷ s) h e = cc
 
-  pub reserve_tail_sound : (before s : List Role) → InReserve before → reserve_tail s ≡ true → GoesOn before s
+  pub reserve_tail_sound : (before s : List TokenClass) → InReserve before → reserve_tail s ≡ true → GoesOn before s
   reserve_tail_sound before [] h e = cc
   reserve_tail_sound before (Comma ∷ s) h e = inr (s, refl, reserve_segment_sound before s h e)
   reserve_tail_sound before (For ∷ s) h e = inl h
@@ -218,10 +218,10 @@ mutual
   reserve_tail_sound before (Other ∷ s) h e = cc
 
 -- which of the two it is
-abbrev pub Either : List Role → Bool → Bool → Type 0
+abbrev pub Either : List TokenClass → Bool → Bool → Type 0
 Either before b c = (b ≡ true) ⊎ (InReserve before × (c ≡ true))
 
-ends_complete : (before s : List Role) → EndsIdents before s → Either before (tail s) (reserve_tail s)
+ends_complete : (before s : List TokenClass) → EndsIdents before s → Either before (tail s) (reserve_tail s)
 ends_complete before [] h = absurd h
 ends_complete before (Being ∷ s) h = inl refl
 ends_complete before (Bracket ∷ s) h = inl refl
@@ -238,17 +238,17 @@ ends_complete before (Aggregate ∷ s) h = absurd h
 ends_complete before (Term ∷ s) h = absurd h
 ends_complete before (Other ∷ s) h = absurd h
 
-idents_complete : (before idents after : List Role) → Idents idents → EndsIdents before after → Either before (segment (idents ++ after)) (reserve_segment (idents ++ after))
+idents_complete : (before idents after : List TokenClass) → Idents idents → EndsIdents before after → Either before (segment (idents ++ after)) (reserve_segment (idents ++ after))
 idents_complete before _ after one h = ends_complete before after h
 idents_complete before _ after (more s k) h = idents_complete before s after k h
 
-pub segment_complete : (before s : List Role) → NewSegment before s → Either before (segment s) (reserve_segment s)
+pub segment_complete : (before s : List TokenClass) → NewSegment before s → Either before (segment s) (reserve_segment s)
 segment_complete before s h =
-    let E : List Role → Type 0 = λ q. Either before (segment q) (reserve_segment q) in
+    let E : List TokenClass → Type 0 = λ q. Either before (segment q) (reserve_segment q) in
     subst E (sym h.3) (idents_complete before h.0 h.1 h.2 h.4)
 
 -- whether a term can begin
-pub begins_is : (s : List Role) → begins s ≡ may_begin_term s
+pub begins_is : (s : List TokenClass) → begins s ≡ may_begin_term s
 begins_is [] = refl
 begins_is (Structure ∷ []) = refl
 begins_is (Structure ∷ (Aggregate ∷ s)) = refl

@@ -1,5 +1,5 @@
-pub mod Ahead
-pub mod IsAhead
+pub mod Suffix
+pub mod IsSuffix
 pub mod Marks
-pub mod Outlook
-pub mod Role
+pub mod PendingMark
+pub mod TokenClass

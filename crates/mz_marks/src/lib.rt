@@ -1,9 +1,7 @@
 //! The marks of commas.
 #![tactic(auto)]
 
-mod ahead;
-pub mod mark;
-pub mod marked_token;
 pub mod marks;
-mod outlook;
-pub mod role;
+mod pending_mark;
+mod suffix;
+pub mod token_class;

@@ -1,14 +1,13 @@
 //! The marks of commas.
 ghost use Rattle.std.specs.Prelude.{◌≡◌, IfOk, map, reverse};
 ghost use Rattle.mz_marks.specs.Marks.{AreMarks};
-ghost use Rattle.mz_marks.specs.Outlook.{outlooks};
-ghost use Rattle.mz_marks.specs.Role.{role_of};
+ghost use Rattle.mz_marks.specs.PendingMark.{pending_marks};
+ghost use Rattle.mz_marks.specs.TokenClass.{class_of};
 
-use crate::ahead::Ahead;
-use crate::mark::Mark;
-use crate::outlook::{Outlook, reserving_after};
-use crate::role::{Role, roles};
-use mz_base::tokens::Tokens;
+use crate::pending_mark::{PendingMark, reserving_after};
+use crate::suffix::Suffix;
+use crate::token_class::{TokenClass, classes};
+use mz_base::token::{Mark, Tokens};
 use std::alloc::{AllocError, Global};
 use std::marker::Model;
 
@@ -20,7 +19,7 @@ pub struct Marks {
 
 impl Model for Marks {
     ghost use Rattle.std.specs.Prelude.{List};
-    ghost use Rattle.mz_marks.specs.declared.mark.Mark.{Mark};
+    ghost use Rattle.mz_base.specs.declared.token.Mark.{Mark};
 
     ghost Value = { List Mark };
 
@@ -30,42 +29,47 @@ impl Model for Marks {
 impl Marks {
     /// The marks of the tokens (`docs/LANGUAGE.md`), in time linear in their number.
     pub fn of(alloc: Global, tokens: &Tokens) -> Result<Marks, AllocError>
-        ensures { IfOk result (λ marks. AreMarks (map role_of tokens.now.items) marks) }
+        ensures { IfOk result (λ marks. AreMarks (map class_of tokens.now.items) marks) }
     {
-        let roles = roles(alloc, tokens.items.as_slice())?;
-        let items = marks_of(alloc, roles.as_slice())?;
+        let classes = classes(alloc, tokens.items.as_slice())?;
+        let items = marks_of(alloc, classes.as_slice())?;
         Ok(Marks { items })
     }
 }
 
 /// What stands behind each token, the last one first.
-fn outlooks(alloc: Global, roles: &[Role]) -> Result<Vec<Outlook>, AllocError>
-    ensures { IfOk result (λ v. v.items ≡ reverse (outlooks roles.now)) }
+fn pending_marks(alloc: Global, classes: &[TokenClass]) -> Result<Vec<PendingMark>, AllocError>
+    ensures { IfOk result (λ v. v.items ≡ reverse (pending_marks classes.now)) }
 {
-    let mut ahead = Ahead::end(alloc);
+    let mut suffix = Suffix::end(alloc);
     let mut out = Vec::new(alloc);
-    let mut rest = roles;
-    'back: while let Some((role, before)) = rest.split_last() {
-        out.push(Outlook::of(*role, ahead.begins, ahead.segment, ahead.reserve_segment))?;
-        ahead.meet(*role)?;
+    let mut rest = classes;
+    'back: while let Some((class, before)) = rest.split_last() {
+        out.push(PendingMark::of(
+            *class,
+            suffix.begins,
+            suffix.segment,
+            suffix.reserve_segment,
+        ))?;
+        suffix.meet(*class)?;
         rest = before;
     }
     Ok(out)
 }
 
-fn marks_of(alloc: Global, roles: &[Role]) -> Result<Vec<Mark>, AllocError>
-    ensures { IfOk result (λ v. AreMarks roles.now v.items) }
+fn marks_of(alloc: Global, classes: &[TokenClass]) -> Result<Vec<Mark>, AllocError>
+    ensures { IfOk result (λ v. AreMarks classes.now v.items) }
 {
-    let mut outlooks = outlooks(alloc, roles)?;
+    let mut pending_marks = pending_marks(alloc, classes)?;
     let mut marks = Vec::new(alloc);
     let mut reserving = false;
-    let mut rest = roles;
-    'on: while let Some((role, after)) = rest.split_first() {
-        let Some(outlook) = outlooks.pop() else {
+    let mut rest = classes;
+    'on: while let Some((class, after)) = rest.split_first() {
+        let Some(pending) = pending_marks.pop() else {
             return Ok(marks);
         };
-        marks.push(outlook.settled(reserving))?;
-        reserving = reserving_after(reserving, *role);
+        marks.push(pending.settled(reserving))?;
+        reserving = reserving_after(reserving, *class);
         rest = after;
     }
     Ok(marks)
@@ -77,9 +81,8 @@ mod tests {
     use mz_base::place::Place;
     use mz_base::symbol_kind::SymbolKind;
     use mz_base::text::Text;
-    use mz_base::token::Token;
-    use mz_base::token_kind::TokenKind;
-    use std::test::Fail;
+    use mz_base::token::{Token, TokenKind};
+    use std::process::Abort;
 
     /// What a word of the table is: `M`, `G`, `+` and `in` are symbols.
     fn kind_of(word: &[u8]) -> TokenKind {
@@ -112,34 +115,36 @@ mod tests {
     }
 
     /// `L` or `D` for each comma of the words, which blanks separate.
-    fn commas(alloc: Global, text: &[u8]) -> Result<Text, AllocError> {
+    fn commas(rt: &impl Abort, alloc: Global, text: &[u8]) -> Text {
         let mut items = Vec::new(alloc);
         for word in text.split(|byte| *byte == b' ') {
-            items.push(Token {
-                kind: kind_of(word),
-                place: Place::start(),
-                spelling: Text::from_slice(alloc, word)?,
-                priority: 0,
-            })?;
+            items
+                .push(Token {
+                    kind: kind_of(word),
+                    place: Place::start(),
+                    spelling: Text::from_slice(alloc, word).expect(rt, "memory"),
+                    priority: 0,
+                })
+                .expect(rt, "memory");
         }
         let tokens = Tokens {
             items,
             end: Place::start(),
         };
-        let marks = Marks::of(alloc, &tokens)?;
+        let marks = Marks::of(alloc, &tokens).expect(rt, "memory");
         let mut letters = Text::new(alloc);
         for mark in &marks.items {
             match mark {
                 Mark::NotComma => {}
-                Mark::List => letters.push(b'L')?,
-                Mark::Dividing => letters.push(b'D')?,
+                Mark::List => letters.push(b'L').expect(rt, "memory"),
+                Mark::Dividing => letters.push(b'D').expect(rt, "memory"),
             }
         }
-        Ok(letters)
+        letters
     }
 
     #[test]
-    fn commas_of_texts(rt: HostRuntime) -> Result<(), Fail> {
+    fn commas_of_texts(rt: HostRuntime) {
         let rows: [(&[u8], &[u8]); 26] = [
             (b"{ a , b , P [ c ] }", b"DD"),
             (b"let x be M of a , y", b"L"),
@@ -169,9 +174,8 @@ mod tests {
             (b"a , F ( [ b ) -> c", b"D"),
         ];
         for (text, letters) in rows {
-            let found = commas(rt.alloc(), text)?;
+            let found = commas(&rt, rt.alloc(), text);
             assert_eq!(rt; found.as_slice(), letters);
         }
-        Ok(())
     }
 }

@@ -7,7 +7,7 @@ use Rattle.std.proofs.lemmas.List.{take_all}
 use Rattle.std.proofs.lemmas.Bool.{ltb-true, ltb-false}
 use Rattle.mz_logic.specs.Term.{Term}
 use Rattle.mz_logic.specs.Formula.{Formula, Truth, Eq, Atom, Not, And, All}
-use Rattle.mz_logic.specs.Substitution.{put_formula}
+use Rattle.mz_logic.specs.Substitution.{substitute_formula}
 use Rattle.mz_nf.specs.declared.problem.Problem.{Problem}
 use Rattle.mz_nf.specs.Count.{count, count_all, held, count_of}
 
@@ -121,16 +121,16 @@ pub ruleset list_rules = (held_one, told_step, told_all)
 pub ruleset problem_rules = (told_problem)
 
 -- a count is that of any instance
-pub count-put_formula : (s : Bool) (d : ℕ) (t : Term) (f : Formula) → count s (put_formula d t f) ≡ count s f
-count-put_formula true d t Truth = refl
-count-put_formula false d t Truth = refl
-count-put_formula true d t (Eq u v) = refl
-count-put_formula false d t (Eq u v) = refl
-count-put_formula true d t (Atom p us) = refl
-count-put_formula false d t (Atom p us) = refl
-count-put_formula true d t (Not f) = count-put_formula false d t f
-count-put_formula false d t (Not f) = count-put_formula true d t f
-count-put_formula true d t (And f g) = λ i. count-put_formula true d t f i * count-put_formula true d t g i
-count-put_formula false d t (And f g) = λ i. count-put_formula false d t f i + count-put_formula false d t g i
-count-put_formula true d t (All f) = refl
-count-put_formula false d t (All f) = count-put_formula false (d + 1) t f
+pub count-substitute_formula : (s : Bool) (d : ℕ) (v : ℕ → Term) (f : Formula) → count s (substitute_formula d v f) ≡ count s f
+count-substitute_formula true d v Truth = refl
+count-substitute_formula false d v Truth = refl
+count-substitute_formula true d v (Eq t u) = refl
+count-substitute_formula false d v (Eq t u) = refl
+count-substitute_formula true d v (Atom p us) = refl
+count-substitute_formula false d v (Atom p us) = refl
+count-substitute_formula true d v (Not f) = count-substitute_formula false d v f
+count-substitute_formula false d v (Not f) = count-substitute_formula true d v f
+count-substitute_formula true d v (And f g) = λ i. count-substitute_formula true d v f i * count-substitute_formula true d v g i
+count-substitute_formula false d v (And f g) = λ i. count-substitute_formula false d v f i + count-substitute_formula false d v g i
+count-substitute_formula true d v (All f) = refl
+count-substitute_formula false d v (All f) = count-substitute_formula false (d + 1) v f

@@ -6,9 +6,9 @@ use Rattle.std.proofs.lemmas.Bool.{ltb-true, ltb-false}
 use Rattle.std.proofs.lemmas.List.{length-append}
 use Rattle.mz_logic.specs.Term.{Const}
 use Rattle.mz_logic.specs.Formula.{Formula}
-use Rattle.mz_logic.specs.Substitution.{body_at}
-use Rattle.mz_logic.specs.Constants.{formula_mentions}
-use Rattle.mz_logic.proofs.Fresh.{formula_greatest, all_greatest, formula_mentions-above, all_mention-above}
+use Rattle.mz_logic.specs.Substitution.{body_at, value_at}
+use Rattle.mz_logic.specs.Constants.{occurs_in_formula}
+use Rattle.mz_logic.proofs.Fresh.{formula_greatest, all_greatest, occurs_in_formula-above, occurs_in_formulas-above}
 use Rattle.mz_logic.specs.declared.disjunct.Disjunct.{Disjunct}
 use Rattle.mz_nf.specs.declared.problem.Problem.{Problem}
 use Rattle.mz_nf.specs.Problem.{parts_of, has_constant}
@@ -17,7 +17,7 @@ use Rattle.mz_nf.specs.Constants.{IsLeastUnused}
 use Rattle.mz_nf.specs.Splits as splits
 use Rattle.mz_nf.specs.Splits.{Splits, SplitsAll, AreDisjuncts}
 use Rattle.mz_nf.specs.Count.{count, count_all, held, count_of}
-use Rattle.mz_nf.proofs.CountLemmas.{count-put_formula}
+use Rattle.mz_nf.proofs.CountLemmas.{count-substitute_formula}
 use Rattle.mz_nf.proofs.PairLemmas.{length-pairs}
 use Rattle.mz_nf.proofs.TakesLemmas.{IsBounded, not_both, all_splits_exist}
 
@@ -81,7 +81,7 @@ splits_count used s f k m ds (splits.conjunction_negated p q l n o xs ys h i) =
     length-append xs ys ∙ (λ t. splits_count used false p l n xs h t + splits_count used false q n o ys i t)
 splits_count used s f k m ds (splits.universal b l) = refl
 splits_count used s f k m ds (splits.universal_negated b l c n xs i h) =
-    splits_count used false (body_at b (Const c)) (suc c) n xs h ∙ count-put_formula false 0 (Const c) b
+    splits_count used false (body_at b (Const c)) (suc c) n xs h ∙ count-substitute_formula false 0 (value_at (Const c ∷ [])) b
 
 pub all_splits_count : (used : ℕ → Bool) (fs : List Formula) (k m : ℕ) (ds : List Disjunct) → SplitsAll used fs k ds m → length ds ≡ count_all fs
 all_splits_count used fs k m ds (splits.end l) = refl
@@ -94,8 +94,8 @@ neither a b p q = rw (p, q) refl
 
 bounded_problem : (p : Problem) → IsBounded (has_constant p) (max (all_greatest p.premises) (formula_greatest p.conclusion) + 1)
 bounded_problem p c le =
-    neither (list_any (formula_mentions c) p.premises) (formula_mentions c p.conclusion)
-    (all_mention-above c p.premises (omega arith)) (formula_mentions-above c p.conclusion (omega arith))
+    neither (list_any (occurs_in_formula c) p.premises) (occurs_in_formula c p.conclusion)
+    (occurs_in_formulas-above c p.premises (omega arith)) (occurs_in_formula-above c p.conclusion (omega arith))
 
 pub disjuncts_exist : (p : Problem) → (ds : List Disjunct) × AreDisjuncts p ds
 disjuncts_exist p =

@@ -1,5 +1,6 @@
 -- Pairs of disjuncts.
 use Rattle.std.proofs.Common.{◌≡◌, ◌<◌, ℕ, suc, ◌+◌, ◌*◌, List, [], ◌∷◌, ◌++◌, map, length, take, get_or, refl, ap, sym, ◌∙◌, append_assoc, add-one, arith}
+use Rattle.std.specs.Prelude.{slice_get, Option, None, Some}
 use Rattle.std.proofs.Math.Nat.{suc-mul}
 use Rattle.std.proofs.Math.Seq.{take-suc}
 use Rattle.std.proofs.lemmas.List.{append-nil, map-append, length-append, length-map}
@@ -59,3 +60,20 @@ told_pairs ds es out more d i em eo g lt =
     em ∙ ap (λ x. x ++ map (joined d) es) eo ∙ sym whole
 
 pub ruleset pair_rules = (told_pairs)
+
+-- pairs with a single disjunct
+pub pairs-single : (ds : List Disjunct) (e : Disjunct) → pairs ds (e ∷ []) ≡ map (λ d. joined d e) ds
+pairs-single [] e = refl
+pairs-single (d ∷ ds) e = ap (λ x. joined d e ∷ x) (pairs-single ds e)
+
+abbrev disjunct_or : Disjunct → Option Disjunct → Disjunct
+disjunct_or x None = x
+disjunct_or x (Some y) = y
+
+single_of : (es : List Disjunct) (e : Disjunct) → length es ≡ 1 → slice_get es 0 ≡ Some e → es ≡ e ∷ []
+single_of [] e l g = absurd (omega (arith, l))
+single_of (x ∷ []) e l g = ap (λ y. disjunct_or x y ∷ []) g
+single_of (x ∷ y ∷ es) e l g = absurd (omega (arith, l))
+
+pub pairs-one : (ds es : List Disjunct) (e : Disjunct) → length es ≡ 1 → slice_get es 0 ≡ Some e → pairs ds es ≡ map (λ d. joined d e) ds
+pairs-one ds es e l g = ap (pairs ds) (single_of es e l g) ∙ pairs-single ds e

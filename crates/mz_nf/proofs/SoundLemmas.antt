@@ -10,14 +10,14 @@ use Rattle.mz_logic.specs.Formula as formula
 use Rattle.mz_logic.specs.Formula.{Formula}
 use Rattle.mz_logic.specs.Formulas.{IsMember}
 use Rattle.mz_logic.specs.Substitution.{body_at}
-use Rattle.mz_logic.specs.Constants.{formula_mentions}
+use Rattle.mz_logic.specs.Constants.{occurs_in_formula}
 use Rattle.mz_logic.specs.Negation.{falsity}
 use Rattle.mz_logic.specs.Literal.{signed, literal_formula}
 use Rattle.mz_logic.specs.Derives.{Derives}
 use Rattle.mz_logic.specs.declared.disjunct.Disjunct.{Disjunct}
 use Rattle.mz_logic.proofs.Rules.{hypothesis, weakening, cut, and_in, and_left, and_right, not_in, not_out, classical, all_in}
 use Rattle.mz_logic.proofs.Connectives.{first, under}
-use Rattle.mz_logic.proofs.SubstitutionLaws.{formula_mentions-put}
+use Rattle.mz_logic.proofs.ValueLaws.{occurs_in_formula-body_at}
 use Rattle.mz_nf.specs.declared.problem.Problem.{Problem}
 use Rattle.mz_nf.specs.Problem.{parts_of, has_constant}
 use Rattle.mz_nf.specs.Disjunct.{joined, pairs, formulas_of}
@@ -61,10 +61,10 @@ none_joined p d e h k =
 
 -- no constant from k on that is still free occurs
 abbrev pub IsUntouched : (ℕ → Bool) → ℕ → List Formula → Type 0
-IsUntouched used k g = (j : ℕ) → k ≤ j → used j ≡ false → list_any (formula_mentions j) g ≡ false
+IsUntouched used k g = (j : ℕ) → k ≤ j → used j ≡ false → list_any (occurs_in_formula j) g ≡ false
 
 abbrev pub IsAbsent : (ℕ → Bool) → ℕ → Formula → Type 0
-IsAbsent used k f = (j : ℕ) → k ≤ j → used j ≡ false → formula_mentions j f ≡ false
+IsAbsent used k f = (j : ℕ) → k ≤ j → used j ≡ false → occurs_in_formula j f ≡ false
 
 abbrev AreUntouched : (ℕ → Bool) → ℕ → List Disjunct → Type 0
 AreUntouched used k ds = AllByRecursion (λ d. IsUntouched used k (formulas_of d)) ds
@@ -85,7 +85,7 @@ rises used s f k m ds (splits.universal_negated b l c n es i h) = omega (arith, 
 body_absent : (used : ℕ → Bool) (b : Formula) (k c : ℕ) → k ≤ c → IsAbsent used k (formula.All b) → IsAbsent used (suc c) (body_at b (Const c))
 body_absent used b k c kc h j le u =
     let apart : nat_eq c j ≡ false = ne_eqb c j (λ e. omega arith) in
-    formula_mentions-put j 0 (Const c) b apart (h j (omega arith) u)
+    occurs_in_formula-body_at j (Const c) b apart (h j (omega arith) u)
 
 -- facts of each disjunct
 in_both : (P : Disjunct → Type 0) (ds es : List Disjunct) → AllByRecursion P ds → AllByRecursion P es → AllByRecursion P (ds ++ es)
@@ -133,21 +133,21 @@ pairs_untouched used k [] es h i = tt
 pairs_untouched used k (d ∷ ds) es h i =
     let P : Disjunct → Type 0 = λ x. IsUntouched used k (formulas_of x) in
     in_both P (map (joined d) es) (pairs ds es)
-    (into_map P d es (each P (λ e. P (joined d e)) (λ e u j le x. none_joined (formula_mentions j) d e (h.0 j le x) (u j le x)) es i))
+    (into_map P d es (each P (λ e. P (joined d e)) (λ e u j le x. none_joined (occurs_in_formula j) d e (h.0 j le x) (u j le x)) es i))
     (pairs_untouched used k ds es h.1 i)
 
 literal_untouched : (used : ℕ → Bool) (k : ℕ) (s : Bool) (f : Formula) → IsAbsent used k f → IsUntouched used k (signed s f ∷ [])
-literal_untouched used k true f h j le u = neither (formula_mentions j f) false (h j le u) refl
-literal_untouched used k false f h j le u = neither (formula_mentions j f) false (h j le u) refl
+literal_untouched used k true f h j le u = neither (occurs_in_formula j f) false (h j le u) refl
+literal_untouched used k false f h j le u = neither (occurs_in_formula j f) false (h j le u) refl
 
 later : (used : ℕ → Bool) (k m : ℕ) → k ≤ m → (ds : List Disjunct) → AreUntouched used k ds → AreUntouched used m ds
 later used k m le ds h = each (λ d. IsUntouched used k (formulas_of d)) (λ d. IsUntouched used m (formulas_of d)) (λ d u j l x. u j (omega arith) x) ds h
 
 left_absent : (used : ℕ → Bool) (k : ℕ) (p q : Formula) → IsAbsent used k (formula.And p q) → IsAbsent used k p
-left_absent used k p q a j le u = neither_left (formula_mentions j p) (formula_mentions j q) (a j le u)
+left_absent used k p q a j le u = neither_left (occurs_in_formula j p) (occurs_in_formula j q) (a j le u)
 
 right_absent : (used : ℕ → Bool) (k m : ℕ) (p q : Formula) → k ≤ m → IsAbsent used k (formula.And p q) → IsAbsent used m q
-right_absent used k m p q km a j le u = neither_right (formula_mentions j p) (formula_mentions j q) (a j (omega arith) u)
+right_absent used k m p q km a j le u = neither_right (occurs_in_formula j p) (occurs_in_formula j q) (a j (omega arith) u)
 
 -- the disjuncts have no constant that is still to be taken
 parts_untouched : (used : ℕ → Bool) (s : Bool) (f : Formula) (k m : ℕ) (ds : List Disjunct) → Splits used s f k ds m → IsAbsent used k f → AreUntouched used m ds
@@ -226,14 +226,14 @@ splits_sound ax used s f k m ds (splits.conjunction p q l n o es fs i j) a g u h
     let lo : l ≤ n = rises used true p l n es i in
     let ap : IsAbsent used l p = left_absent used l p q a in
     let aq : IsAbsent used n q = right_absent used l n p q lo a in
-    let u0 : IsUntouched used l (pq ∷ g) = λ x le y. neither (formula_mentions x pq) (list_any (formula_mentions x) g) (a x le y) (u x le y) in
+    let u0 : IsUntouched used l (pq ∷ g) = λ x le y. neither (occurs_in_formula x pq) (list_any (occurs_in_formula x) g) (a x le y) (u x le y) in
     let parts : AreUntouched used n es = parts_untouched used true p l n es i ap in
     let pairwise : AllByRecursion (λ d. AllByRecursion (λ e. IsRefuted ax g (joined d e)) fs) es = out_of_pairs (IsRefuted ax g) es fs h in
     let within : AllByRecursion (IsRefuted ax (pq ∷ g)) es =
     each_of_two (λ d. IsUntouched used n (formulas_of d)) (λ d. AllByRecursion (λ e. IsRefuted ax g (joined d e)) fs) (IsRefuted ax (pq ∷ g))
     (λ d ud hd.
     let h0 : List Formula = formulas_of d ++ (pq ∷ g) in
-    let un : IsUntouched used n h0 = λ x le y. none_in (formula_mentions x) (formulas_of d) (pq ∷ g) (ud x le y) (u0 x (omega arith) y) in
+    let un : IsUntouched used n h0 = λ x le y. none_in (occurs_in_formula x) (formulas_of d) (pq ∷ g) (ud x le y) (u0 x (omega arith) y) in
     let hs : AllByRecursion (IsRefuted ax h0) fs = each_apart ax g (pq ∷ g) d fs (λ z c. behind_one g pq z c) hd in
     let from_q : Derives ax (q ∷ h0) falsity = splits_sound ax used true q n o fs j aq h0 un hs in
     cut ax h0 q falsity (and_right ax h0 p q (hypothesis ax h0 pq (Contains-append_right (formulas_of d) (pq ∷ g) pq (0, omega arith, refl)))) from_q)
@@ -273,20 +273,20 @@ all_splits_sound : (ax : List Formula) (used : ℕ → Bool) (fs : List Formula)
 all_splits_sound ax used fs k m ds (splits.end l) a g u h = h.0
 all_splits_sound ax used fs k m ds (splits.next f rest l n o es gs i j) a g u h =
     let lo : l ≤ n = rises used true f l n es i in
-    let af : IsAbsent used l f = λ x le y. neither_left (formula_mentions x f) (list_any (formula_mentions x) rest) (a x le y) in
-    let ar : IsUntouched used l rest = λ x le y. neither_right (formula_mentions x f) (list_any (formula_mentions x) rest) (a x le y) in
+    let af : IsAbsent used l f = λ x le y. neither_left (occurs_in_formula x f) (list_any (occurs_in_formula x) rest) (a x le y) in
+    let ar : IsUntouched used l rest = λ x le y. neither_right (occurs_in_formula x f) (list_any (occurs_in_formula x) rest) (a x le y) in
     let parts : AreUntouched used n es = parts_untouched used true f l n es i af in
     let pairwise : AllByRecursion (λ d. AllByRecursion (λ e. IsRefuted ax g (joined d e)) gs) es = out_of_pairs (IsRefuted ax g) es gs h in
     let within : AllByRecursion (IsRefuted ax (rest ++ g)) es =
     each_of_two (λ d. IsUntouched used n (formulas_of d)) (λ d. AllByRecursion (λ e. IsRefuted ax g (joined d e)) gs) (IsRefuted ax (rest ++ g))
     (λ d ud hd.
     let h0 : List Formula = formulas_of d ++ g in
-    let un : IsUntouched used n h0 = λ x le y. none_in (formula_mentions x) (formulas_of d) g (ud x le y) (u x (omega arith) y) in
+    let un : IsUntouched used n h0 = λ x le y. none_in (occurs_in_formula x) (formulas_of d) g (ud x le y) (u x (omega arith) y) in
     let hs : AllByRecursion (IsRefuted ax h0) gs = each_apart ax g g d gs (λ z c. c) hd in
     let from_rest : Derives ax (rest ++ h0) falsity = all_splits_sound ax used rest n o gs j (λ x le y. ar x (omega arith) y) h0 un hs in
     reordered ax (rest ++ h0) (formulas_of d ++ (rest ++ g)) falsity (past rest d g) from_rest)
     es parts pairwise in
-    splits_sound ax used true f l n es i af (rest ++ g) (λ x le y. none_in (formula_mentions x) rest g (ar x le y) (u x le y)) within
+    splits_sound ax used true f l n es i af (rest ++ g) (λ x le y. none_in (occurs_in_formula x) rest g (ar x le y) (u x le y)) within
 
 -- the law of a problem
 conclusion_first : (p : Problem) (clauses : List Formula) (f : Formula) → Contains (parts_of p ++ clauses) f → Contains (formula.Not p.conclusion ∷ (p.premises ++ clauses)) f
@@ -306,8 +306,8 @@ splitting ax clauses p ds are known refuted =
     let n : Formula = formula.Not p.conclusion in
     let g : List Formula = p.premises ++ clauses in
     let parts : IsUntouched (has_constant p) 1 (parts_of p) = λ j le u.
-    none_in (formula_mentions j) p.premises (n ∷ [])
-    (neither_left (list_any (formula_mentions j) p.premises) (formula_mentions j p.conclusion) u)
-    (neither (formula_mentions j p.conclusion) false (neither_right (list_any (formula_mentions j) p.premises) (formula_mentions j p.conclusion) u) refl) in
+    none_in (occurs_in_formula j) p.premises (n ∷ [])
+    (neither_left (list_any (occurs_in_formula j) p.premises) (occurs_in_formula j p.conclusion) u)
+    (neither (occurs_in_formula j p.conclusion) false (neither_right (list_any (occurs_in_formula j) p.premises) (occurs_in_formula j p.conclusion) u) refl) in
     let end : Derives ax (parts_of p ++ clauses) falsity = all_splits_sound ax (has_constant p) (parts_of p) 1 are.0 ds are.1 parts clauses known (each_member (IsRefuted ax clauses) ds refuted) in
     classical ax g p.conclusion (reordered ax (parts_of p ++ clauses) (n ∷ g) falsity (conclusion_first p clauses) end)

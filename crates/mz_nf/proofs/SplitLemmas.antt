@@ -5,8 +5,10 @@ use Rattle.std.proofs.Math.Seq.{take-suc}
 use Rattle.std.proofs.lemmas.List.{take_all}
 use Rattle.mz_logic.specs.declared.sym.Sym.{Sym}
 use Rattle.mz_logic.specs.Term.{Term, Const}
-use Rattle.mz_logic.specs.Formula.{Formula, Truth, Eq, Atom, Not, And, All, formula_size}
-use Rattle.mz_logic.specs.Substitution.{body_at}
+use Rattle.mz_logic.specs.Formula.{Formula, Truth, Eq, Atom, Not, And, All}
+use Rattle.mz_logic.specs.FormulaStorage.{formula_size}
+use Rattle.mz_logic.specs.Substitution.{body_at, value_at}
+use Rattle.mz_logic.proofs.Equivalence.{formula_size-substitute_formula}
 use Rattle.mz_logic.specs.declared.literal.Literal.TheVariants as literal
 use Rattle.mz_logic.specs.declared.disjunct.Disjunct.{Disjunct}
 use Rattle.mz_nf.specs.declared.problem.Problem.{Problem}
@@ -19,7 +21,7 @@ use Rattle.mz_nf.specs.Takes as takes
 use Rattle.mz_nf.specs.Takes.{Takes}
 use Rattle.mz_nf.specs.Count.{count}
 use Rattle.mz_nf.proofs.PairLemmas.{pairs_assoc, pairs-empty, empty-pairs}
-use Rattle.mz_nf.proofs.TakesLemmas.{HasSplit, takes_split, formula_size-put_formula}
+use Rattle.mz_nf.proofs.TakesLemmas.{HasSplit, takes_split}
 use Rattle.mz_nf.proofs.OneListLemmas.{splits_count}
 
 -- a formula, by its form
@@ -70,7 +72,7 @@ pub ruleset pair_rules = (told_pair, told_nothing)
 -- the instance is smaller than the universal
 pub smaller : (f b g : Formula) (c : Term) → f ≡ All b → g ≡ body_at b c → formula_size g < formula_size f
 smaller f b g c e h =
-    let q : formula_size g ≡ formula_size b = ap formula_size h ∙ formula_size-put_formula b 0 c in
+    let q : formula_size g ≡ formula_size b = ap formula_size h ∙ formula_size-substitute_formula 0 (value_at (c ∷ [])) b in
     rw e (omega arith)
 
 pub ruleset split_rules = (told_truth, told_equation, told_atom, told_negation, told_conjunction, told_universal, told_universal_negated, smaller)

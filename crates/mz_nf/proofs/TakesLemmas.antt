@@ -3,8 +3,10 @@ use Rattle.std.proofs.Common.{◌≡◌, ◌<◌, ◌≤◌, ℕ, zero, suc, ◌
 use Rattle.std.specs.Prelude.{nat_lt}
 use Rattle.std.proofs.lemmas.Bool.{ltb-true, ltb-false}
 use Rattle.mz_logic.specs.Term.{Term, Const}
-use Rattle.mz_logic.specs.Formula.{Formula, Truth, Eq, Atom, Not, And, All, formula_size}
-use Rattle.mz_logic.specs.Substitution.{put, put_formula, body_at}
+use Rattle.mz_logic.specs.Formula.{Formula, Truth, Eq, Atom, Not, And, All}
+use Rattle.mz_logic.specs.FormulaStorage.{formula_size}
+use Rattle.mz_logic.proofs.Equivalence.{formula_size-substitute_formula}
+use Rattle.mz_logic.specs.Substitution.{substitute, substitute_formula, value_at, body_at}
 use Rattle.mz_logic.specs.declared.literal.Literal.TheVariants as literal
 use Rattle.mz_logic.specs.declared.disjunct.Disjunct.{Disjunct}
 use Rattle.mz_nf.specs.Disjunct.{empty, of_literal, of_universal, pairs}
@@ -73,24 +75,16 @@ takes_exist used n h false (All b) k =
     (r.0, takes.universal_negated b k c.0 r.0 c.1 r.1)
 
 -- a formula takes as many as any instance
-takes-put_formula : (used : ℕ → Bool) (s : Bool) (f : Formula) (k m : ℕ) → Takes used s f k m → (d : ℕ) (t : Term) → Takes used s (put_formula d t f) k m
-takes-put_formula used s f k m (takes.truth b l) d t = takes.truth b l
-takes-put_formula used s f k m (takes.equation b v w l) d t = takes.equation b (put d t v) (put d t w) l
-takes-put_formula used s f k m (takes.atom b p ts l) d t = takes.atom b p (map (put d t) ts) l
-takes-put_formula used s f k m (takes.negation g l n h) d t = takes.negation (put_formula d t g) l n (takes-put_formula used false g l n h d t)
-takes-put_formula used s f k m (takes.negation_negated g l n h) d t = takes.negation_negated (put_formula d t g) l n (takes-put_formula used true g l n h d t)
-takes-put_formula used s f k m (takes.conjunction b p q l n o h i) d t =
-    takes.conjunction b (put_formula d t p) (put_formula d t q) l n o (takes-put_formula used b p l n h d t) (takes-put_formula used b q n o i d t)
-takes-put_formula used s f k m (takes.universal b l) d t = takes.universal (put_formula (d + 1) t b) l
-takes-put_formula used s f k m (takes.universal_negated b l c n i h) d t = takes.universal_negated (put_formula (d + 1) t b) l c n i (takes-put_formula used false b (suc c) n h (d + 1) t)
-
-pub formula_size-put_formula : (f : Formula) (d : ℕ) (t : Term) → formula_size (put_formula d t f) ≡ formula_size f
-formula_size-put_formula Truth d t = refl
-formula_size-put_formula (Eq u v) d t = refl
-formula_size-put_formula (Atom s ts) d t = refl
-formula_size-put_formula (Not f) d t = ap suc (formula_size-put_formula f d t)
-formula_size-put_formula (And f g) d t = λ i. suc (formula_size-put_formula f d t i + formula_size-put_formula g d t i)
-formula_size-put_formula (All f) d t = ap suc (formula_size-put_formula f (d + 1) t)
+takes-substitute_formula : (used : ℕ → Bool) (s : Bool) (f : Formula) (k m : ℕ) → Takes used s f k m → (d : ℕ) (v : ℕ → Term) → Takes used s (substitute_formula d v f) k m
+takes-substitute_formula used s f k m (takes.truth b l) d v = takes.truth b l
+takes-substitute_formula used s f k m (takes.equation b t u l) d v = takes.equation b (substitute d v t) (substitute d v u) l
+takes-substitute_formula used s f k m (takes.atom b p ts l) d v = takes.atom b p (map (substitute d v) ts) l
+takes-substitute_formula used s f k m (takes.negation g l n h) d v = takes.negation (substitute_formula d v g) l n (takes-substitute_formula used false g l n h d v)
+takes-substitute_formula used s f k m (takes.negation_negated g l n h) d v = takes.negation_negated (substitute_formula d v g) l n (takes-substitute_formula used true g l n h d v)
+takes-substitute_formula used s f k m (takes.conjunction b p q l n o h i) d v =
+    takes.conjunction b (substitute_formula d v p) (substitute_formula d v q) l n o (takes-substitute_formula used b p l n h d v) (takes-substitute_formula used b q n o i d v)
+takes-substitute_formula used s f k m (takes.universal b l) d v = takes.universal (substitute_formula (d + 1) v b) l
+takes-substitute_formula used s f k m (takes.universal_negated b l c n i h) d v = takes.universal_negated (substitute_formula (d + 1) v b) l c n i (takes-substitute_formula used false b (suc c) n h (d + 1) v)
 
 -- some disjuncts
 abbrev pub HasSplit : (ℕ → Bool) → Bool → Formula → ℕ → ℕ → Type 0
@@ -130,8 +124,8 @@ takes_split_by used (suc n) s f k m le (takes.conjunction b p q l o r h i) =
     conjunction_splits used b p q l o r (takes_split_by used n b p l o (omega arith) h) (takes_split_by used n b q o r (omega arith) i)
 takes_split_by used (suc n) s f k m le (takes.universal b l) = (of_universal (All b) ∷ [], splits.universal b l)
 takes_split_by used (suc n) s f k m le (takes.universal_negated b l c o i h) =
-    let size : formula_size (body_at b (Const c)) ≡ formula_size b = formula_size-put_formula b 0 (Const c) in
-    let r : HasSplit used false (body_at b (Const c)) (suc c) o = takes_split_by used n false (body_at b (Const c)) (suc c) o (omega arith) (takes-put_formula used false b (suc c) o h 0 (Const c)) in
+    let size : formula_size (body_at b (Const c)) ≡ formula_size b = formula_size-substitute_formula 0 (value_at (Const c ∷ [])) b in
+    let r : HasSplit used false (body_at b (Const c)) (suc c) o = takes_split_by used n false (body_at b (Const c)) (suc c) o (omega arith) (takes-substitute_formula used false b (suc c) o h 0 (value_at (Const c ∷ []))) in
     (r.0, splits.universal_negated b l c o r.0 i r.1)
 
 pub takes_split : (used : ℕ → Bool) (s : Bool) (f : Formula) (k m : ℕ) → Takes used s f k m → HasSplit used s f k m

@@ -4,7 +4,7 @@ use Rattle.std.specs.List.{list_any}
 use Rattle.std.specs.HashSet.{HashSet, contains}
 use Rattle.mz_logic.specs.Term.{Term}
 use Rattle.mz_logic.specs.Formula.{Formula}
-use Rattle.mz_logic.specs.Constants.{mentions, formula_mentions}
+use Rattle.mz_logic.specs.Constants.{occurs, occurs_in_formula}
 
 -- the number is in the set
 abbrev pub has : {S : Type 0} → HashSet ℕ S → ℕ → Bool
@@ -12,19 +12,19 @@ has s c = contains nat_eq s c
 
 -- the constants of the term came into the set, and no other number
 unfoldable pub AddsTerm : {S : Type 0} → Term → HashSet ℕ S → HashSet ℕ S → Type 0
-AddsTerm t old new = (c : ℕ) → has new c ≡ (has old c || mentions c t)
+AddsTerm t old new = (c : ℕ) → has new c ≡ (has old c || occurs c t)
 
 -- those of the terms
 unfoldable pub AddsTerms : {S : Type 0} → List Term → HashSet ℕ S → HashSet ℕ S → Type 0
-AddsTerms ts old new = (c : ℕ) → has new c ≡ (has old c || list_any (mentions c) ts)
+AddsTerms ts old new = (c : ℕ) → has new c ≡ (has old c || list_any (occurs c) ts)
 
 -- those of the formula
 unfoldable pub AddsFormula : {S : Type 0} → Formula → HashSet ℕ S → HashSet ℕ S → Type 0
-AddsFormula f old new = (c : ℕ) → has new c ≡ (has old c || formula_mentions c f)
+AddsFormula f old new = (c : ℕ) → has new c ≡ (has old c || occurs_in_formula c f)
 
 -- those of the formulas
 unfoldable pub AddsFormulas : {S : Type 0} → List Formula → HashSet ℕ S → HashSet ℕ S → Type 0
-AddsFormulas fs old new = (c : ℕ) → has new c ≡ (has old c || list_any (formula_mentions c) fs)
+AddsFormulas fs old new = (c : ℕ) → has new c ≡ (has old c || list_any (occurs_in_formula c) fs)
 
 -- c is the least number from k on that is not used
 pub record IsLeastUnused (used : ℕ → Bool) (k c : ℕ) : Type 0 where

@@ -2,7 +2,7 @@
 use Rattle.std.specs.Prelude.{◌≡◌, ℕ, ◌≤◌, false, List, ◌++◌, length, Contains}
 use Rattle.std.specs.List.{list_any}
 use Rattle.mz_logic.specs.Formula.{Formula}
-use Rattle.mz_logic.specs.Constants.{formula_mentions}
+use Rattle.mz_logic.specs.Constants.{occurs_in_formula}
 use Rattle.mz_logic.specs.Negation.{falsity}
 use Rattle.mz_logic.specs.Derives.{Derives}
 use Rattle.mz_logic.specs.declared.disjunct.Disjunct.{Disjunct}
@@ -24,7 +24,7 @@ CountLaw = (p : Problem) (ds : List Disjunct) → AreDisjuncts p ds → count_of
 
 -- no constant of the formulas is new to the problem
 abbrev pub HasConstantsOf : Problem → List Formula → Type 0
-HasConstantsOf p fs = (c : ℕ) → 1 ≤ c → has_constant p c ≡ false → list_any (formula_mentions c) fs ≡ false
+HasConstantsOf p fs = (c : ℕ) → 1 ≤ c → has_constant p c ≡ false → list_any (occurs_in_formula c) fs ≡ false
 
 -- where each disjunct of a problem, together with clauses, gives falsity, the conclusion derives
 -- from the premises and the clauses

@@ -15,7 +15,7 @@ use crate::single::{nothing_said, of_atom, of_equation, of_truth, of_universal};
 use mz_logic::disjuncts::Disjuncts;
 use mz_logic::formula::{Formula, FormulaNode};
 use mz_logic::formulas::Formulas;
-use mz_logic::substitution::substitute;
+use mz_logic::substitution::body_at;
 use mz_logic::term::Term;
 use std::alloc::{AllocError, Global};
 use std::collections::HashSet;
@@ -27,15 +27,15 @@ pub struct Splitting {
     pub next: u32,
 }
 
-/// The disjuncts of a problem.
+/// The disjuncts of a problem that has some.
 #[tactic(auto, using(crate::proofs::SplitLemmas::problem_rules))]
 pub fn split_problem(alloc: Global, p: &Problem) -> Result<Disjuncts, AllocError>
     ensures { IfOk result (λ ds. AreDisjuncts p.now ds) }
 {
     let used = constants_of(alloc, p)?;
     let premises = split_all(alloc, &used, &p.premises)?;
-    let conclusion = split(alloc, &used, false, &p.conclusion, premises.next)?;
-    let disjuncts = product(alloc, &premises.disjuncts, &conclusion.disjuncts)?;
+    let conclusion = split(alloc, &used, false, true, &p.conclusion, premises.next)?;
+    let disjuncts = product(alloc, premises.disjuncts, &conclusion.disjuncts)?;
     Ok(disjuncts)
 }
 
@@ -47,21 +47,23 @@ fn split_all(alloc: Global, used: &HashSet<u32>, fs: &Formulas) -> Result<Splitt
     let mut disjuncts = nothing_said(alloc)?;
     let mut next = 1;
     for f in &fs.items {
-        let part = split(alloc, used, true, f, next)?;
-        let more = product(alloc, &disjuncts, &part.disjuncts)?;
+        let part = split(alloc, used, true, true, f, next)?;
+        let more = product(alloc, disjuncts, &part.disjuncts)?;
         disjuncts = more;
         next = part.next;
     }
     Ok(Splitting { disjuncts, next })
 }
 
-/// The disjuncts of the formula, or where `positive` is false of its negation, constants from `next` on.
+/// The disjuncts of the formula, or where `positive` is false of its negation, constants from `next` on. With
+/// `counted` it is known that there are some, so that none are counted again.
 #[cycle(split)]
 #[tactic(auto, using(crate::proofs::SplitLemmas::split_rules))]
 fn split(
     alloc: Global,
     used: &HashSet<u32>,
     positive: bool,
+    counted: bool,
     f: &Formula,
     next: u32,
 ) -> Result<Splitting, AllocError>
@@ -80,9 +82,9 @@ fn split(
             let disjuncts = of_atom(alloc, positive, *s, ts)?;
             Ok(Splitting { disjuncts, next })
         }
-        FormulaNode::Not(g) => split(alloc, used, !positive, g, next),
+        FormulaNode::Not(g) => split(alloc, used, !positive, counted, g, next),
         FormulaNode::And(g, h) => {
-            let pair = split_conjunction(alloc, used, positive, g, h, next)?;
+            let pair = split_conjunction(alloc, used, positive, counted, g, h, next)?;
             Ok(pair)
         }
         FormulaNode::All(b) => {
@@ -93,7 +95,7 @@ fn split(
                 let number = least_unused(used, next)?;
                 let after = following(number)?;
                 let at = at_constant(alloc, b, number)?;
-                split(alloc, used, false, &at, after)
+                split(alloc, used, false, counted, &at, after)
             }
         }
     }
@@ -103,27 +105,28 @@ fn split(
 /// `next` on.
 ///
 /// A conjunction without disjuncts is not split: only its constants are taken. So no more disjuncts
-/// are made on the way than there are at the end.
+/// are made on the way than there are at the end. Where one has disjuncts, both of its parts have.
 #[cycle(split)]
 #[tactic(auto, using(crate::proofs::SplitLemmas::pair_rules))]
 fn split_conjunction(
     alloc: Global,
     used: &HashSet<u32>,
     positive: bool,
+    counted: bool,
     g: &Formula,
     h: &Formula,
     next: u32,
 ) -> Result<Splitting, AllocError>
     ensures { IfOk result (λ s. Splits (has used.now) positive (And g.now h.now) next s.disjuncts s.next) }
 {
-    if positive && has_no_pair(g, h) {
+    if positive && !counted && has_no_pair(g, h) {
         let between = passed(used, true, g, next)?;
         let next = passed(used, true, h, between)?;
         let disjuncts = Disjuncts::new(alloc);
         return Ok(Splitting { disjuncts, next });
     }
-    let left = split(alloc, used, positive, g, next)?;
-    let right = split(alloc, used, positive, h, left.next)?;
+    let left = split(alloc, used, positive, positive, g, next)?;
+    let right = split(alloc, used, positive, positive, h, left.next)?;
     let disjuncts = combined(alloc, positive, left.disjuncts, &right.disjuncts)?;
     Ok(Splitting {
         disjuncts,
@@ -163,5 +166,5 @@ fn at_constant(alloc: Global, body: &Formula, number: u32) -> Result<Formula, Al
     ensures { IfOk result (λ f. f ≡ body_at body.now (Const number)) }
 {
     let constant = Term::constant(number);
-    substitute(alloc, body, &constant)
+    body_at(alloc, body, &constant)
 }

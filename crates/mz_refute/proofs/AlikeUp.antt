@@ -6,7 +6,8 @@ use Rattle.std.proofs.lemmas.Bool.Decides.{leb_tells}
 use Rattle.mz_logic.specs.declared.sym.Sym.{Sym}
 use Rattle.mz_logic.specs.Sym.{same_sym}
 use Rattle.mz_logic.specs.Term as term
-use Rattle.mz_logic.specs.Term.{Term, Terms, Bound, Const, App, list_of, terms_of, list_of-terms_of, terms_of-list_of, terms_of-inj}
+use Rattle.mz_logic.specs.Term.{Term, Terms, Bound, Const, App, list_of, terms_of}
+use Rattle.mz_logic.specs.TermStorage.{list_of-terms_of, terms_of-list_of, terms_of-inj}
 use Rattle.mz_logic.specs.Indices.{closed, args_below}
 use Rattle.mz_logic.specs.Negation.{negated}
 use Rattle.mz_logic.specs.Formula as form
@@ -24,7 +25,7 @@ use Rattle.mz_refute.specs.declared.row.Row.{Row}
 use Rattle.mz_refute.specs.Rows.{SomeOf, Val, Vals}
 use Rattle.mz_refute.specs.RowsAlike.{IsIndex, AlikeTerm, AlikeTerms, AlikeFormula}
 use Rattle.mz_refute.specs.Tabled.{IsTabled, StandsFor}
-use Rattle.mz_refute.proofs.GroundLaws.{AllGround, ground_closed, all_closed_args}
+use Rattle.mz_refute.proofs.GroundLaws.{AllGround, ground_closed, all_closed_args, all_closed}
 use Rattle.mz_refute.proofs.ValueLaws.{value_self, value_closed, alike_closed, all_alike_closed, alike_value, IsFilled, AreFilled, filled_args, filled_first, filled_rest}
 use Rattle.mz_refute.proofs.AtTerms.{at_term, at_args, at_formula, at_list, at_map, at_inner, at_outer, at_free, at_closed}
 use Rattle.mz_refute.proofs.TableUp.{val_up, map_length, ground_at}
@@ -56,7 +57,7 @@ index_up d cs class depth ts all (Bound i) j e =
             let m : length (map class ts) ≡ length ts = map_length class ts in
             inr (omega (arith, l.1, m), omega (arith, l.1, m, y))
         | inr l ↦
-            let x : get_or ts (i - depth) (Bound (i - length ts)) ≡ Bound j = sym (at_outer depth ts i (omega (arith, k.1))) ∙ e in
+            let x : get_or ts (i - depth) (Bound (i - length ts)) ≡ Bound j = sym (at_outer depth ts i (all_closed d cs ts all) (omega (arith, k.1))) ∙ e in
             let g : closed (get_or ts (i - depth) (Bound (i - length ts))) ≡ true = ground_closed d cs (get_or ts (i - depth) (Bound (i - length ts))) (ground_at d cs ts (i - depth) (Bound (i - length ts)) all (omega (arith, k.1, l.1))) in
             absurd (no_closed_index j (subst (λ (z : Term). closed z ≡ true) x g))
       ]
@@ -112,7 +113,7 @@ open_index d cs depth ts all m u s us k e c =
       | inr l ↦ elim (leb_tells (depth + length ts) m) [
         | inl n ↦ let z : Bound (m - length ts) ≡ App s (terms_of x.ts) = sym (at_free depth ts m (omega (arith, n.1))) ∙ x.is in cc
         | inr n ↦
-            let y : at_term depth ts (Bound m) ≡ get_or ts (m - depth) (Bound (m - length ts)) = at_outer depth ts m (omega (arith, l.1)) in
+            let y : at_term depth ts (Bound m) ≡ get_or ts (m - depth) (Bound (m - length ts)) = at_outer depth ts m (all_closed d cs ts all) (omega (arith, l.1)) in
             let g : closed (get_or ts (m - depth) (Bound (m - length ts))) ≡ true = ground_closed d cs (get_or ts (m - depth) (Bound (m - length ts))) (ground_at d cs ts (m - depth) (Bound (m - length ts)) all (omega (arith, l.1, n.1))) in
             true_false (closed u) (sym (alike_closed d cs (at_term depth ts (Bound m)) u k) ∙ ap closed y ∙ g) c
       ]

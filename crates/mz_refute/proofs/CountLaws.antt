@@ -243,9 +243,13 @@ length_mapped : {X Y : Type 0} (f : X → Y) (xs : List X) → length (map f xs)
 length_mapped f [] = refl
 length_mapped f (x ∷ xs) = ap suc (length_mapped f xs)
 
-rows_count : (table : Table) (es : List Entry) → HasEntries table es → (h : Head) → length (rows_of table h) ≡ count_for h es
+rows_count : (table : Table) (es : List Entry) → HasEntries table es → (h : Head) → IsFactHead h → length (rows_of table h) ≡ count_for h es
 unfolding HasEntries
-rows_count table es k h = sym (length_mapped row_pair (rows_of table h)) ∙ ap length (k h)
+rows_count table es k (Constant n) f = absurd f
+rows_count table es k (Functor s) f = absurd f
+rows_count table es k (Holds s) f = sym (length_mapped row_pair (rows_of table (Holds s))) ∙ ap length (k (Holds s))
+rows_count table es k (Fails s) f = sym (length_mapped row_pair (rows_of table (Fails s))) ∙ ap length (k (Fails s))
+rows_count table es k Differ f = sym (length_mapped row_pair (rows_of table Differ)) ∙ ap length (k Differ)
 
 all_counts : (h : Head) (g : Ground) (classes : List ℕ) (positive negative apart : List Bool) → IsFactHead h → count_for h (entries_of g classes positive negative apart) ≡ count_for h (atom_entries classes positive negative g.atoms) + count_for h (equation_entries classes apart g.equations)
 all_counts h g classes positive negative apart f =
@@ -278,7 +282,7 @@ holds_to d cs g classes positive negative apart h s us k =
 
 holds_count : (d : Disjunct) (cs : List Clause) (g : Ground) (classes : List ℕ) (positive negative apart : List Bool) → AreHeld d cs g classes positive negative apart → (table : Table) → HasEntries table (entries_of g classes positive negative apart) → (s : Sym) → IsCount (IsSigned d cs true s) (length (rows_of table (Holds s)))
 holds_count d cs g classes positive negative apart h table k s =
-    let x = rows_count table (entries_of g classes positive negative apart) k (Holds s) in
+    let x = rows_count table (entries_of g classes positive negative apart) k (Holds s) tt in
     let y = all_counts (Holds s) g classes positive negative apart tt in
     let z = no_equations (Holds s) refl classes apart g.equations in
     record {
@@ -304,7 +308,7 @@ fails_to d cs g classes positive negative apart h s us k =
 
 fails_count : (d : Disjunct) (cs : List Clause) (g : Ground) (classes : List ℕ) (positive negative apart : List Bool) → AreHeld d cs g classes positive negative apart → (table : Table) → HasEntries table (entries_of g classes positive negative apart) → (s : Sym) → IsCount (IsSigned d cs false s) (length (rows_of table (Fails s)))
 fails_count d cs g classes positive negative apart h table k s =
-    let x = rows_count table (entries_of g classes positive negative apart) k (Fails s) in
+    let x = rows_count table (entries_of g classes positive negative apart) k (Fails s) tt in
     let y = all_counts (Fails s) g classes positive negative apart tt in
     let z = no_equations (Fails s) refl classes apart g.equations in
     record {
@@ -333,7 +337,7 @@ apart_to d cs g classes positive negative apart h p k =
 
 apart_count : (d : Disjunct) (cs : List Clause) (g : Ground) (classes : List ℕ) (positive negative apart : List Bool) → AreHeld d cs g classes positive negative apart → (table : Table) → HasEntries table (entries_of g classes positive negative apart) → IsCount (IsApart d cs) (length (rows_of table Differ))
 apart_count d cs g classes positive negative apart h table k =
-    let x = rows_count table (entries_of g classes positive negative apart) k Differ in
+    let x = rows_count table (entries_of g classes positive negative apart) k Differ tt in
     let y = all_counts Differ g classes positive negative apart tt in
     let z = no_atoms classes positive negative g.atoms in
     record {

@@ -12,6 +12,7 @@ use Rattle.mz_refute.specs.declared.row.Head.{Head}
 use Rattle.mz_refute.specs.declared.row.Head.TheVariants.{Constant, Functor, Holds, Fails, Differ}
 use Rattle.mz_refute.specs.declared.row.Row.{Row}
 use Rattle.mz_refute.specs.declared.table.Table.{Table}
+use Rattle.mz_refute.proofs.RowLists.{rows_to, rows_back}
 use Rattle.mz_refute.proofs.SomeLemmas.{some_map, some_left, some_right, some_cases, into_map, out_of_map}
 
 -- what the rows with a head are, by the entries
@@ -37,11 +38,11 @@ entries_find h P (e ∷ es) k =
 
 pub rows_found : (table : Table) (es : List Entry) → HasEntries table es → (h : Head) (P : List ℕ × ℕ → Type 0) → SomeOf (λ r. P (row_pair r)) (rows_of table h) → SomeOf (λ e. (same_head e.head h ≡ true) × P (e.args, e.value)) es
 unfolding HasEntries
-rows_found table es k h P s = entries_found h P es (subst (λ (ps : List (List ℕ × ℕ)). SomeOf P ps) (k h) (into_map P row_pair (rows_of table h) s))
+rows_found table es k h P s = entries_found h P es (rows_to h P (map row_pair (rows_of table h)) (rows_for h es) (k h) (into_map P row_pair (rows_of table h) s))
 
 pub rows_find : (table : Table) (es : List Entry) → HasEntries table es → (h : Head) (P : List ℕ × ℕ → Type 0) → SomeOf (λ e. (same_head e.head h ≡ true) × P (e.args, e.value)) es → SomeOf (λ r. P (row_pair r)) (rows_of table h)
 unfolding HasEntries
-rows_find table es k h P s = out_of_map P row_pair (rows_of table h) (subst (λ (ps : List (List ℕ × ℕ)). SomeOf P ps) (sym (k h)) (entries_find h P es s))
+rows_find table es k h P s = out_of_map P row_pair (rows_of table h) (rows_back h P (map row_pair (rows_of table h)) (rows_for h es) (k h) (entries_find h P es s))
 
 -- what an entry comes from
 pub record FromTerm (P : Entry → Type 0) (classes vs : List ℕ) (ts : List GroundTerm) : Type 0 where

@@ -149,7 +149,7 @@ unfolding Solvable Meets
 literal_to rows values us s f gs es l h = (h.0, literal_finds rows values us s f h.0 es l h.1 h.2.0, h.2.1)
 
 -- assignments in two parts
-part_left : (rows : Head → List Row) (values : List ℕ) (us : List Formula) (gs : List Goal) (ds es : List Slots) → Solvable rows values us gs ds → Solvable rows values us gs (ds ++ es)
+pub part_left : (rows : Head → List Row) (values : List ℕ) (us : List Formula) (gs : List Goal) (ds es : List Slots) → Solvable rows values us gs ds → Solvable rows values us gs (ds ++ es)
 unfolding Solvable
 part_left rows values us gs ds es h = (h.0, some_left (λ e. Fits e h.0) ds es h.1, h.2)
 
@@ -157,7 +157,7 @@ part_right : (rows : Head → List Row) (values : List ℕ) (us : List Formula) 
 unfolding Solvable
 part_right rows values us gs ds es h = (h.0, some_right (λ e. Fits e h.0) ds es h.1, h.2)
 
-part_cases : (rows : Head → List Row) (values : List ℕ) (us : List Formula) (gs : List Goal) (ds es : List Slots) → Solvable rows values us gs (ds ++ es) → Solvable rows values us gs ds ⊎ Solvable rows values us gs es
+pub part_cases : (rows : Head → List Row) (values : List ℕ) (us : List Formula) (gs : List Goal) (ds es : List Slots) → Solvable rows values us gs (ds ++ es) → Solvable rows values us gs ds ⊎ Solvable rows values us gs es
 unfolding Solvable
 part_cases rows values us gs ds es h = elim (some_cases (λ e. Fits e h.0) ds es h.1) [ inl c ↦ inl (h.0, c, h.2) | inr c ↦ inr (h.0, c, h.2) ]
 
@@ -190,7 +190,7 @@ literal_cost rows values us s (form.And f g) rest es l = absurd l
 literal_cost rows values us true (form.All b) rest es l = absurd l
 literal_cost rows values us false (form.All b) rest es l = refl
 
-last_costs : (rows : Head → List Row) (values : List ℕ) (us : List Formula) (s : Bool) (f : Formula) (gs : List Goal) (es : List Slots) (e : Slots) → IsLiteral s f → cost rows values us (Refute s f ∷ gs) es + cost rows values us gs (match_literal rows values us s f (e ∷ [])) < cost rows values us (Refute s f ∷ gs) (es ++ e ∷ [])
+pub last_costs : (rows : Head → List Row) (values : List ℕ) (us : List Formula) (s : Bool) (f : Formula) (gs : List Goal) (es : List Slots) (e : Slots) → IsLiteral s f → cost rows values us (Refute s f ∷ gs) es + cost rows values us gs (match_literal rows values us s f (e ∷ [])) < cost rows values us (Refute s f ∷ gs) (es ++ e ∷ [])
 last_costs rows values us s f gs es e l =
     let h : Slots → ℕ = λ d. cost rows values us gs (match_literal rows values us s f (d ∷ [])) in
     let x : cost_formula rows values us s f (cost rows values us gs) es ≡ suc (cost_each h es) = literal_cost rows values us s f (cost rows values us gs) es l in
@@ -198,7 +198,7 @@ last_costs rows values us s f gs es e l =
     omega (arith, x, y, each_costs h es e)
 
 -- steps
-one : (rows : Head → List Row) (values : List ℕ) (us : List Formula) (gs hs : List Goal) (es ds : List Slots) (before after : List Task) → after ≡ before ++ (hs, ds) ∷ [] → (Solvable rows values us hs ds → Solvable rows values us gs es) → (Solvable rows values us gs es → Solvable rows values us hs ds) → cost rows values us hs ds < cost rows values us gs es → Stepped rows values us (gs, es) before after false
+pub one : (rows : Head → List Row) (values : List ℕ) (us : List Formula) (gs hs : List Goal) (es ds : List Slots) (before after : List Task) → after ≡ before ++ (hs, ds) ∷ [] → (Solvable rows values us hs ds → Solvable rows values us gs es) → (Solvable rows values us gs es → Solvable rows values us hs ds) → cost rows values us hs ds < cost rows values us gs es → Stepped rows values us (gs, es) before after false
 unfolding Stepped
 one rows values us gs hs es ds before after e from to lt =
     ((hs, ds) ∷ [], e, (λ h. elim h [ inl a ↦ from a | inr b ↦ absurd b ], λ h. inl (to h)), omega (arith, lt))

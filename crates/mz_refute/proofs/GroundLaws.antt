@@ -182,3 +182,7 @@ fact_ground d cs l (fired c ts a b e g h i) = literal_ground d cs (conclusion_at
 
 pub equal_ground : (d : Disjunct) (cs : List Clause) (t u : Term) → Fact d cs (Eq true t u) → IsGroundTerm d cs t × IsGroundTerm d cs u
 equal_ground d cs t u f = fact_ground d cs (Eq true t u) f
+
+pub all_closed : (d : Disjunct) (cs : List Clause) (ts : List Term) → AllGround d cs ts → list_all closed ts ≡ true
+all_closed d cs [] all = refl
+all_closed d cs (t ∷ ts) all = rw (ground_closed d cs t all.0, all_closed d cs ts all.1) refl

@@ -9,6 +9,7 @@ use Rattle.std.proofs.lemmas.Bool.Decides.{leb_tells}
 use Rattle.std.proofs.lemmas.Bool.Decides.{eqb_tells}
 use Rattle.mz_logic.specs.declared.sym.Sym.{Sym}
 use Rattle.mz_refute.specs.Entries.{HasEntries, row_pair}
+use Rattle.mz_refute.proofs.RowLists.{are_rows}
 use Rattle.std.specs.Ordering.{nat_cmp}
 use Rattle.mz_refute.specs.Heads.{same_head}
 use Rattle.mz_refute.specs.Table.{rows_in, group_rows, rows_of, HasNoGroup, IsGroupAt, NoneBefore, GroupsGrow, ConstantsGrow, Grows}
@@ -135,8 +136,8 @@ pub ruleset group_rules = (told_old, told_new)
 -- a table without rows
 pub told_empty : (table : Table) → table.constants.entries ≡ [] → table.groups.items ≡ [] → HasEntries table []
 unfolding HasEntries rows_of
-told_empty table c g (Constant n) = ap (λ es. map row_pair (rows_in (lookup (is_at (nat_cmp n)) es))) c
-told_empty table c g (Functor s) = ap (λ gs. map row_pair (group_rows (Functor s) gs)) g
+told_empty table c g (Constant n) = are_rows (Constant n) (map row_pair (rows_in (lookup (is_at (nat_cmp n)) table.constants.entries))) [] (ap (λ es. map row_pair (rows_in (lookup (is_at (nat_cmp n)) es))) c)
+told_empty table c g (Functor s) = are_rows (Functor s) (map row_pair (group_rows (Functor s) table.groups.items)) [] (ap (λ gs. map row_pair (group_rows (Functor s) gs)) g)
 told_empty table c g (Holds s) = ap (λ gs. map row_pair (group_rows (Holds s) gs)) g
 told_empty table c g (Fails s) = ap (λ gs. map row_pair (group_rows (Fails s) gs)) g
 told_empty table c g Differ = ap (λ gs. map row_pair (group_rows Differ gs)) g

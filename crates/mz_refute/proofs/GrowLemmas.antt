@@ -6,9 +6,12 @@ use Rattle.mz_ground.specs.declared.ground_term.GroundTerm.{GroundTerm}
 use Rattle.mz_ground.specs.declared.ground_atom.GroundAtom.{GroundAtom}
 use Rattle.mz_ground.specs.declared.ground_equation.GroundEquation.{GroundEquation}
 use Rattle.mz_refute.proofs.ListLaws.{index_get}
+use Rattle.mz_refute.proofs.HeadLemmas.{same_head-true}
+use Rattle.mz_refute.proofs.RowLists.{rows-append, rows-repeated}
+use Rattle.mz_refute.specs.Rows.{SomeOf}
 use Rattle.mz_refute.specs.Heads.{same_head}
 use Rattle.mz_refute.specs.Table.{rows_of, Grows}
-use Rattle.mz_refute.specs.Entries.{Entry, Grown, HasEntries, term_entry, term_entries, sign_entry, atom_entries, equation_entries, rows_for, row_pair}
+use Rattle.mz_refute.specs.Entries.{Entry, IsTermHead, AreRows, Grown, HasEntries, term_entry, term_entries, sign_entry, atom_entries, equation_entries, rows_for, row_pair}
 use Rattle.mz_refute.specs.declared.row.Head.{Head}
 use Rattle.mz_refute.specs.declared.row.Head.TheVariants.{Holds, Fails, Differ}
 use Rattle.mz_refute.specs.declared.row.Row.{Row}
@@ -29,7 +32,26 @@ more_rows false r old ps e = e ∙ sym (append-nil ps)
 one_entry : (h : Head) (r : Row) (table next : Table) → Grows h r table next → Grown table next (record { head = h; args = r.args.items; value = r.value } ∷ [])
 unfolding Grows Grown HasEntries
 one_entry h r table next g ds k q =
-    ap (map row_pair) (g q) ∙ more_rows (same_head h q) r (rows_of table q) (rows_for q ds) (k q) ∙ sym (rows_for-append q ds (record { head = h; args = r.args.items; value = r.value } ∷ []))
+    let e : Entry = record { head = h; args = r.args.items; value = r.value } in
+    let more : map row_pair (rows_of next q) ≡ map row_pair (rows_of table q) ++ (if same_head h q then row_pair r ∷ [] else []) = ap (map row_pair) (g q) ∙ more_rows (same_head h q) r (rows_of table q) (map row_pair (rows_of table q)) refl in
+    subst (λ (xs : List (List ℕ × ℕ)). AreRows q xs (rows_for q (ds ++ e ∷ []))) (sym more)
+    (subst (λ (ys : List (List ℕ × ℕ)). AreRows q (map row_pair (rows_of table q) ++ (if same_head h q then row_pair r ∷ [] else [])) ys) (sym (rows_for-append q ds (e ∷ [])))
+    (rows-append q (map row_pair (rows_of table q)) (rows_for q ds) (if same_head h q then row_pair r ∷ [] else []) (k q)))
+
+repeated_for : (h q : Head) (b : Bool) → same_head h q ≡ b → IsTermHead h → (xs ys : List (List ℕ × ℕ)) (p : List ℕ × ℕ) → AreRows q xs ys → ((same_head h q ≡ true) → SomeOf (λ x. x ≡ p) xs) → AreRows q xs (ys ++ (if b then p ∷ [] else []))
+repeated_for h q true e t xs ys p k m = rows-repeated q xs ys p (subst (λ (x : Head). IsTermHead x) (same_head-true h q e) t) k (m e)
+repeated_for h q false e t xs ys p k m = subst (λ (zs : List (List ℕ × ℕ)). AreRows q xs zs) (sym (append-nil ys)) k
+
+-- an entry of a term whose row stands there already
+pub told_repeated : (h : Head) (r : Row) (table : Table) → IsTermHead h → SomeOf (λ x. x ≡ row_pair r) (map row_pair (rows_of table h)) → Grown table table (record { head = h; args = r.args.items; value = r.value } ∷ [])
+unfolding Grown HasEntries
+told_repeated h r table t m ds k q =
+    let e : Entry = record { head = h; args = r.args.items; value = r.value } in
+    subst (λ (ys : List (List ℕ × ℕ)). AreRows q (map row_pair (rows_of table q)) ys) (sym (rows_for-append q ds (e ∷ [])))
+    (repeated_for h q (same_head h q) refl t (map row_pair (rows_of table q)) (rows_for q ds) (row_pair r) (k q) (λ s. subst (λ (x : Head). SomeOf (λ y. y ≡ row_pair r) (map row_pair (rows_of table x))) (same_head-true h q s) m))
+
+pub told_as : (table next : Table) (e : Entry) (h : Head) (args : List ℕ) (value : ℕ) → Grown table next (record { head = h; args = args; value = value } ∷ []) → e.head ≡ h → e.args ≡ args → e.value ≡ value → Grown table next (e ∷ [])
+told_as table next e h args value g a b c = subst (λ (x : Entry). Grown table next (x ∷ [])) (λ i. record { head = sym a i; args = sym b i; value = sym c i }) g
 
 pub told_entry : (h : Head) (r : Row) (table next : Table) (e : Entry) → Grows h r table next → e.head ≡ h → e.args ≡ r.args.items → e.value ≡ r.value → Grown table next (e ∷ [])
 told_entry h r table next e g a b c =
@@ -46,7 +68,9 @@ grown_both first second third xs ys a b ds k = subst (λ (es : List Entry). HasE
 pub told_nothing : (table next : Table) → next ≡ table → Grown table next []
 told_nothing table next e = subst (λ (t : Table). Grown table t []) (sym e) (grown_none table)
 
-pub ruleset grow_rules = (told_entry, told_nothing, grown_both)
+pub ruleset grow_rules = (told_entry, told_as, told_nothing, grown_both)
+
+pub ruleset distinct_rules = (told_entry, told_repeated)
 
 add_one : (i : ℕ) → i + 1 ≡ suc i
 add_one i = omega arith

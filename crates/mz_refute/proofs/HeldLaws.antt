@@ -1,37 +1,37 @@
--- The parts of a value of facts hold the facts.
-use Rattle.std.proofs.Common.{◌≡◌, ◌<◌, ℕ, Bool, true, false, List, map, length, refl, sym, subst, Option, Some, None}
+-- The lists taken of facts hold the facts.
+use Rattle.std.proofs.Common.{◌≡◌, ◌<◌, ℕ, Bool, true, false, List, map, length, refl, ap, sym, ◌∙◌, subst, arith, Option, Some, None}
 use Rattle.std.specs.Prelude.{◌↔◌, slice_index, slice_get}
+use Rattle.std.proofs.lemmas.Option.{slice_get_within}
+use Rattle.mz_logic.specs.declared.literal.Literal.TheVariants.{Atom, Eq}
 use Rattle.mz_logic.specs.declared.disjunct.Disjunct.{Disjunct}
+use Rattle.mz_ground.specs.Ground.{ground_terms, term_at}
+use Rattle.mz_ground.specs.Facts.{Fact}
+use Rattle.mz_ground.specs.FactSet.{FactView, HasFacts}
 use Rattle.mz_ground.specs.declared.clause.Clause.{Clause}
-use Rattle.mz_facts.specs.declared.facts.Facts.{Facts}
-use Rattle.mz_facts.specs.HoldsFacts.{HoldsFacts, is_set, flag_at}
+use Rattle.mz_ground.specs.declared.ground_atom.GroundAtom.{GroundAtom}
+use Rattle.mz_ground.specs.declared.ground_equation.GroundEquation.{GroundEquation}
 use Rattle.mz_refute.specs.Held.{AreHeld}
+use Rattle.mz_refute.specs.FactIndex.{AreClasses, AreSigns, AreDisequal}
 
-set_flag : (o : Option Bool) → (is_set o ≡ true) ↔ (o ≡ Some true)
-set_flag None = (λ e. cc, λ e. cc)
-set_flag (Some true) = (λ e. refl, λ e. refl)
-set_flag (Some false) = (λ e. cc, λ e. cc)
+abbrev flag_or : Bool → Option Bool → Bool
+flag_or b None = b
+flag_or b (Some c) = c
 
-through : (P : Type 0) (o : Option Bool) → (is_set o ≡ true) ↔ P → (o ≡ Some true) ↔ P
-through P o h = (λ e. h.0 ((set_flag o).1 e), λ p. (set_flag o).0 (h.1 p))
+some_flag : (b : Bool) (o : Option Bool) (P : Type 0) → o ≡ Some b → ((b ≡ true) ↔ P) → (o ≡ Some true) ↔ P
+some_flag b o P e h = (λ q. h.0 (ap (flag_or b) (sym e ∙ q)), λ p. e ∙ ap (λ x. Some x) (h.1 p))
 
-held_items : (d : Disjunct) (cs : List Clause) (f : Facts) → HoldsFacts d cs f → AreHeld d cs f.ground f.classes.items f.positive.items f.negative.items f.apart.items
-held_items d cs f h =
+pub held_facts : (d : Disjunct) (cs : List Clause) (v : FactView) (classes : List ℕ) (positive negative disequal : List Bool) → AreClasses v classes → AreSigns v true positive → AreSigns v false negative → AreDisequal v disequal → HasFacts d cs v → AreHeld d cs v.part classes positive negative disequal
+held_facts d cs v classes positive negative disequal c p n q h =
     record {
       ground = h.ground;
-      class_count = h.classes;
-      positive_count = h.positive_count;
-      negative_count = h.negative_count;
-      apart_count = h.apart_count;
-      equal = h.equal;
-      holds = λ k a at. through _ (slice_get f.positive.items k) (h.positive k a at);
-      fails = λ k a at. through _ (slice_get f.negative.items k) (h.negative k a at);
-      differ = λ k e at. through _ (slice_get f.apart.items k) (h.apart k e at);
+      class_count = c.count;
+      positive_count = p.count;
+      negative_count = n.count;
+      apart_count = q.count;
+      equal = λ i j li lj.
+          let k : (v.class i ≡ v.class j) ↔ Fact d cs (Eq true (term_at (ground_terms v.part) i) (term_at (ground_terms v.part) j)) = h.equal i j li lj in
+          (λ e. k.0 (sym (c.each i li) ∙ e ∙ c.each j lj), λ f. c.each i li ∙ k.1 f ∙ sym (c.each j lj));
+      holds = λ k a at. some_flag (v.signed true k) (slice_get positive k) _ (p.each k (slice_get_within v.part.atoms k a at)) (h.signed true k a at);
+      fails = λ k a at. some_flag (v.signed false k) (slice_get negative k) _ (n.each k (slice_get_within v.part.atoms k a at)) (h.signed false k a at);
+      differ = λ k e at. some_flag (v.disequal k) (slice_get disequal k) _ (q.each k (slice_get_within v.part.equations k e at)) (h.disequal k e at);
     }
-
-pub held_facts : (d : Disjunct) (cs : List Clause) (f : Facts) (classes : List ℕ) (positive negative apart : List Bool) → classes ≡ f.classes.items → positive ≡ f.positive.items → negative ≡ f.negative.items → apart ≡ f.apart.items → HoldsFacts d cs f → AreHeld d cs f.ground classes positive negative apart
-held_facts d cs f classes positive negative apart ec ep en ea h =
-    subst (λ xs. AreHeld d cs f.ground xs positive negative apart) (sym ec)
-    (subst (λ xs. AreHeld d cs f.ground f.classes.items xs negative apart) (sym ep)
-    (subst (λ xs. AreHeld d cs f.ground f.classes.items f.positive.items xs apart) (sym en)
-    (subst (λ xs. AreHeld d cs f.ground f.classes.items f.positive.items f.negative.items xs) (sym ea) (held_items d cs f h))))

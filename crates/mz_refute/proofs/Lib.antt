@@ -4,6 +4,7 @@ pub mod AlikeUp
 pub mod ArgsLemmas
 pub mod AtTerms
 pub mod FrameLemmas
+pub mod HopelessLemmas
 pub mod GroundLaws
 pub mod MatchLemmas
 pub mod MeetLemmas
@@ -18,6 +19,8 @@ pub mod ValueLaws
 pub mod WorkLaws
 pub mod AnswerLaws
 pub mod CountLaws
+pub mod RowLists
+pub mod DistinctLemmas
 pub mod EntryLaws
 pub mod GroupLemmas
 pub mod GrowLemmas
@@ -30,3 +33,4 @@ pub mod RefutedSound
 pub mod CountLemmas
 pub mod WorkLemmas
 pub mod HeldLaws
+pub mod IndexLaws

@@ -8,7 +8,7 @@ use Rattle.mz_logic.specs.Term.{Term, Terms, Bound, Const, App, terms_of}
 use Rattle.mz_logic.specs.Indices.{closed}
 use Rattle.mz_logic.specs.Formula as form
 use Rattle.mz_logic.specs.Formula.{Formula}
-use Rattle.mz_logic.specs.Substitution.{body_at, put_formula}
+use Rattle.mz_logic.specs.Substitution.{body_at, substitute_formula, value_at}
 use Rattle.mz_logic.specs.declared.literal.Literal.TheVariants.{Atom, Eq}
 use Rattle.mz_logic.specs.declared.disjunct.Disjunct.{Disjunct}
 use Rattle.mz_ground.specs.declared.clause.Clause.{Clause}
@@ -27,7 +27,8 @@ use Rattle.mz_refute.specs.RowsRefuted.{RowsRefute}
 use Rattle.mz_refute.specs.Tabled.{IsTabled, StandsFor}
 use Rattle.mz_refute.proofs.SomeLemmas.{some_map}
 use Rattle.mz_refute.proofs.AtTerms as at
-use Rattle.mz_refute.proofs.AtTerms.{at_formula, put_at_formula, at_none_formula}
+use Rattle.mz_refute.proofs.AtTerms.{at_formula}
+use Rattle.mz_logic.proofs.ValueLaws.{substitute_formula-one_others, substitute_formula-no_values}
 use Rattle.mz_refute.proofs.GroundLaws.{AllGround, fact_ground}
 use Rattle.mz_refute.proofs.TableDown.{some_in, AllStand, stand_closed, args_down, equal_down, sides_down}
 use Rattle.mz_refute.proofs.AlikeDown.{formula_down}
@@ -64,11 +65,11 @@ refuted_down d cs class rows values h false (form.And f g) a ts all k =
 refuted_down d cs class rows values h true (form.All b) a ts all k =
     let p = h.pick k.0 in
     let r : IsRefuted d cs true (at_formula 0 (p.0 ∷ ts) b) = refuted_down d cs class rows values h true b (k.0 ∷ a) (p.0 ∷ ts) (p.1, all) k.1 in
-    at_term (at_formula (0 + 1) ts b) p.0 p.1.0 (subst (λ (x : Formula). IsRefuted d cs true x) (sym (put_at_formula 0 p.0 ts (stand_closed d cs class a ts all) b)) r)
+    at_term (at_formula (0 + 1) ts b) p.0 p.1.0 (subst (λ (x : Formula). IsRefuted d cs true x) (sym (substitute_formula-one_others 0 p.0 ts b)) r)
 refuted_down d cs class rows values h false (form.All b) a ts all k =
     let x = some_in (λ u. AlikeFormula rows 0 a true (form.All b) true u) d.universals k in
     listed (at_formula (0 + 1) ts b) x.0 x.1.0 (formula_down d cs class rows values h 0 a ts all true (form.All b) true x.0 x.1.1)
 
 -- a formula as it stands
 pub refuted_by_rows : (d : Disjunct) (cs : List Clause) (class : Term → ℕ) (rows : Head → List Row) (values : List ℕ) → IsTabled d cs class rows values → (f : Formula) → RowsRefute rows values d.universals true [] f → IsRefuted d cs true f
-refuted_by_rows d cs class rows values h f k = subst (λ (x : Formula). IsRefuted d cs true x) (at_none_formula 0 f) (refuted_down d cs class rows values h true f [] [] tt k)
+refuted_by_rows d cs class rows values h f k = subst (λ (x : Formula). IsRefuted d cs true x) (substitute_formula-no_values 0 f) (refuted_down d cs class rows values h true f [] [] tt k)

@@ -8,7 +8,7 @@ use Rattle.mz_logic.specs.Term.{Term, Terms, Bound, Const, App, terms_of}
 use Rattle.mz_logic.specs.Indices.{closed}
 use Rattle.mz_logic.specs.Formula as form
 use Rattle.mz_logic.specs.Formula.{Formula}
-use Rattle.mz_logic.specs.Substitution.{body_at, put_formula}
+use Rattle.mz_logic.specs.Substitution.{body_at, substitute_formula, value_at}
 use Rattle.mz_logic.specs.declared.literal.Literal.TheVariants.{Atom, Eq}
 use Rattle.mz_logic.specs.declared.disjunct.Disjunct.{Disjunct}
 use Rattle.mz_ground.specs.declared.clause.Clause.{Clause}
@@ -27,14 +27,11 @@ use Rattle.mz_refute.specs.RowsRefuted.{RowsRefute}
 use Rattle.mz_refute.specs.Tabled.{IsTabled, StandsFor}
 use Rattle.mz_refute.proofs.SomeLemmas.{some_map}
 use Rattle.mz_refute.proofs.AtTerms as at
-use Rattle.mz_refute.proofs.AtTerms.{at_formula, put_at_formula, at_none_formula}
-use Rattle.mz_refute.proofs.GroundLaws.{AllGround, ground_closed}
+use Rattle.mz_refute.proofs.AtTerms.{at_formula}
+use Rattle.mz_logic.proofs.ValueLaws.{substitute_formula-one_others, substitute_formula-no_values}
+use Rattle.mz_refute.proofs.GroundLaws.{AllGround, ground_closed, all_closed}
 use Rattle.mz_refute.proofs.TableUp.{list_up, equal_up, sides_up}
 use Rattle.mz_refute.proofs.AlikeUp.{formula_up, FormulaFilled}
-
-all_closed : (d : Disjunct) (cs : List Clause) (ts : List Term) → AllGround d cs ts → list_all closed ts ≡ true
-all_closed d cs [] all = refl
-all_closed d cs (t ∷ ts) all = rw (ground_closed d cs t all.0, all_closed d cs ts all.1) refl
 
 -- the terms of a listed universal that have no index are ground
 pub universal_filled : (d : Disjunct) (cs : List Clause) (u : Formula) → Contains d.universals u → FormulaFilled d cs u
@@ -72,7 +69,7 @@ refuted_up d cs class rows values h s (form.And f g) ts all (first x y r) = inl 
 refuted_up d cs class rows values h s (form.And f g) ts all (second x y r) = inr (refuted_up d cs class rows values h true g ts all r)
 refuted_up d cs class rows values h s (form.And f g) ts all (both x y r q) = (refuted_up d cs class rows values h false f ts all r, refuted_up d cs class rows values h false g ts all q)
 refuted_up d cs class rows values h s (form.All b) ts all (at_term x t c r) =
-    let q : IsRefuted d cs true (at_formula 0 (t ∷ ts) b) = subst (λ (k : Formula). IsRefuted d cs true k) (put_at_formula 0 t ts (all_closed d cs ts all) b) r in
+    let q : IsRefuted d cs true (at_formula 0 (t ∷ ts) b) = subst (λ (k : Formula). IsRefuted d cs true k) (substitute_formula-one_others 0 t ts b) r in
     (class t, refuted_up d cs class rows values h true b (t ∷ ts) (c, all) q)
 refuted_up d cs class rows values h s (form.All b) ts all (listed x u m k) =
     some_of_member (λ g. AlikeFormula rows 0 (map class ts) true (form.All b) true g) d.universals u m
@@ -80,4 +77,4 @@ refuted_up d cs class rows values h s (form.All b) ts all (listed x u m k) =
 
 -- a formula as it stands
 pub rows_by_refuted : (d : Disjunct) (cs : List Clause) (class : Term → ℕ) (rows : Head → List Row) (values : List ℕ) → IsTabled d cs class rows values → (f : Formula) → IsRefuted d cs true f → RowsRefute rows values d.universals true [] f
-rows_by_refuted d cs class rows values h f k = refuted_up d cs class rows values h true f [] tt (subst (λ (x : Formula). IsRefuted d cs true x) (sym (at_none_formula 0 f)) k)
+rows_by_refuted d cs class rows values h f k = refuted_up d cs class rows values h true f [] tt (subst (λ (x : Formula). IsRefuted d cs true x) (sym (substitute_formula-no_values 0 f)) k)

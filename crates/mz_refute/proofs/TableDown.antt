@@ -5,7 +5,8 @@ use Rattle.std.specs.List.{AllByRecursion, list_all}
 use Rattle.mz_logic.specs.declared.sym.Sym.{Sym}
 use Rattle.mz_logic.specs.Sym.{same_sym}
 use Rattle.mz_logic.specs.Term as term
-use Rattle.mz_logic.specs.Term.{Term, Terms, Bound, Const, App, list_of, terms_of, list_of-terms_of, terms_of-list_of}
+use Rattle.mz_logic.specs.Term.{Term, Terms, Bound, Const, App, list_of, terms_of}
+use Rattle.mz_logic.specs.TermStorage.{list_of-terms_of, terms_of-list_of}
 use Rattle.mz_logic.specs.Indices.{closed, args_below}
 use Rattle.mz_logic.specs.Formula as form
 use Rattle.mz_logic.specs.Formula.{Formula}
@@ -77,7 +78,7 @@ mutual
   val_down d cs class rows values h depth a ts all (Bound i) v c k =
       let u : Term = Bound (i - length ts) in
       let p = stand_at d cs class a ts all (i - depth) v u k.1 c in
-      let e : at_term depth ts (Bound i) ≡ get_or ts (i - depth) u = at_outer depth ts i k.0 in
+      let e : at_term depth ts (Bound i) ≡ get_or ts (i - depth) u = at_outer depth ts i (stand_closed d cs class a ts all) k.0 in
       record { value = get_or ts (i - depth) u; ground = p.0; is = p.1; valued = subst (λ (x : Term). IsValued d cs x (get_or ts (i - depth) u)) (sym e) (value_self d cs (get_or ts (i - depth) u) p.0) }
   val_down d cs class rows values h depth a ts all (Const n) v c k =
       let x = some_in (λ r. (has_value v r ≡ true) × IsNone r.args.items) (rows (Constant n)) k in

@@ -5,7 +5,8 @@ use Rattle.std.specs.List.{AllByRecursion, list_all}
 use Rattle.std.proofs.lemmas.Bool.Decides.{leb_tells}
 use Rattle.mz_logic.specs.declared.sym.Sym.{Sym}
 use Rattle.mz_logic.specs.Term as term
-use Rattle.mz_logic.specs.Term.{Term, Terms, Bound, Const, App, list_of, terms_of, list_of-terms_of, terms_of-list_of, terms_of-inj}
+use Rattle.mz_logic.specs.Term.{Term, Terms, Bound, Const, App, list_of, terms_of}
+use Rattle.mz_logic.specs.TermStorage.{list_of-terms_of, terms_of-list_of, terms_of-inj}
 use Rattle.mz_logic.specs.Indices.{closed, args_below}
 use Rattle.mz_logic.specs.declared.literal.Literal.TheVariants.{Atom, Eq}
 use Rattle.mz_logic.specs.declared.disjunct.Disjunct.{Disjunct}
@@ -19,7 +20,7 @@ use Rattle.mz_refute.specs.declared.row.Row.{Row}
 use Rattle.mz_refute.specs.Rows.{SomeOf, IsNone, has_value, Val, Vals, RowOn, OneValue}
 use Rattle.mz_refute.specs.Tabled.{IsTabled}
 use Rattle.mz_refute.proofs.SomeLemmas.{some_map}
-use Rattle.mz_refute.proofs.GroundLaws.{AllGround, ground_closed}
+use Rattle.mz_refute.proofs.GroundLaws.{AllGround, ground_closed, all_closed}
 use Rattle.mz_refute.proofs.ValueLaws.{Parts, value_parts, ground_value, value_closed, value_ground}
 use Rattle.mz_refute.proofs.AtTerms.{at_term, at_args, at_list, at_inner, at_outer, at_free}
 
@@ -71,7 +72,7 @@ mutual
           | inr l ↦
               let u : Term = Bound (i - length ts) in
               let lt : i - depth < length ts = omega (arith, k.1, l.1) in
-              let x : IsValued d cs (get_or ts (i - depth) u) w = subst (λ (z : Term). IsValued d cs z w) (at_outer depth ts i (omega (arith, k.1))) v in
+              let x : IsValued d cs (get_or ts (i - depth) u) w = subst (λ (z : Term). IsValued d cs z w) (at_outer depth ts i (all_closed d cs ts all) (omega (arith, k.1))) v in
               let f : Fact d cs (Eq true (get_or ts (i - depth) u) w) = ground_value d cs (get_or ts (i - depth) u) w (ground_at d cs ts (i - depth) u all lt) x in
               (omega (arith, k.1), class_at class ts (i - depth) u lt ∙ ap (λ n. Some n) (h.same (get_or ts (i - depth) u) w f))
         ]

@@ -4,7 +4,8 @@ use Rattle.std.proofs.Common.{inl, inr, ◌≡◌, ℕ, zero, suc, List, [], ◌
 use Rattle.std.specs.Prelude.{◌&&◌, Contains}
 use Rattle.mz_logic.specs.declared.sym.Sym.{Sym}
 use Rattle.mz_logic.specs.Term as term
-use Rattle.mz_logic.specs.Term.{Term, Terms, Bound, Const, App, terms_of, terms_of-inj}
+use Rattle.mz_logic.specs.Term.{Term, Terms, Bound, Const, App, terms_of}
+use Rattle.mz_logic.specs.TermStorage.{terms_of-inj}
 use Rattle.mz_logic.specs.Indices.{closed, args_below}
 use Rattle.mz_logic.specs.declared.literal.Literal.TheVariants.{Atom, Eq}
 use Rattle.mz_logic.specs.declared.disjunct.Disjunct.{Disjunct}

@@ -1,11 +1,12 @@
 -- The entries of a table: what facts over a ground part it is made of.
-use Rattle.std.specs.Prelude.{◌≡◌, ℕ, zero, suc, ◌+◌, Bool, true, false, List, [], ◌∷◌, ◌++◌, map, slice_index, if◌then◌else◌}
+use Rattle.std.specs.Prelude.{◌≡◌, ◌↔◌, ℕ, zero, suc, ◌+◌, Bool, true, false, List, [], ◌∷◌, ◌++◌, map, slice_index, if◌then◌else◌}
 use Rattle.mz_ground.specs.declared.ground.Ground.{Ground}
 use Rattle.mz_ground.specs.declared.ground_term.GroundTerm.{GroundTerm}
 use Rattle.mz_ground.specs.declared.ground_term.GroundTerm.TheVariants as node
 use Rattle.mz_ground.specs.declared.ground_atom.GroundAtom.{GroundAtom}
 use Rattle.mz_ground.specs.declared.ground_equation.GroundEquation.{GroundEquation}
 use Rattle.mz_refute.specs.Heads.{same_head}
+use Rattle.mz_refute.specs.Rows.{SomeOf}
 use Rattle.mz_refute.specs.Table.{rows_of}
 use Rattle.mz_refute.specs.declared.row.Head.{Head}
 use Rattle.mz_refute.specs.declared.row.Head.TheVariants.{Constant, Functor, Holds, Fails, Differ}
@@ -52,9 +53,29 @@ rows_for h (e ∷ es) = if same_head e.head h then (e.args, e.value) ∷ rows_fo
 abbrev pub row_pair : Row → List ℕ × ℕ
 row_pair r = (r.args.items, r.value)
 
+-- the head is that of a term
+abbrev pub IsTermHead : Head → Type 0
+IsTermHead (Constant n) = Unit {0}
+IsTermHead (Functor s) = Unit {0}
+IsTermHead (Holds s) = ⊥
+IsTermHead (Fails s) = ⊥
+IsTermHead Differ = ⊥
+
+-- the lists have the same members
+abbrev pub HaveSameMembers : List (List ℕ × ℕ) → List (List ℕ × ℕ) → Type 0
+HaveSameMembers xs ys = (p : List ℕ × ℕ) → SomeOf (λ x. x ≡ p) xs ↔ SomeOf (λ y. y ≡ p) ys
+
+-- of terms the lists have the same rows, each perhaps more often in one than in the other; of facts they are one
+abbrev pub AreRows : Head → List (List ℕ × ℕ) → List (List ℕ × ℕ) → Type 0
+AreRows (Constant n) xs ys = HaveSameMembers xs ys
+AreRows (Functor s) xs ys = HaveSameMembers xs ys
+AreRows (Holds s) xs ys = xs ≡ ys
+AreRows (Fails s) xs ys = xs ≡ ys
+AreRows Differ xs ys = xs ≡ ys
+
 -- the table has the rows of the entries
 unfoldable pub HasEntries : Table → List Entry → Type 0
-HasEntries table es = (h : Head) → map row_pair (rows_of table h) ≡ rows_for h es
+HasEntries table es = (h : Head) → AreRows h (map row_pair (rows_of table h)) (rows_for h es)
 
 -- the table has further entries
 unfoldable pub Grown : Table → Table → List Entry → Type 0

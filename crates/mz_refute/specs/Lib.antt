@@ -12,6 +12,7 @@ pub mod RowsRefuted
 pub mod Matches
 pub mod Goals
 pub mod Frames
+pub mod Hopeless
 pub mod Tabled
 pub mod RowsWork
 pub mod Answered
@@ -19,3 +20,4 @@ pub mod TermClass
 pub mod Entries
 pub mod Held
 pub mod Laws
+pub mod FactIndex

@@ -1,6 +1,6 @@
 //! Formulas that are equal up to double negation and the classes of terms.
 ghost use Rattle.std.specs.Prelude.{◌≡◌, ◌+◌, ◌<◌, ◌^◌, ℕ, [], IfOk, flat_map, if◌then◌else◌};
-ghost use Rattle.mz_logic.specs.Formula.{binders_of, formula_size};
+ghost use Rattle.mz_logic.specs.FormulaStorage.{binders_of, formula_size};
 ghost use Rattle.mz_logic.specs.Term.{terms_of};
 ghost use Rattle.mz_logic.specs.Indices.{args_below};
 ghost use Rattle.mz_refute.specs.Matches.{is_index, keep_index, match_index, alike_term, alike_args, alike_formula, same_sign, when};

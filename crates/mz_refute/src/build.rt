@@ -4,6 +4,7 @@ ghost use Rattle.mz_refute.specs.Entries.{Grown, HasEntries, term_entry, term_en
 ghost use Rattle.mz_refute.specs.Held.{entries_of};
 ghost use Rattle.mz_refute.specs.declared.row.Head.TheVariants.{Holds, Fails, Differ};
 
+use crate::distinct::add_distinct;
 use crate::row::{Head, Row};
 use crate::table::Table;
 use mz_ground::ground::Ground;
@@ -11,6 +12,7 @@ use mz_ground::ground_atom::GroundAtom;
 use mz_ground::ground_equation::GroundEquation;
 use mz_ground::ground_term::GroundTerm;
 use std::alloc::{AllocError, Global};
+use std::collections::HashSet;
 
 fn class_of(classes: &[usize], place: usize) -> usize
     ensures { result ≡ slice_index classes.now place }
@@ -36,6 +38,7 @@ fn classes_of(alloc: Global, classes: &[usize], places: &[usize]) -> Result<Vec<
 fn add_term(
     alloc: Global,
     table: &mut Table,
+    seen: &mut HashSet<u64>,
     classes: &[usize],
     e: &GroundTerm,
     value: usize,
@@ -45,12 +48,12 @@ fn add_term(
     match e {
         GroundTerm::Const(n) => {
             let args = Vec::new(alloc);
-            table.add(alloc, Head::Constant(*n), Row { args, value })?;
+            add_distinct(alloc, table, seen, Head::Constant(*n), Row { args, value })?;
             Ok(())
         }
         GroundTerm::App { sym, args } => {
             let args = classes_of(alloc, classes, args.as_slice())?;
-            table.add(alloc, Head::Functor(*sym), Row { args, value })?;
+            add_distinct(alloc, table, seen, Head::Functor(*sym), Row { args, value })?;
             Ok(())
         }
     }
@@ -66,8 +69,16 @@ fn add_terms(
     requires { length classes.now ≡ length ground.now.terms }
     ensures { OnOk result (Grown table.old table.new (term_entries classes.now classes.now ground.now.terms)) }
 {
+    let mut seen = HashSet::new(alloc);
     for i in 0..classes.len() {
-        add_term(alloc, table, classes, ground.terms.get(i), classes[i])?;
+        add_term(
+            alloc,
+            table,
+            &mut seen,
+            classes,
+            ground.terms.get(i),
+            classes[i],
+        )?;
     }
     Ok(())
 }

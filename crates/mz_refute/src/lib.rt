@@ -6,13 +6,16 @@ pub mod answer;
 mod assignment;
 mod assignments;
 mod build;
+mod distinct;
+pub mod fact_index;
 mod frame;
+mod hopeless;
 pub mod laws;
+mod literals;
 mod matching;
+mod open_variables;
 pub mod refuted;
 pub mod row;
 mod search;
 pub mod table;
-#[cfg(test)]
-mod tests;
 pub mod work;

@@ -1,115 +1,21 @@
 //! The search for classes of the variables that refute a formula.
-ghost use Rattle.std.specs.Prelude.{◌≡◌, ◌↔◌, ◌∷◌, ◌++◌, [], true, false, None, IfOk, OnOk, IsTrue, map, flat_map};
-ghost use Rattle.mz_refute.specs.Goals.{match_literal, IsLiteral, Refute, Leave};
-ghost use Rattle.mz_refute.specs.Matches.{alike_formula};
+ghost use Rattle.std.specs.Prelude.{◌≡◌, ◌↔◌, ◌∷◌, ◌++◌, [], true, false, None, IfOk, OnOk, IsTrue, map};
+ghost use Rattle.mz_refute.specs.Goals.{IsLiteral, Refute, Leave};
 ghost use Rattle.mz_refute.specs.Frames.{Stepped, task_of, goal_of, parts};
 ghost use Rattle.mz_refute.specs.RowsRefuted.{RowsRefute};
 ghost use Rattle.mz_refute.specs.Table.{rows_of};
-ghost use Rattle.mz_logic.specs.Formula.{Eq, Atom};
 
-use crate::alike::alike_formula;
 use crate::assignment::Assignment;
 use crate::assignments::Assignments;
 use crate::frame::{Frame, Goal, push_frame};
-use crate::matching::{match_equal, match_pairs, match_rows};
-use crate::row::Head;
+use crate::hopeless::is_hopeless;
+use crate::literals::match_literal;
 use crate::table::Table;
 use mz_logic::formula::{Formula, FormulaNode};
 use mz_logic::formulas::Formulas;
-use mz_logic::sym::Sym;
-use mz_logic::term::{Term, Terms};
 use std::alloc::{AllocError, Global};
 
-fn match_listed(
-    alloc: Global,
-    table: &Table,
-    universals: &Formulas,
-    f: &Formula,
-    es: &Assignments,
-) -> Result<Assignments, AllocError>
-    ensures { IfOk result (λ out. out ≡ flat_map (λ u. alike_formula (rows_of table.now) 0 true f.now true u es.now) universals.now) }
-{
-    let mut out = Assignments::new(alloc);
-    for u in &universals.items {
-        out.append(alike_formula(alloc, table, 0, true, f, true, u, es)?)?;
-    }
-    Ok(out)
-}
-
-fn match_equation(
-    alloc: Global,
-    table: &Table,
-    values: &[usize],
-    positive: bool,
-    t: &Term,
-    u: &Term,
-    es: &Assignments,
-) -> Result<Assignments, AllocError>
-    ensures { IfOk result (λ out. out ≡ match_literal (rows_of table.now) values.now [] positive (Eq t.now u.now) es.now) }
-{
-    if positive {
-        let mut out = match_pairs(alloc, table, t, u, es)?;
-        out.append(match_pairs(alloc, table, u, t, es)?)?;
-        Ok(out)
-    } else {
-        match_equal(alloc, table, values, t, u, es)
-    }
-}
-
-fn match_atom(
-    alloc: Global,
-    table: &Table,
-    values: &[usize],
-    positive: bool,
-    s: Sym,
-    ts: &Terms,
-    es: &Assignments,
-) -> Result<Assignments, AllocError>
-    ensures { IfOk result (λ out. out ≡ match_literal (rows_of table.now) values.now [] positive (Atom s ts.now) es.now) }
-{
-    if positive {
-        match_rows(alloc, table, Head::Fails(s), ts, es)
-    } else {
-        match_rows(alloc, table, Head::Holds(s), ts, es)
-    }
-}
-
-/// The assignments that extend one of `es` and at which the literal, truth or the negated universal
-/// is refuted, or the negation of it where `positive` is false.
-fn match_literal(
-    alloc: Global,
-    table: &Table,
-    values: &[usize],
-    universals: &Formulas,
-    positive: bool,
-    f: &Formula,
-    es: &Assignments,
-) -> Result<Assignments, AllocError>
-    ensures { IfOk result (λ out. out ≡ match_literal (rows_of table.now) values.now universals.now positive f.now es.now) }
-{
-    match &f.node {
-        FormulaNode::Truth => {
-            if positive {
-                Ok(Assignments::new(alloc))
-            } else {
-                es.copy(alloc)
-            }
-        }
-        FormulaNode::Eq(t, u) => match_equation(alloc, table, values, positive, t, u, es),
-        FormulaNode::Atom(s, ts) => match_atom(alloc, table, values, positive, *s, ts, es),
-        FormulaNode::Not(_) => Ok(Assignments::new(alloc)),
-        FormulaNode::And(_, _) => Ok(Assignments::new(alloc)),
-        FormulaNode::All(_) => {
-            if positive {
-                Ok(Assignments::new(alloc))
-            } else {
-                match_listed(alloc, table, universals, f, es)
-            }
-        }
-    }
-}
-
-#[tactic(auto, using(crate::proofs::FrameLemmas::step_rules))]
+#[tactic(auto, using(crate::proofs::FrameLemmas::step_rules, crate::proofs::HopelessLemmas::left_out_rules))]
 fn step_literal<'a>(
     alloc: Global,
     table: &Table,
@@ -129,6 +35,10 @@ fn step_literal<'a>(
         None => Ok(false),
         Some(e) => {
             let single = Assignments::single(alloc, e)?;
+            if is_hopeless(alloc, table, values, universals, rest, &single)? {
+                push_formula(alloc, stack, others, positive, f, rest)?;
+                return Ok(false);
+            }
             let found = match_literal(alloc, table, values, universals, positive, f, &single)?;
             push_frame(
                 alloc,

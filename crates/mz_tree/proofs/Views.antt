@@ -5,8 +5,8 @@ use Rattle.mz_tree.specs.Trees.{TermData, PieceData, PrefixData, BeforeData, Bas
 use Rattle.mz_tree.specs.Views.{OperandData, before_view, next_term_view, next_declared_view, next_unit_view, next_conjunction_view, adjective_step, base_step, declared_step, formula_step, piece_step, prefix_step, quantified_step, type_step, unit_step, conjunction_step, operand_step, term_step, adjective_of, base_of, declared_of, formula_of, piece_of, prefix_of, quantified_of, type_of, unit_of, conjunction_of, operand_of, term_of, before_of, next_term_of, terms_of, next_declared_of, next_unit_of, next_conjunction_of, disjunction_of}
 use Rattle.mz_base.specs.declared.place.Place.{Place}
 use Rattle.mz_tree.specs.declared.word.Word.{Word}
-use Rattle.mz_tree.specs.declared.comma.Comma.{Comma}
-use Rattle.mz_tree.specs.declared.being.Being.{Being}
+use Rattle.mz_tree.specs.declared.word.Comma.{Comma}
+use Rattle.mz_tree.specs.declared.word.Being.{Being}
 use Rattle.mz_tree.specs.declared.chain.Next.{Next}
 use Rattle.mz_tree.specs.declared.chain.Chain.{Chain}
 use Rattle.mz_tree.specs.declared.chain.Before.{Before}
@@ -138,7 +138,7 @@ pub declared_of-plain : (a : Word) → declared_of (declareds.Plain a) ≡ Plain
 unfolding adjective_of base_of declared_of formula_of piece_of prefix_of quantified_of type_of unit_of conjunction_of operand_of term_of
 declared_of-plain a = ap declared_of (sym (declareds.rolls-Plain a)) ∙ fold-roll-DeclaredNode _ _ _ _ _ _ _ _ _ _ _ _ _ _ _ _ _ _ _ _ _ _ _ _ (DeclaredNode-F.DeclaredNode::Plain a)
 
-pub declared_of-typed : (a : Word) (b : Being) (c : TypeNode) → declared_of (declareds.Typed a b c) ≡ TypedDeclared a b (type_of c)
+pub declared_of-typed : (a : Word) (b : Being) (c : Box TypeNode Global) → declared_of (declareds.Typed a b c) ≡ TypedDeclared a b (type_of c.value)
 unfolding adjective_of base_of declared_of formula_of piece_of prefix_of quantified_of type_of unit_of conjunction_of operand_of term_of
 declared_of-typed a b c = ap declared_of (sym (declareds.rolls-Typed a b c)) ∙ fold-roll-DeclaredNode _ _ _ _ _ _ _ _ _ _ _ _ _ _ _ _ _ _ _ _ _ _ _ _ (DeclaredNode-F.Typed a b c)
 
@@ -165,7 +165,7 @@ pub piece_of-functor : (a : Word) (b : ℕ) → piece_of (pieces.Functor a b) �
 unfolding adjective_of base_of declared_of formula_of piece_of prefix_of quantified_of type_of unit_of conjunction_of operand_of term_of
 piece_of-functor a b = ap piece_of (sym (pieces.rolls-Functor a b)) ∙ fold-roll-PieceNode _ _ _ _ _ _ _ _ _ _ _ _ _ _ _ _ _ _ _ _ _ _ _ _ (PieceNode-F.Functor a b)
 
-pub piece_of-operand : (a : Box OperandNode Global) → piece_of (pieces.Operand a) ≡ OperandPiece (operand_of a.value).prefixes (operand_of a.value).base
+pub piece_of-operand : (a : OperandNode) → piece_of (pieces.Operand a) ≡ OperandPiece (operand_of a).prefixes (operand_of a).base
 unfolding adjective_of base_of declared_of formula_of piece_of prefix_of quantified_of type_of unit_of conjunction_of operand_of term_of
 piece_of-operand a = ap piece_of (sym (pieces.rolls-Operand a)) ∙ fold-roll-PieceNode _ _ _ _ _ _ _ _ _ _ _ _ _ _ _ _ _ _ _ _ _ _ _ _ (PieceNode-F.Operand a)
 
@@ -282,7 +282,7 @@ unfolding adjective_of base_of declared_of formula_of piece_of prefix_of quantif
 unit_of-predicate_both a b c = ap unit_of (sym (units.rolls-PredicateBoth a b c)) ∙ fold-roll-UnitNode _ _ _ _ _ _ _ _ _ _ _ _ _ _ _ _ _ _ _ _ _ _ _ _ (UnitNode-F.PredicateBoth a b c)
     ∙ ap2 (λ x y. PredicateBothUnit x b y) (terms_seen _ a (λ n. refl)) (terms_seen _ c (λ n. refl))
 
-pub unit_of-is_type : (a : TermNode) (b : Place) (c : TypeNode) → unit_of (units.IsType a b c) ≡ IsTypeUnit (term_of a) b (type_of c)
+pub unit_of-is_type : (a : TermNode) (b : Place) (c : Box TypeNode Global) → unit_of (units.IsType a b c) ≡ IsTypeUnit (term_of a) b (type_of c.value)
 unfolding adjective_of base_of declared_of formula_of piece_of prefix_of quantified_of type_of unit_of conjunction_of operand_of term_of
 unit_of-is_type a b c = ap unit_of (sym (units.rolls-IsType a b c)) ∙ fold-roll-UnitNode _ _ _ _ _ _ _ _ _ _ _ _ _ _ _ _ _ _ _ _ _ _ _ _ (UnitNode-F.IsType a b c)
 
@@ -299,16 +299,16 @@ term_of-is t = fold_out-TermNode _ _ _ _ _ _ _ _ _ _ _ _ _ _ _ _ _ _ _ _ _ _ _ _
 pub term_same : (t u : TermNode) → piece_of t.first ≡ piece_of u.first → map piece_of t.more.items ≡ map piece_of u.more.items → term_of t ≡ term_of u
 term_same t u e f = term_of-is t ∙ (ap2 (λ p ps. RunTerm p (pieces_of ps)) e f ∙ sym (term_of-is u))
 
-pub operand_of-is : (t : OperandNode) → operand_of t ≡ record { prefixes = prefixs_of (map prefix_of t.prefixes.items); base = base_of t.base }
+pub operand_of-is : (t : OperandNode) → operand_of t ≡ record { prefixes = prefixs_of (map prefix_of t.prefixes.items); base = base_of t.base.value }
 unfolding adjective_of base_of declared_of formula_of piece_of prefix_of quantified_of type_of unit_of conjunction_of operand_of term_of
 operand_of-is t = fold_out-OperandNode _ _ _ _ _ _ _ _ _ _ _ _ _ _ _ _ _ _ _ _ _ _ _ _ t
 
-pub operand_same : (t u : OperandNode) → map prefix_of t.prefixes.items ≡ map prefix_of u.prefixes.items → base_of t.base ≡ base_of u.base → operand_of t ≡ operand_of u
+pub operand_same : (t u : OperandNode) → map prefix_of t.prefixes.items ≡ map prefix_of u.prefixes.items → base_of t.base.value ≡ base_of u.base.value → operand_of t ≡ operand_of u
 operand_same t u e f = operand_of-is t ∙ (ap2 {Z = OperandData} (λ ps b. record { prefixes = prefixs_of ps; base = b }) e f ∙ sym (operand_of-is u))
 
-pub conjunction_of-is : (t : ConjunctionNode) → conjunction_of t ≡ ChainConjunction (unit_of t.first) (next_units_of (map next_unit_of t.more.items))
+pub conjunction_of-is : (t : ConjunctionNode) → conjunction_of t ≡ ChainConjunction (unit_of t.first.value) (next_units_of (map next_unit_of t.more.items))
 unfolding adjective_of base_of declared_of formula_of piece_of prefix_of quantified_of type_of unit_of conjunction_of operand_of term_of
-conjunction_of-is t = fold_out-ConjunctionNode _ _ _ _ _ _ _ _ _ _ _ _ _ _ _ _ _ _ _ _ _ _ _ _ t ∙ ap (λ us. ChainConjunction (unit_of t.first) (next_units_of us)) (map_by next_unit_view _ next_unit_of t.more.items (λ n. refl))
+conjunction_of-is t = fold_out-ConjunctionNode _ _ _ _ _ _ _ _ _ _ _ _ _ _ _ _ _ _ _ _ _ _ _ _ t ∙ ap (λ us. ChainConjunction (unit_of t.first.value) (next_units_of us)) (map_by next_unit_view _ next_unit_of t.more.items (λ n. refl))
 
-pub conjunction_same : (t u : ConjunctionNode) → unit_of t.first ≡ unit_of u.first → map next_unit_of t.more.items ≡ map next_unit_of u.more.items → conjunction_of t ≡ conjunction_of u
+pub conjunction_same : (t u : ConjunctionNode) → unit_of t.first.value ≡ unit_of u.first.value → map next_unit_of t.more.items ≡ map next_unit_of u.more.items → conjunction_of t ≡ conjunction_of u
 conjunction_same t u e f = conjunction_of-is t ∙ (ap2 (λ v us. ChainConjunction v (next_units_of us)) e f ∙ sym (conjunction_of-is u))

@@ -6,8 +6,8 @@ use base.Stored.{Gv, gnil, gnum, gcons}
 use denote.Struct.Codes.{itself}
 use Rattle.mz_base.specs.declared.place.Place.{Place}
 use Rattle.mz_tree.specs.declared.word.Word.{Word}
-use Rattle.mz_tree.specs.declared.comma.Comma.{Comma}
-use Rattle.mz_tree.specs.declared.being.Being.{Being}
+use Rattle.mz_tree.specs.declared.word.Comma.{Comma}
+use Rattle.mz_tree.specs.declared.word.Being.{Being}
 use Rattle.mz_tree.specs.Leaves.{place_gv, no_place, no_word, no_comma, numbers_gv, word_gv, bit, comma_gv, maybe_gv, being_gv}
 use Rattle.mz_tree.specs.Trees.{DeclarationsData, AdjectivesData, TermData, PieceData, PrefixData, BeforeData, BaseData, TermsData, NextTermData, AdjectiveData, TypeData, DeclaredData, NextDeclaredData, FormulaData, DisjunctionData, NextConjunctionData, ConjunctionData, NextUnitData, UnitData, QuantifiedData, PieceList, PrefixList, BeforeList, NextTermList, AdjectiveList, NextDeclaredList, NextConjunctionList, NextUnitList, RunTerm, FunctorPiece, OperandPiece, SelectorPrefix, ChoiceOfPrefix, ChoiceOverPrefix, OperandBefore, IdentifierBase, SubjectBase, ArgumentBase, GroupBase, CallBase, CallWithBase, SelectorBase, AggregateBase, BracketsBase, BracesBase, SquaresBase, SetOfBase, ChoiceBase, ChoiceStructureBase, ListTerms, NextNextTerm, PlainAdjective, WithIdentifierAdjective, WithTermsAdjective, ModeType, ModeOfType, StructureType, StructureOverType, PlainDeclared, TypedDeclared, NextNextDeclared, PlainFormula, ImpliesFormula, IffFormula, ChainDisjunction, OrNextConjunction, ChainConjunction, AndNextUnit, NotUnit, ContradictionUnit, ThesisUnit, QuantifiedUnit, GroupUnit, PrivateUnit, PrivateWithUnit, PredicateUnit, PredicateRightUnit, PredicateLeftUnit, PredicateBothUnit, IsTypeUnit, IsAdjectivesUnit, ForQuantified, ForSuchQuantified, ForFurtherQuantified, ForSuchFurtherQuantified, ExistsQuantified, no_pieces, more_pieces, no_prefixs, more_prefixs, no_befores, more_befores, no_next_terms, more_next_terms, no_adjectives, more_adjectives, no_next_declareds, more_next_declareds, no_next_conjunctions, more_next_conjunctions, no_next_units, more_next_units}
 

@@ -1,11 +1,8 @@
--- The forms of expressions: which marked tokens spell which tree. Any token may go on after a whole tree here; a parser
--- states fewer.
-use Rattle.std.specs.Prelude.{◌≡◌, Bool, true, List, map}
-use Rattle.mz_base.specs.declared.token.Token.{Token}
+-- The forms of expressions: which marked tokens spell which tree, given whether it stands in a field's type. Any token may go
+-- on after a whole tree here; a parser states fewer.
+use Rattle.std.specs.Prelude.{Bool, true}
 use Rattle.mz_forms.specs.Form.{Form}
-use Rattle.mz_marks.specs.Marks.{AreMarks}
-use Rattle.mz_marks.specs.Role.{role_of}
-use Rattle.mz_marks.specs.declared.marked_token.MarkedToken.{MarkedToken}
+use Rattle.mz_base.specs.declared.token.MarkedToken.{MarkedToken}
 use Rattle.mz_tree.specs.Trees.{TermData, TermsData, TypeData, AdjectivesData, DeclarationsData, FormulaData}
 use Rattle.mz_tree.specs.Spell.{spell_term, spell_terms, spell_type, spell_adjectives, spell_declarations, spell_formula}
 use Rattle.mz_tree.specs.Levels.{levels_term, levels_terms, levels_type, levels_adjectives, levels_declarations, levels_formula, each_term, each_terms, each_type, each_adjectives, each_declarations, each_formula}
@@ -23,13 +20,8 @@ type_form field = record { Tree = TypeData; spell = spell_type; levels = levels_
 abbrev pub adjectives : Bool → Form MarkedToken
 adjectives field = record { Tree = AdjectivesData; spell = spell_adjectives; levels = levels_adjectives; each = each_adjectives; IsTree = AreSomeAdjectives field; goes = λ _ _. true }
 
-abbrev pub declarations : Form MarkedToken
-declarations = record { Tree = DeclarationsData; spell = spell_declarations; levels = levels_declarations; each = each_declarations; IsTree = AreDeclarations; goes = λ _ _. true }
+abbrev pub declarations : Bool → Form MarkedToken
+declarations field = record { Tree = DeclarationsData; spell = spell_declarations; levels = levels_declarations; each = each_declarations; IsTree = AreDeclarations field; goes = λ _ _. true }
 
-abbrev pub formula : Form MarkedToken
-formula = record { Tree = FormulaData; spell = spell_formula; levels = levels_formula; each = each_formula; IsTree = IsFormula; goes = λ _ _. true }
-
--- The tokens with the marks that their commas have in the whole list.
-pub record AreMarked (tokens : List Token) (all : List MarkedToken) : Type 0 where
-  pub tokens_are : map (λ m. m.token) all ≡ tokens
-  pub marks_are : AreMarks (map role_of tokens) (map (λ m. m.mark) all)
+abbrev pub formula : Bool → Form MarkedToken
+formula field = record { Tree = FormulaData; spell = spell_formula; levels = levels_formula; each = each_formula; IsTree = IsFormula field; goes = λ _ _. true }

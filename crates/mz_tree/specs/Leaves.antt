@@ -3,8 +3,8 @@ use Rattle.std.specs.Prelude.{ℕ, List, [], ◌∷◌, Bool, true, false, Optio
 use base.Stored.{Gv, gnil, gnum, gcons}
 use Rattle.mz_base.specs.declared.place.Place.{Place}
 use Rattle.mz_tree.specs.declared.word.Word.{Word}
-use Rattle.mz_tree.specs.declared.comma.Comma.{Comma}
-use Rattle.mz_tree.specs.declared.being.Being.{Being}
+use Rattle.mz_tree.specs.declared.word.Comma.{Comma}
+use Rattle.mz_tree.specs.declared.word.Being.{Being}
 
 abbrev pub no_place : Place
 no_place = record { line = 0; column = 0 }

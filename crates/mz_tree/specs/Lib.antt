@@ -3,6 +3,7 @@ pub mod Grammar
 pub mod Leaves
 pub mod Levels
 pub mod Lists
+pub mod Places
 pub mod Rules
 pub mod Spell
 pub mod Spelled

@@ -1,15 +1,15 @@
 -- Lists with commas: their spelling, their levels, and the rules on their members.
-use Rattle.std.specs.Prelude.{◌≡◌, ℕ, suc, List, ◌∷◌, ◌++◌, length}
+use Rattle.std.specs.Prelude.{◌≡◌, ℕ, suc, Bool, List, [], ◌∷◌, ◌++◌, length}
 use Rattle.std.specs.List.{flat_map}
 use Rattle.std.proofs.Common.{ap}
 use Rattle.mz_forms.specs.Form.{each_append}
-use Rattle.mz_marks.specs.declared.marked_token.MarkedToken.{MarkedToken}
+use Rattle.mz_base.specs.declared.token.MarkedToken.{MarkedToken}
 use Rattle.mz_tree.specs.Spelled.{comma_token}
 use Rattle.mz_tree.specs.Levels.{each_flat}
-use Rattle.mz_tree.specs.Rules.{Every}
+use Rattle.mz_tree.specs.Rules.{DividesAfter, Every}
 use Rattle.mz_tree.specs.declared.chain.Next.{Next}
-use Rattle.mz_tree.specs.declared.comma.Comma.{Comma}
-use Rattle.mz_tree.specs.declared.separated.Separated.{Separated}
+use Rattle.mz_tree.specs.declared.word.Comma.{Comma}
+use Rattle.mz_tree.specs.declared.lists.Separated.{Separated}
 
 -- a tree behind a comma
 abbrev pub spell_next : {X : Type 0} → (X → List MarkedToken) → Next Comma X → List MarkedToken
@@ -36,3 +36,11 @@ IsNext Is a = Is a.tree
 
 abbrev pub AreSeparated : {X : Type 0} → (X → Type 0) → Separated X → Type 0
 AreSeparated Is a = Is a.first × Every (IsNext Is) a.more
+
+-- Where the last of them ends in a list of terms, the comma before the next is a dividing one.
+abbrev pub AreBehind : {X : Type 0} → (X → Type 0) → (X → Bool) → Bool → List (Next Comma X) → Type 0
+AreBehind Is ends b [] = Unit {0}
+AreBehind Is ends b (a ∷ rest) = DividesAfter b a.sign × Is a.tree × AreBehind Is ends (ends a.tree) rest
+
+abbrev pub AreDivided : {X : Type 0} → (X → Type 0) → (X → Bool) → Separated X → Type 0
+AreDivided Is ends a = Is a.first × AreBehind Is ends (ends a.first) a.more

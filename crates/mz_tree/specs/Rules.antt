@@ -1,6 +1,6 @@
 -- The rules beside the alternatives of the grammar.
 use Rattle.std.specs.Prelude.{◌≡◌, ◌≤◌, Bool, true, false, List, [], ◌∷◌, Option, Some, None}
-use Rattle.mz_tree.specs.declared.comma.Comma.{Comma}
+use Rattle.mz_tree.specs.declared.word.Comma.{Comma}
 use Rattle.mz_tree.specs.Trees.{DeclarationsData, AdjectivesData, TermData, PieceData, BaseData, TermsData, AdjectiveData, TypeData, DeclaredData, FormulaData, DisjunctionData, ConjunctionData, UnitData, QuantifiedData, PieceList, PrefixList, NextTermList, AdjectiveList, NextDeclaredList, NextConjunctionList, NextUnitList, RunTerm, FunctorPiece, OperandPiece, SelectorPrefix, IdentifierBase, SubjectBase, ArgumentBase, GroupBase, CallBase, CallWithBase, SelectorBase, AggregateBase, BracketsBase, BracesBase, SquaresBase, SetOfBase, ChoiceBase, ChoiceStructureBase, ChoiceOfPrefix, ChoiceOverPrefix, ListTerms, NextNextTerm, PlainAdjective, WithIdentifierAdjective, WithTermsAdjective, ModeType, ModeOfType, StructureType, StructureOverType, PlainDeclared, TypedDeclared, NextNextDeclared, PlainFormula, ImpliesFormula, IffFormula, ChainDisjunction, OrNextConjunction, ChainConjunction, AndNextUnit, NotUnit, ContradictionUnit, ThesisUnit, QuantifiedUnit, GroupUnit, PrivateUnit, PrivateWithUnit, PredicateUnit, PredicateRightUnit, PredicateLeftUnit, PredicateBothUnit, IsTypeUnit, IsAdjectivesUnit, ForQuantified, ForSuchQuantified, ForFurtherQuantified, ForSuchFurtherQuantified, ExistsQuantified, no_pieces, more_pieces, no_prefixs, more_prefixs, no_next_terms, more_next_terms, no_adjectives, more_adjectives, no_next_declareds, more_next_declareds, no_next_conjunctions, more_next_conjunctions, no_next_units, more_next_units}
 
 -- each of the list is such
@@ -110,13 +110,34 @@ abbrev mutual
   takes_quantified o (ForSuchFurtherQuantified a b c d e q) = takes_quantified o q
   takes_quantified o (ExistsQuantified a b c d f) = takes_formula o f
 
--- a list of terms stands last, which a list comma goes on
+-- a choice stands before the base, so that a list of operands stands last, which a list comma goes on
+abbrev pub has_choice : PrefixList → Bool
+has_choice no_prefixs = false
+has_choice (more_prefixs (SelectorPrefix a b c) ps) = has_choice ps
+has_choice (more_prefixs (ChoiceOfPrefix a b c d e) ps) = true
+has_choice (more_prefixs (ChoiceOverPrefix a b c d e) ps) = true
+
+abbrev pub piece_ends_in_list : PieceData → Bool
+piece_ends_in_list (FunctorPiece a b) = false
+piece_ends_in_list (OperandPiece a b) = has_choice a
+
+-- the last piece, given what the one before says
+abbrev pub last_piece_ends_in_list : Bool → PieceList → Bool
+last_piece_ends_in_list b no_pieces = b
+last_piece_ends_in_list b (more_pieces p ps) = last_piece_ends_in_list (piece_ends_in_list p) ps
+
+-- a list of operands stands last in the term, which a list comma goes on
+abbrev pub term_ends_in_list : TermData → Bool
+term_ends_in_list (RunTerm p ps) = last_piece_ends_in_list (piece_ends_in_list p) ps
+
+-- a list of terms stands last in the type, which a list comma goes on
 abbrev pub ends_in_terms : TypeData → Bool
 ends_in_terms (ModeType a b) = false
 ends_in_terms (ModeOfType a b c d) = true
 ends_in_terms (StructureType a b) = false
 ends_in_terms (StructureOverType a b c d) = true
 
+-- the comma behind what ends in such a list, or doesn't
 abbrev pub DividesAfter : Bool → Comma → Type 0
 DividesAfter true c = c.dividing ≡ true
 DividesAfter false c = Unit {0}
@@ -126,7 +147,8 @@ abbrev pub DividesBehind : DeclaredData → Comma → Type 0
 DividesBehind (PlainDeclared a) c = Unit {0}
 DividesBehind (TypedDeclared a b t) c = DividesAfter (ends_in_terms t) c
 
--- The trees that obey the rules; within a field's type, a selector may stand without `of`.
+-- The trees that obey the rules. The Bool says whether the tree stands in a field's type, where a selector may stand without
+-- `of`. Terms and formulas are one cycle: a set term holds a formula.
 abbrev mutual
   pub IsTerm : Bool → TermData → Type 0
   IsTerm f (RunTerm p ps) = IsPiece f start p × GoesOn f (last_behind start p) ps
@@ -172,76 +194,75 @@ abbrev mutual
   AreMoreTerms f no_next_terms = Unit {0}
   AreMoreTerms f (more_next_terms (NextNextTerm p t) ts) = IsTerm f t × AreMoreTerms f ts
 
-abbrev pub IsAdjective : Bool → AdjectiveData → Type 0
-IsAdjective f (PlainAdjective a b) = Unit {0}
-IsAdjective f (WithIdentifierAdjective a b c) = Unit {0}
-IsAdjective f (WithTermsAdjective a b c d e) = AreTerms f c
+  pub IsAdjective : Bool → AdjectiveData → Type 0
+  IsAdjective f (PlainAdjective a b) = Unit {0}
+  IsAdjective f (WithIdentifierAdjective a b c) = Unit {0}
+  IsAdjective f (WithTermsAdjective a b c d e) = AreTerms f c
 
-abbrev pub AreAdjectives : Bool → AdjectiveList → Type 0
-AreAdjectives f no_adjectives = Unit {0}
-AreAdjectives f (more_adjectives a bs) = IsAdjective f a × AreAdjectives f bs
+  pub AreAdjectives : Bool → AdjectiveList → Type 0
+  AreAdjectives f no_adjectives = Unit {0}
+  AreAdjectives f (more_adjectives a bs) = IsAdjective f a × AreAdjectives f bs
 
-abbrev pub IsType : Bool → TypeData → Type 0
-IsType f (ModeType a b) = AreAdjectives f a
-IsType f (ModeOfType a b c d) = AreAdjectives f a × AreTerms f d
-IsType f (StructureType a b) = AreAdjectives f a
-IsType f (StructureOverType a b c d) = AreAdjectives f a × AreTerms f d
+  pub IsType : Bool → TypeData → Type 0
+  IsType f (ModeType a b) = AreAdjectives f a
+  IsType f (ModeOfType a b c d) = AreAdjectives f a × AreTerms f d
+  IsType f (StructureType a b) = AreAdjectives f a
+  IsType f (StructureOverType a b c d) = AreAdjectives f a × AreTerms f d
 
-abbrev pub IsDeclared : DeclaredData → Type 0
-IsDeclared (PlainDeclared a) = Unit {0}
-IsDeclared (TypedDeclared a b t) = IsType false t
+  pub IsDeclared : Bool → DeclaredData → Type 0
+  IsDeclared f (PlainDeclared a) = Unit {0}
+  IsDeclared f (TypedDeclared a b t) = IsType f t
 
--- the declarations behind one
-abbrev pub AreDeclared : DeclaredData → NextDeclaredList → Type 0
-AreDeclared d no_next_declareds = Unit {0}
-AreDeclared d (more_next_declareds (NextNextDeclared c e) es) = DividesBehind d c × IsDeclared e × AreDeclared e es
+  -- the declarations behind one
+  pub AreDeclared : Bool → DeclaredData → NextDeclaredList → Type 0
+  AreDeclared f d no_next_declareds = Unit {0}
+  AreDeclared f d (more_next_declareds (NextNextDeclared c e) es) = DividesBehind d c × IsDeclared f e × AreDeclared f e es
 
-abbrev mutual
-  pub IsFormula : FormulaData → Type 0
-  IsFormula (PlainFormula d) = IsDisjunction d
-  IsFormula (ImpliesFormula d p e) = IsDisjunction d × (takes_disjunction concludes d ≡ false) × IsDisjunction e
-  IsFormula (IffFormula d p e) = IsDisjunction d × (takes_disjunction concludes d ≡ false) × IsDisjunction e
+  pub IsFormula : Bool → FormulaData → Type 0
+  IsFormula f (PlainFormula d) = IsDisjunction f d
+  IsFormula f (ImpliesFormula d p e) = IsDisjunction f d × (takes_disjunction concludes d ≡ false) × IsDisjunction f e
+  IsFormula f (IffFormula d p e) = IsDisjunction f d × (takes_disjunction concludes d ≡ false) × IsDisjunction f e
 
-  pub IsDisjunction : DisjunctionData → Type 0
-  IsDisjunction (ChainDisjunction c cs) = IsConjunction c × AreDisjoined (takes_conjunction disjoins c) cs
+  pub IsDisjunction : Bool → DisjunctionData → Type 0
+  IsDisjunction f (ChainDisjunction c cs) = IsConjunction f c × AreDisjoined f (takes_conjunction disjoins c) cs
 
   -- the operands behind one that may take the `or` before them
-  pub AreDisjoined : Bool → NextConjunctionList → Type 0
-  AreDisjoined b no_next_conjunctions = Unit {0}
-  AreDisjoined b (more_next_conjunctions (OrNextConjunction p d) ds) = (b ≡ false) × IsConjunction d × AreDisjoined (takes_conjunction disjoins d) ds
+  pub AreDisjoined : Bool → Bool → NextConjunctionList → Type 0
+  AreDisjoined f b no_next_conjunctions = Unit {0}
+  AreDisjoined f b (more_next_conjunctions (OrNextConjunction p d) ds) = (b ≡ false) × IsConjunction f d × AreDisjoined f (takes_conjunction disjoins d) ds
 
-  pub IsConjunction : ConjunctionData → Type 0
-  IsConjunction (ChainConjunction u us) = IsUnit u × AreConjoined (takes_unit conjoins u) us
+  pub IsConjunction : Bool → ConjunctionData → Type 0
+  IsConjunction f (ChainConjunction u us) = IsUnit f u × AreConjoined f (takes_unit conjoins u) us
 
   -- the operands behind one that may take the `&` before them
-  pub AreConjoined : Bool → NextUnitList → Type 0
-  AreConjoined b no_next_units = Unit {0}
-  AreConjoined b (more_next_units (AndNextUnit p v) vs) = (b ≡ false) × IsUnit v × AreConjoined (takes_unit conjoins v) vs
+  pub AreConjoined : Bool → Bool → NextUnitList → Type 0
+  AreConjoined f b no_next_units = Unit {0}
+  AreConjoined f b (more_next_units (AndNextUnit p v) vs) = (b ≡ false) × IsUnit f v × AreConjoined f (takes_unit conjoins v) vs
 
-  pub IsUnit : UnitData → Type 0
-  IsUnit (NotUnit p u) = IsUnit u
-  IsUnit (ContradictionUnit a) = Unit {0}
-  IsUnit (ThesisUnit a) = Unit {0}
-  IsUnit (QuantifiedUnit q) = IsQuantified q
-  IsUnit (GroupUnit a b c) = IsFormula b
-  IsUnit (PrivateUnit a b c) = Unit {0}
-  IsUnit (PrivateWithUnit a b c d) = AreTerms false c
-  IsUnit (PredicateUnit a) = Unit {0}
-  IsUnit (PredicateRightUnit a b) = AreTerms false b
-  IsUnit (PredicateLeftUnit a b) = AreTerms false a
-  IsUnit (PredicateBothUnit a b c) = AreTerms false a × AreTerms false c
-  IsUnit (IsTypeUnit a b c) = IsTerm false a × IsType false c
-  IsUnit (IsAdjectivesUnit a b c d) = IsTerm false a × IsAdjective false c × AreAdjectives false d
+  pub IsUnit : Bool → UnitData → Type 0
+  IsUnit f (NotUnit p u) = IsUnit f u
+  IsUnit f (ContradictionUnit a) = Unit {0}
+  IsUnit f (ThesisUnit a) = Unit {0}
+  IsUnit f (QuantifiedUnit q) = IsQuantified f q
+  IsUnit f (GroupUnit a b c) = IsFormula f b
+  IsUnit f (PrivateUnit a b c) = Unit {0}
+  IsUnit f (PrivateWithUnit a b c d) = AreTerms f c
+  IsUnit f (PredicateUnit a) = Unit {0}
+  IsUnit f (PredicateRightUnit a b) = AreTerms f b
+  IsUnit f (PredicateLeftUnit a b) = AreTerms f a
+  IsUnit f (PredicateBothUnit a b c) = AreTerms f a × AreTerms f c
+  IsUnit f (IsTypeUnit a b c) = IsTerm f a × IsType f c
+  IsUnit f (IsAdjectivesUnit a b c d) = IsTerm f a × IsAdjective f c × AreAdjectives f d
 
-  pub IsQuantified : QuantifiedData → Type 0
-  IsQuantified (ForQuantified a b c d f) = IsDeclared b × AreDeclared b c × IsFormula f
-  IsQuantified (ForSuchQuantified a b c d e g f) = IsDeclared b × AreDeclared b c × IsFormula e × IsFormula f
-  IsQuantified (ForFurtherQuantified a b c q) = IsDeclared b × AreDeclared b c × IsQuantified q
-  IsQuantified (ForSuchFurtherQuantified a b c d e q) = IsDeclared b × AreDeclared b c × IsFormula e × IsQuantified q
-  IsQuantified (ExistsQuantified a b c d f) = IsDeclared b × AreDeclared b c × IsFormula f
+  pub IsQuantified : Bool → QuantifiedData → Type 0
+  IsQuantified f (ForQuantified a b c d g) = IsDeclared f b × AreDeclared f b c × IsFormula f g
+  IsQuantified f (ForSuchQuantified a b c d e h g) = IsDeclared f b × AreDeclared f b c × IsFormula f e × IsFormula f g
+  IsQuantified f (ForFurtherQuantified a b c q) = IsDeclared f b × AreDeclared f b c × IsQuantified f q
+  IsQuantified f (ForSuchFurtherQuantified a b c d e q) = IsDeclared f b × AreDeclared f b c × IsFormula f e × IsQuantified f q
+  IsQuantified f (ExistsQuantified a b c d g) = IsDeclared f b × AreDeclared f b c × IsFormula f g
 
-abbrev pub AreDeclarations : DeclarationsData → Type 0
-AreDeclarations a = IsDeclared a.first × AreDeclared a.first a.more
+abbrev pub AreDeclarations : Bool → DeclarationsData → Type 0
+AreDeclarations f a = IsDeclared f a.first × AreDeclared f a.first a.more
 
 abbrev pub AreSomeAdjectives : Bool → AdjectivesData → Type 0
 AreSomeAdjectives f a = IsAdjective f a.first × AreAdjectives f a.more

@@ -4,14 +4,14 @@ use Rattle.std.specs.Str.{bytes_eq}
 use Rattle.mz_base.specs.declared.place.Place.{Place}
 use Rattle.mz_base.specs.declared.symbol_kind.SymbolKind.{SymbolKind}
 use Rattle.mz_base.specs.declared.symbol_kind.SymbolKind.TheVariants as symbols
-use Rattle.mz_base.specs.declared.token_kind.TokenKind.{TokenKind}
-use Rattle.mz_base.specs.declared.token_kind.TokenKind.TheVariants.{Reserved, Special, Symbol, Identifier, Numeral}
-use Rattle.mz_marks.specs.declared.mark.Mark.{Mark}
-use Rattle.mz_marks.specs.declared.mark.Mark.TheVariants as marks
-use Rattle.mz_marks.specs.declared.marked_token.MarkedToken.{MarkedToken}
+use Rattle.mz_base.specs.declared.token.TokenKind.{TokenKind}
+use Rattle.mz_base.specs.declared.token.TokenKind.TheVariants.{Reserved, Special, Symbol, Identifier, Numeral}
+use Rattle.mz_base.specs.declared.token.Mark.{Mark}
+use Rattle.mz_base.specs.declared.token.Mark.TheVariants as marks
+use Rattle.mz_base.specs.declared.token.MarkedToken.{MarkedToken}
 use Rattle.mz_tree.specs.declared.word.Word.{Word}
-use Rattle.mz_tree.specs.declared.comma.Comma.{Comma}
-use Rattle.mz_tree.specs.declared.being.Being.{Being}
+use Rattle.mz_tree.specs.declared.word.Comma.{Comma}
+use Rattle.mz_tree.specs.declared.word.Being.{Being}
 
 abbrev pub marked : TokenKind → Place → List ℕ → ℕ → Mark → MarkedToken
 marked k p s n m = record { token = record { kind = k; place = p; spelling = s; priority = n }; mark = m }

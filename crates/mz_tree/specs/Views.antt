@@ -1,11 +1,11 @@
 -- The trees of the program as those of the grammar.
-use Rattle.std.specs.Prelude.{ℕ, List, map, Vec, Option}
+use Rattle.std.specs.Prelude.{ℕ, List, map, Vec, Box, Option}
 use Rattle.std.specs.declared.alloc.Global.{Global}
 use Rattle.mz_tree.specs.Trees.{DeclarationsData, AdjectivesData, TermData, PieceData, PrefixData, BeforeData, BaseData, TermsData, NextTermData, AdjectiveData, TypeData, DeclaredData, NextDeclaredData, FormulaData, DisjunctionData, NextConjunctionData, ConjunctionData, NextUnitData, UnitData, QuantifiedData, PrefixList, PlainAdjective, WithIdentifierAdjective, WithTermsAdjective, IdentifierBase, SubjectBase, ArgumentBase, GroupBase, CallBase, CallWithBase, SelectorBase, AggregateBase, BracketsBase, BracesBase, SquaresBase, SetOfBase, ChoiceBase, ChoiceStructureBase, PlainDeclared, TypedDeclared, PlainFormula, ImpliesFormula, IffFormula, FunctorPiece, OperandPiece, SelectorPrefix, ChoiceOfPrefix, ChoiceOverPrefix, ForQuantified, ForSuchQuantified, ForFurtherQuantified, ForSuchFurtherQuantified, ExistsQuantified, ModeType, ModeOfType, StructureType, StructureOverType, NotUnit, ContradictionUnit, ThesisUnit, QuantifiedUnit, GroupUnit, PrivateUnit, PrivateWithUnit, PredicateUnit, PredicateRightUnit, PredicateLeftUnit, PredicateBothUnit, IsTypeUnit, IsAdjectivesUnit, RunTerm, OperandBefore, ListTerms, NextNextTerm, NextNextDeclared, ChainDisjunction, OrNextConjunction, ChainConjunction, AndNextUnit, pieces_of, prefixs_of, befores_of, next_terms_of, adjectives_of, next_declareds_of, next_conjunctions_of, next_units_of}
 use Rattle.mz_base.specs.declared.place.Place.{Place}
 use Rattle.mz_tree.specs.declared.word.Word.{Word}
-use Rattle.mz_tree.specs.declared.comma.Comma.{Comma}
-use Rattle.mz_tree.specs.declared.being.Being.{Being}
+use Rattle.mz_tree.specs.declared.word.Comma.{Comma}
+use Rattle.mz_tree.specs.declared.word.Being.{Being}
 use Rattle.mz_tree.specs.declared.chain.Next.{Next}
 use Rattle.mz_tree.specs.declared.chain.Chain.{Chain}
 use Rattle.mz_tree.specs.declared.chain.Before.{Before}
@@ -41,8 +41,8 @@ terms_view c = ListTerms c.first (next_terms_of (map next_term_view c.more.items
 abbrev pub next_declared_view : Next Comma DeclaredData → NextDeclaredData
 next_declared_view n = NextNextDeclared n.sign n.tree
 
-abbrev pub next_unit_view : Next Place UnitData → NextUnitData
-next_unit_view n = AndNextUnit n.sign n.tree
+abbrev pub next_unit_view : Next Place (Box UnitData Global) → NextUnitData
+next_unit_view n = AndNextUnit n.sign n.tree.value
 
 abbrev pub next_conjunction_view : Next Place ConjunctionData → NextConjunctionData
 next_conjunction_view n = OrNextConjunction n.sign n.tree
@@ -73,7 +73,7 @@ base_step (BaseNode-F.ChoiceStructure a b c) = ChoiceStructureBase a (adjectives
 
 abbrev pub declared_step : DeclaredNode-F AdjectiveData BaseData DeclaredData FormulaData PieceData PrefixData QuantifiedData TypeData UnitData ConjunctionData OperandData TermData → DeclaredData
 declared_step (DeclaredNode-F.DeclaredNode::Plain a) = PlainDeclared a
-declared_step (DeclaredNode-F.Typed a b c) = TypedDeclared a b c
+declared_step (DeclaredNode-F.Typed a b c) = TypedDeclared a b c.value
 
 abbrev pub formula_step : FormulaNode-F AdjectiveData BaseData DeclaredData FormulaData PieceData PrefixData QuantifiedData TypeData UnitData ConjunctionData OperandData TermData → FormulaData
 formula_step (FormulaNode-F.FormulaNode::Plain a) = PlainFormula (disjunction_view a)
@@ -82,7 +82,7 @@ formula_step (FormulaNode-F.Iff a b c) = IffFormula (disjunction_view a) b (disj
 
 abbrev pub piece_step : PieceNode-F AdjectiveData BaseData DeclaredData FormulaData PieceData PrefixData QuantifiedData TypeData UnitData ConjunctionData OperandData TermData → PieceData
 piece_step (PieceNode-F.Functor a b) = FunctorPiece a b
-piece_step (PieceNode-F.Operand a) = OperandPiece a.value.prefixes a.value.base
+piece_step (PieceNode-F.Operand a) = OperandPiece a.prefixes a.base
 
 abbrev pub prefix_step : PrefixNode-F AdjectiveData BaseData DeclaredData FormulaData PieceData PrefixData QuantifiedData TypeData UnitData ConjunctionData OperandData TermData → PrefixData
 prefix_step (PrefixNode-F.PrefixNode::Selector a b c) = SelectorPrefix a b c
@@ -114,14 +114,14 @@ unit_step (UnitNode-F.Predicate a) = PredicateUnit a
 unit_step (UnitNode-F.PredicateRight a b) = PredicateRightUnit a (terms_view b)
 unit_step (UnitNode-F.PredicateLeft a b) = PredicateLeftUnit (terms_view a) b
 unit_step (UnitNode-F.PredicateBoth a b c) = PredicateBothUnit (terms_view a) b (terms_view c)
-unit_step (UnitNode-F.IsType a b c) = IsTypeUnit a b c
+unit_step (UnitNode-F.IsType a b c) = IsTypeUnit a b c.value
 unit_step (UnitNode-F.IsAdjectives a b c d) = IsAdjectivesUnit a b c (adjectives_of d.items)
 
 abbrev pub conjunction_step : ConjunctionNode-F AdjectiveData BaseData DeclaredData FormulaData PieceData PrefixData QuantifiedData TypeData UnitData ConjunctionData OperandData TermData → ConjunctionData
-conjunction_step t = ChainConjunction t.first (next_units_of (map next_unit_view t.more.items))
+conjunction_step t = ChainConjunction t.first.value (next_units_of (map next_unit_view t.more.items))
 
 abbrev pub operand_step : OperandNode-F AdjectiveData BaseData DeclaredData FormulaData PieceData PrefixData QuantifiedData TypeData UnitData ConjunctionData OperandData TermData → OperandData
-operand_step t = record { prefixes = prefixs_of t.prefixes.items; base = t.base }
+operand_step t = record { prefixes = prefixs_of t.prefixes.items; base = t.base.value }
 
 abbrev pub term_step : TermNode-F AdjectiveData BaseData DeclaredData FormulaData PieceData PrefixData QuantifiedData TypeData UnitData ConjunctionData OperandData TermData → TermData
 term_step t = RunTerm t.first (pieces_of t.more.items)
@@ -174,8 +174,8 @@ terms_of c = ListTerms (term_of c.first) (next_terms_of (map next_term_of c.more
 abbrev pub next_declared_of : Next Comma DeclaredNode → NextDeclaredData
 next_declared_of n = NextNextDeclared n.sign (declared_of n.tree)
 
-abbrev pub next_unit_of : Next Place UnitNode → NextUnitData
-next_unit_of n = AndNextUnit n.sign (unit_of n.tree)
+abbrev pub next_unit_of : Next Place (Box UnitNode Global) → NextUnitData
+next_unit_of n = AndNextUnit n.sign (unit_of n.tree.value)
 
 abbrev pub next_conjunction_of : Next Place ConjunctionNode → NextConjunctionData
 next_conjunction_of n = OrNextConjunction n.sign (conjunction_of n.tree)

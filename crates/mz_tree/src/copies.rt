@@ -34,7 +34,7 @@ impl PieceNode {
     {
         match self {
             PieceNode::Functor(a, b) => Ok(PieceNode::Functor(a.copy(alloc)?, *b)),
-            PieceNode::Operand(a) => Ok(PieceNode::Operand(Box::new(alloc, a.copy(alloc)?)?)),
+            PieceNode::Operand(a) => Ok(PieceNode::Operand(a.copy(alloc)?)),
         }
     }
 }
@@ -49,7 +49,7 @@ impl OperandNode {
         for prefix in &self.prefixes {
             prefixes.push(prefix.copy(alloc)?)?;
         }
-        let base = self.base.copy(alloc)?;
+        let base = self.base.boxed(alloc)?;
         Ok(OperandNode { prefixes, base })
     }
 }
@@ -127,8 +127,8 @@ impl BaseNode {
             BaseNode::SetOf(a, b, c, d, e, f, g, h, i) => {
                 let b = b.copy(alloc)?;
                 let d = d.copy(alloc)?;
-                let f = Box::new(alloc, f.copy(alloc)?)?;
-                let h = Box::new(alloc, h.copy(alloc)?)?;
+                let f = f.boxed(alloc)?;
+                let h = h.boxed(alloc)?;
                 Ok(BaseNode::SetOf(*a, b, *c, d, *e, f, *g, h, *i))
             }
             BaseNode::Choice(a, b, c) => {
@@ -138,6 +138,15 @@ impl BaseNode {
                 Ok(BaseNode::ChoiceStructure(*a, copy_adjectives(alloc, b)?, c.copy(alloc)?))
             }
         }
+    }
+
+    /// An equal tree in a box.
+    #[cycle(copy)]
+    pub fn boxed(&self, alloc: Global) -> Result<Box<BaseNode>, AllocError>
+        ensures { IfOk result (λ t. base_of t.value ≡ base_of self.now) }
+    {
+        let copy = self.copy(alloc)?;
+        Ok(Box::new(alloc, copy)?)
     }
 }
 
@@ -222,6 +231,15 @@ impl TypeNode {
             }
         }
     }
+
+    /// An equal tree in a box.
+    #[cycle(copy)]
+    pub fn boxed(&self, alloc: Global) -> Result<Box<TypeNode>, AllocError>
+        ensures { IfOk result (λ t. type_of t.value ≡ type_of self.now) }
+    {
+        let copy = self.copy(alloc)?;
+        Ok(Box::new(alloc, copy)?)
+    }
 }
 
 impl DeclaredNode {
@@ -235,7 +253,7 @@ impl DeclaredNode {
             DeclaredNode::Plain(a) => Ok(DeclaredNode::Plain(a.copy(alloc)?)),
             DeclaredNode::Typed(a, b, c) => {
                 let a = a.copy(alloc)?;
-                Ok(DeclaredNode::Typed(a, *b, c.copy(alloc)?))
+                Ok(DeclaredNode::Typed(a, *b, c.boxed(alloc)?))
             }
         }
     }
@@ -280,6 +298,15 @@ impl FormulaNode {
             }
         }
     }
+
+    /// An equal tree in a box.
+    #[cycle(copy)]
+    pub fn boxed(&self, alloc: Global) -> Result<Box<FormulaNode>, AllocError>
+        ensures { IfOk result (λ t. formula_of t.value ≡ formula_of self.now) }
+    {
+        let copy = self.copy(alloc)?;
+        Ok(Box::new(alloc, copy)?)
+    }
 }
 
 /// An equal disjunction.
@@ -310,13 +337,13 @@ impl ConjunctionNode {
     {
         let mut more = Vec::new(alloc);
         for next in &self.more {
-            let tree = next.tree.copy(alloc)?;
+            let tree = next.tree.boxed(alloc)?;
             more.push(Next {
                 sign: next.sign,
                 tree,
             })?;
         }
-        let first = self.first.copy(alloc)?;
+        let first = self.first.boxed(alloc)?;
         Ok(ConjunctionNode { first, more })
     }
 }
@@ -329,12 +356,12 @@ impl UnitNode {
         ensures { IfOk result (λ t. unit_of t ≡ unit_of self.now) }
     {
         match self {
-            UnitNode::Not(a, b) => Ok(UnitNode::Not(*a, Box::new(alloc, b.copy(alloc)?)?)),
+            UnitNode::Not(a, b) => Ok(UnitNode::Not(*a, b.boxed(alloc)?)),
             UnitNode::Contradiction(a) => Ok(UnitNode::Contradiction(*a)),
             UnitNode::Thesis(a) => Ok(UnitNode::Thesis(*a)),
-            UnitNode::Quantified(a) => Ok(UnitNode::Quantified(Box::new(alloc, a.copy(alloc)?)?)),
+            UnitNode::Quantified(a) => Ok(UnitNode::Quantified(a.boxed(alloc)?)),
             UnitNode::Group(a, b, c) => {
-                let b = Box::new(alloc, b.copy(alloc)?)?;
+                let b = b.boxed(alloc)?;
                 Ok(UnitNode::Group(*a, b, *c))
             }
             UnitNode::Private(a, b, c) => Ok(UnitNode::Private(a.copy(alloc)?, *b, *c)),
@@ -356,13 +383,22 @@ impl UnitNode {
                 let b = b.copy(alloc)?;
                 Ok(UnitNode::PredicateBoth(a, b, copy_terms(alloc, c)?))
             }
-            UnitNode::IsType(a, b, c) => Ok(UnitNode::IsType(a.copy(alloc)?, *b, c.copy(alloc)?)),
+            UnitNode::IsType(a, b, c) => Ok(UnitNode::IsType(a.copy(alloc)?, *b, c.boxed(alloc)?)),
             UnitNode::IsAdjectives(a, b, c, d) => {
                 let a = a.copy(alloc)?;
                 let c = c.copy(alloc)?;
                 Ok(UnitNode::IsAdjectives(a, *b, c, copy_adjectives(alloc, d)?))
             }
         }
+    }
+
+    /// An equal tree in a box.
+    #[cycle(copy)]
+    pub fn boxed(&self, alloc: Global) -> Result<Box<UnitNode>, AllocError>
+        ensures { IfOk result (λ t. unit_of t.value ≡ unit_of self.now) }
+    {
+        let copy = self.copy(alloc)?;
+        Ok(Box::new(alloc, copy)?)
     }
 }
 
@@ -376,31 +412,40 @@ impl QuantifiedNode {
         match self {
             QuantifiedNode::For(a, b, c, d) => {
                 let b = copy_declarations(alloc, b)?;
-                let d = Box::new(alloc, d.copy(alloc)?)?;
+                let d = d.boxed(alloc)?;
                 Ok(QuantifiedNode::For(*a, b, *c, d))
             }
             QuantifiedNode::ForSuch(a, b, c, d, e, f) => {
                 let b = copy_declarations(alloc, b)?;
-                let d = Box::new(alloc, d.copy(alloc)?)?;
-                let f = Box::new(alloc, f.copy(alloc)?)?;
+                let d = d.boxed(alloc)?;
+                let f = f.boxed(alloc)?;
                 Ok(QuantifiedNode::ForSuch(*a, b, *c, d, *e, f))
             }
             QuantifiedNode::ForFurther(a, b, c) => {
                 let b = copy_declarations(alloc, b)?;
-                let c = Box::new(alloc, c.copy(alloc)?)?;
+                let c = c.boxed(alloc)?;
                 Ok(QuantifiedNode::ForFurther(*a, b, c))
             }
             QuantifiedNode::ForSuchFurther(a, b, c, d, e) => {
                 let b = copy_declarations(alloc, b)?;
-                let d = Box::new(alloc, d.copy(alloc)?)?;
-                let e = Box::new(alloc, e.copy(alloc)?)?;
+                let d = d.boxed(alloc)?;
+                let e = e.boxed(alloc)?;
                 Ok(QuantifiedNode::ForSuchFurther(*a, b, *c, d, e))
             }
             QuantifiedNode::Exists(a, b, c, d) => {
                 let b = copy_declarations(alloc, b)?;
-                let d = Box::new(alloc, d.copy(alloc)?)?;
+                let d = d.boxed(alloc)?;
                 Ok(QuantifiedNode::Exists(*a, b, *c, d))
             }
         }
+    }
+
+    /// An equal tree in a box.
+    #[cycle(copy)]
+    pub fn boxed(&self, alloc: Global) -> Result<Box<QuantifiedNode>, AllocError>
+        ensures { IfOk result (λ t. quantified_of t.value ≡ quantified_of self.now) }
+    {
+        let copy = self.copy(alloc)?;
+        Ok(Box::new(alloc, copy)?)
     }
 }

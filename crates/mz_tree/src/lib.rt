@@ -1,24 +1,13 @@
-//! Trees of expressions with their spelling.
+//! Trees of expressions, and the tokens that they are spelled with.
 #![tactic(auto)]
 
-pub mod adjectives;
-pub mod being;
 pub mod chain;
-pub mod comma;
-pub mod copied;
 pub mod copies;
-pub mod declarations;
-pub mod formula;
+pub mod emit;
+pub mod expressions;
+pub mod lists;
 pub mod nodes;
-pub mod optional;
-pub mod put;
-pub mod separated;
+pub mod places;
 pub mod spell;
-pub mod spelling;
-pub mod term;
-pub mod terms;
-#[cfg(test)]
-mod tests;
-pub mod trees;
-pub mod type_form;
+pub mod tree;
 pub mod word;

@@ -1,8 +1,9 @@
-//! The trees of expressions.
-use crate::being::Being;
+//! The nodes of expressions.
+//!
+//! An enum of many variants always stands in a `Box`: a function that holds one itself while another call may fail takes
+//! long to check.
 use crate::chain::{Before, Chain, Next};
-use crate::comma::Comma;
-use crate::word::Word;
+use crate::word::{Being, Comma, Word};
 use mz_base::place::Place;
 
 /// Terms with list commas between them.
@@ -27,7 +28,7 @@ pub struct TermNode {
 #[derive(Drop)]
 pub enum PieceNode {
     Functor(Word, u8),
-    Operand(Box<OperandNode>),
+    Operand(OperandNode),
 }
 
 /// An operand: its prefixes, and the base behind them.
@@ -35,7 +36,7 @@ pub enum PieceNode {
 #[derive(Drop)]
 pub struct OperandNode {
     pub prefixes: Vec<PrefixNode>,
-    pub base: BaseNode,
+    pub base: Box<BaseNode>,
 }
 
 /// What stands before the base of an operand: `the U of`, or a choice up to its last operand.
@@ -91,7 +92,7 @@ pub enum TypeNode {
 #[derive(Drop)]
 pub enum DeclaredNode {
     Plain(Word),
-    Typed(Word, Being, TypeNode),
+    Typed(Word, Being, Box<TypeNode>),
 }
 
 /// A formula.
@@ -107,8 +108,8 @@ pub enum FormulaNode {
 #[cycle(nodes)]
 #[derive(Drop)]
 pub struct ConjunctionNode {
-    pub first: UnitNode,
-    pub more: Vec<Next<Place, UnitNode>>,
+    pub first: Box<UnitNode>,
+    pub more: Vec<Next<Place, Box<UnitNode>>>,
 }
 
 /// A formula without chains.
@@ -126,7 +127,7 @@ pub enum UnitNode {
     PredicateRight(Word, TermsNode),
     PredicateLeft(TermsNode, Word),
     PredicateBoth(TermsNode, Word, TermsNode),
-    IsType(TermNode, Place, TypeNode),
+    IsType(TermNode, Place, Box<TypeNode>),
     IsAdjectives(TermNode, Place, AdjectiveNode, Vec<AdjectiveNode>),
 }
 

@@ -7,19 +7,19 @@ ghost use Rattle.mz_tree.specs.Spell.{spell_term, spell_piece, spell_prefix_list
 ghost use Rattle.mz_tree.specs.Views.{term_of, piece_of, operand_of, prefix_of, before_of, base_of, terms_of, adjective_of, type_of, declared_of, next_declared_of, formula_of, disjunction_of, conjunction_of, unit_of, quantified_of};
 
 use crate::chain::Before;
+use crate::emit::{
+    emit_argument, emit_being, emit_bound, emit_comma, emit_empty, emit_functor, emit_identifier,
+    emit_list_comma, emit_mode, emit_non, emit_reserved, emit_selector, emit_special, emit_symbol,
+};
 use crate::nodes::{
     AdjectiveNode, BaseNode, ConjunctionNode, DeclarationsNode, DeclaredNode, DisjunctionNode,
     FormulaNode, OperandNode, PieceNode, PrefixNode, QuantifiedNode, TermNode, TermsNode, TypeNode,
     UnitNode,
 };
-use crate::put::{
-    put_argument, put_being, put_bound, put_comma, put_empty, put_functor, put_identifier,
-    put_list_comma, put_mode, put_non, put_reserved, put_selector, put_special, put_symbol,
-};
 use crate::word::Word;
 use mz_base::place::Place;
 use mz_base::symbol_kind::SymbolKind;
-use mz_marks::marked_token::MarkedToken;
+use mz_base::token::MarkedToken;
 use std::alloc::{AllocError, Global};
 
 impl TermNode {
@@ -48,7 +48,7 @@ impl TermNode {
         ensures { IfOk result (λ _. out.new.items ≡ out.old.items ++ spell_term (term_of self.now) ++ reserved is (codes "is") ∷ []) }
     {
         self.spell(alloc, out)?;
-        put_reserved(alloc, out, is, b"is")
+        emit_reserved(alloc, out, is, b"is")
     }
 }
 
@@ -60,7 +60,7 @@ impl PieceNode {
         ensures { IfOk result (λ _. out.new.items ≡ out.old.items ++ spell_piece (piece_of self.now)) }
     {
         match self {
-            PieceNode::Functor(a, b) => put_functor(alloc, out, a, *b),
+            PieceNode::Functor(a, b) => emit_functor(alloc, out, a, *b),
             PieceNode::Operand(a) => a.spell(alloc, out),
         }
     }
@@ -91,7 +91,7 @@ fn spell_befores(
 {
     for before in befores {
         before.tree.spell(alloc, out)?;
-        put_list_comma(alloc, out, before.comma)?;
+        emit_list_comma(alloc, out, before.comma)?;
     }
     Ok(())
 }
@@ -105,19 +105,19 @@ impl PrefixNode {
     {
         match self {
             PrefixNode::Selector(a, b, c) => {
-                put_selector(alloc, out, *a, b)?;
-                put_reserved(alloc, out, *c, b"of")
+                emit_selector(alloc, out, *a, b)?;
+                emit_reserved(alloc, out, *c, b"of")
             }
             PrefixNode::ChoiceOf(a, b, c, d, e) => {
                 spell_after_the(alloc, out, *a, b)?;
-                put_mode(alloc, out, c)?;
-                put_reserved(alloc, out, *d, b"of")?;
+                emit_mode(alloc, out, c)?;
+                emit_reserved(alloc, out, *d, b"of")?;
                 spell_befores(alloc, out, e)
             }
             PrefixNode::ChoiceOver(a, b, c, d, e) => {
                 spell_after_the(alloc, out, *a, b)?;
-                put_symbol(alloc, out, SymbolKind::Structure, c)?;
-                put_reserved(alloc, out, *d, b"over")?;
+                emit_symbol(alloc, out, SymbolKind::Structure, c)?;
+                emit_reserved(alloc, out, *d, b"over")?;
                 spell_befores(alloc, out, e)
             }
         }
@@ -132,37 +132,37 @@ impl BaseNode {
         ensures { IfOk result (λ _. out.new.items ≡ out.old.items ++ spell_base (base_of self.now)) }
     {
         match self {
-            BaseNode::Identifier(a) => put_identifier(alloc, out, a),
-            BaseNode::Subject(a) => put_reserved(alloc, out, *a, b"it"),
-            BaseNode::Argument(a, b) => put_argument(alloc, out, *a, *b),
+            BaseNode::Identifier(a) => emit_identifier(alloc, out, a),
+            BaseNode::Subject(a) => emit_reserved(alloc, out, *a, b"it"),
+            BaseNode::Argument(a, b) => emit_argument(alloc, out, *a, *b),
             BaseNode::Group(a, b, c) => spell_between(alloc, out, *a, b"(", b, *c, b")"),
-            BaseNode::Call(a, b, c) => put_empty(alloc, out, a, *b, b"(", *c, b")"),
+            BaseNode::Call(a, b, c) => emit_empty(alloc, out, a, *b, b"(", *c, b")"),
             BaseNode::CallWith(a, b, c, d) => {
-                put_identifier(alloc, out, a)?;
+                emit_identifier(alloc, out, a)?;
                 spell_between(alloc, out, *b, b"(", c, *d, b")")
             }
-            BaseNode::Selector(a, b) => put_selector(alloc, out, *a, b),
+            BaseNode::Selector(a, b) => emit_selector(alloc, out, *a, b),
             BaseNode::Aggregate(a, b, c, d) => {
-                put_symbol(alloc, out, SymbolKind::Structure, a)?;
+                emit_symbol(alloc, out, SymbolKind::Structure, a)?;
                 spell_between(alloc, out, *b, b"(#", c, *d, b"#)")
             }
             BaseNode::Brackets(a, b, c) => spell_bracketed(alloc, out, a, b, c),
             BaseNode::Braces(a, b, c) => spell_between(alloc, out, *a, b"{", b, *c, b"}"),
             BaseNode::Squares(a, b, c) => spell_between(alloc, out, *a, b"[", b, *c, b"]"),
             BaseNode::SetOf(a, b, c, d, e, f, g, h, i) => {
-                put_special(alloc, out, *a, b"{")?;
+                emit_special(alloc, out, *a, b"{")?;
                 b.spell(alloc, out)?;
-                put_bound(alloc, out, *c, d, *e)?;
+                emit_bound(alloc, out, *c, d, *e)?;
                 f.spell(alloc, out)?;
                 h.spell_between(alloc, out, *g, b":", *i, b"}")
             }
             BaseNode::Choice(a, b, c) => {
                 spell_after_the(alloc, out, *a, b)?;
-                put_mode(alloc, out, c)
+                emit_mode(alloc, out, c)
             }
             BaseNode::ChoiceStructure(a, b, c) => {
                 spell_after_the(alloc, out, *a, b)?;
-                put_symbol(alloc, out, SymbolKind::Structure, c)
+                emit_symbol(alloc, out, SymbolKind::Structure, c)
             }
         }
     }
@@ -180,7 +180,7 @@ pub fn spell_terms_of(
 {
     terms.first.spell(alloc, out)?;
     for next in &terms.more {
-        put_list_comma(alloc, out, next.sign)?;
+        emit_list_comma(alloc, out, next.sign)?;
         next.tree.spell(alloc, out)?;
     }
     Ok(())
@@ -200,9 +200,9 @@ fn spell_between(
 ) -> Result<(), AllocError>
     ensures { IfOk result (λ _. out.new.items ≡ out.old.items ++ special left left_sign.now ∷ spell_terms (terms_of terms.now) ++ special right right_sign.now ∷ []) }
 {
-    put_special(alloc, out, left, left_sign)?;
+    emit_special(alloc, out, left, left_sign)?;
     spell_terms_of(alloc, out, terms)?;
-    put_special(alloc, out, right, right_sign)
+    emit_special(alloc, out, right, right_sign)
 }
 
 /// Adds the tokens of terms between two symbols of brackets.
@@ -217,9 +217,9 @@ fn spell_bracketed(
 ) -> Result<(), AllocError>
     ensures { IfOk result (λ _. out.new.items ≡ out.old.items ++ symbol symbols.LeftBracket left.now ∷ spell_terms (terms_of terms.now) ++ symbol symbols.RightBracket right.now ∷ []) }
 {
-    put_symbol(alloc, out, SymbolKind::LeftBracket, left)?;
+    emit_symbol(alloc, out, SymbolKind::LeftBracket, left)?;
     spell_terms_of(alloc, out, terms)?;
-    put_symbol(alloc, out, SymbolKind::RightBracket, right)
+    emit_symbol(alloc, out, SymbolKind::RightBracket, right)
 }
 
 /// Adds the tokens of terms and the predicate symbol behind them.
@@ -234,7 +234,7 @@ fn spell_left(
     ensures { IfOk result (λ _. out.new.items ≡ out.old.items ++ spell_terms (terms_of terms.now) ++ symbol symbols.Predicate predicate.now ∷ []) }
 {
     spell_terms_of(alloc, out, terms)?;
-    put_symbol(alloc, out, SymbolKind::Predicate, predicate)
+    emit_symbol(alloc, out, SymbolKind::Predicate, predicate)
 }
 
 impl AdjectiveNode {
@@ -246,18 +246,18 @@ impl AdjectiveNode {
     {
         match self {
             AdjectiveNode::Plain(a, b) => {
-                put_non(alloc, out, *a)?;
-                put_symbol(alloc, out, SymbolKind::Attribute, b)
+                emit_non(alloc, out, *a)?;
+                emit_symbol(alloc, out, SymbolKind::Attribute, b)
             }
             AdjectiveNode::WithIdentifier(a, b, c) => {
-                put_non(alloc, out, *a)?;
-                put_identifier(alloc, out, b)?;
-                put_symbol(alloc, out, SymbolKind::Attribute, c)
+                emit_non(alloc, out, *a)?;
+                emit_identifier(alloc, out, b)?;
+                emit_symbol(alloc, out, SymbolKind::Attribute, c)
             }
             AdjectiveNode::WithTerms(a, b, c, d, e) => {
-                put_non(alloc, out, *a)?;
+                emit_non(alloc, out, *a)?;
                 spell_between(alloc, out, *b, b"(", c, *d, b")")?;
-                put_symbol(alloc, out, SymbolKind::Attribute, e)
+                emit_symbol(alloc, out, SymbolKind::Attribute, e)
             }
         }
     }
@@ -290,7 +290,7 @@ fn spell_after_the(
 ) -> Result<(), AllocError>
     ensures { IfOk result (λ _. out.new.items ≡ out.old.items ++ reserved the (codes "the") ∷ flat_map spell_adjective (map adjective_of adjectives.now)) }
 {
-    put_reserved(alloc, out, the, b"the")?;
+    emit_reserved(alloc, out, the, b"the")?;
     spell_adjectives_of(alloc, out, adjectives)
 }
 
@@ -304,22 +304,22 @@ impl TypeNode {
         match self {
             TypeNode::Mode(a, b) => {
                 spell_adjectives_of(alloc, out, a)?;
-                put_mode(alloc, out, b)
+                emit_mode(alloc, out, b)
             }
             TypeNode::ModeOf(a, b, c, d) => {
                 spell_adjectives_of(alloc, out, a)?;
-                put_mode(alloc, out, b)?;
-                put_reserved(alloc, out, *c, b"of")?;
+                emit_mode(alloc, out, b)?;
+                emit_reserved(alloc, out, *c, b"of")?;
                 spell_terms_of(alloc, out, d)
             }
             TypeNode::Structure(a, b) => {
                 spell_adjectives_of(alloc, out, a)?;
-                put_symbol(alloc, out, SymbolKind::Structure, b)
+                emit_symbol(alloc, out, SymbolKind::Structure, b)
             }
             TypeNode::StructureOver(a, b, c, d) => {
                 spell_adjectives_of(alloc, out, a)?;
-                put_symbol(alloc, out, SymbolKind::Structure, b)?;
-                put_reserved(alloc, out, *c, b"over")?;
+                emit_symbol(alloc, out, SymbolKind::Structure, b)?;
+                emit_reserved(alloc, out, *c, b"over")?;
                 spell_terms_of(alloc, out, d)
             }
         }
@@ -334,10 +334,10 @@ impl DeclaredNode {
         ensures { IfOk result (λ _. out.new.items ≡ out.old.items ++ spell_declared (declared_of self.now)) }
     {
         match self {
-            DeclaredNode::Plain(a) => put_identifier(alloc, out, a),
+            DeclaredNode::Plain(a) => emit_identifier(alloc, out, a),
             DeclaredNode::Typed(a, b, c) => {
-                put_identifier(alloc, out, a)?;
-                put_being(alloc, out, *b)?;
+                emit_identifier(alloc, out, a)?;
+                emit_being(alloc, out, *b)?;
                 c.spell(alloc, out)
             }
         }
@@ -356,7 +356,7 @@ pub fn spell_declarations_of(
 {
     declarations.first.spell(alloc, out)?;
     for next in &declarations.more {
-        put_comma(alloc, out, next.sign)?;
+        emit_comma(alloc, out, next.sign)?;
         next.tree.spell(alloc, out)?;
     }
     Ok(())
@@ -373,12 +373,12 @@ impl FormulaNode {
             FormulaNode::Plain(a) => spell_disjunction_of(alloc, out, a),
             FormulaNode::Implies(a, b, c) => {
                 spell_disjunction_of(alloc, out, a)?;
-                put_reserved(alloc, out, *b, b"implies")?;
+                emit_reserved(alloc, out, *b, b"implies")?;
                 spell_disjunction_of(alloc, out, c)
             }
             FormulaNode::Iff(a, b, c) => {
                 spell_disjunction_of(alloc, out, a)?;
-                put_reserved(alloc, out, *b, b"iff")?;
+                emit_reserved(alloc, out, *b, b"iff")?;
                 spell_disjunction_of(alloc, out, c)
             }
         }
@@ -398,9 +398,9 @@ impl FormulaNode {
     ) -> Result<(), AllocError>
         ensures { IfOk result (λ _. out.new.items ≡ out.old.items ++ special left left_sign.now ∷ spell_formula (formula_of self.now) ++ special right right_sign.now ∷ []) }
     {
-        put_special(alloc, out, left, left_sign)?;
+        emit_special(alloc, out, left, left_sign)?;
         self.spell(alloc, out)?;
-        put_special(alloc, out, right, right_sign)
+        emit_special(alloc, out, right, right_sign)
     }
 }
 
@@ -416,7 +416,7 @@ pub fn spell_disjunction_of(
 {
     disjunction.first.spell(alloc, out)?;
     for next in &disjunction.more {
-        put_reserved(alloc, out, next.sign, b"or")?;
+        emit_reserved(alloc, out, next.sign, b"or")?;
         next.tree.spell(alloc, out)?;
     }
     Ok(())
@@ -431,7 +431,7 @@ impl ConjunctionNode {
     {
         self.first.spell(alloc, out)?;
         for next in &self.more {
-            put_special(alloc, out, next.sign, b"&")?;
+            emit_special(alloc, out, next.sign, b"&")?;
             next.tree.spell(alloc, out)?;
         }
         Ok(())
@@ -447,21 +447,21 @@ impl UnitNode {
     {
         match self {
             UnitNode::Not(a, b) => {
-                put_reserved(alloc, out, *a, b"not")?;
+                emit_reserved(alloc, out, *a, b"not")?;
                 b.spell(alloc, out)
             }
-            UnitNode::Contradiction(a) => put_reserved(alloc, out, *a, b"contradiction"),
-            UnitNode::Thesis(a) => put_reserved(alloc, out, *a, b"thesis"),
+            UnitNode::Contradiction(a) => emit_reserved(alloc, out, *a, b"contradiction"),
+            UnitNode::Thesis(a) => emit_reserved(alloc, out, *a, b"thesis"),
             UnitNode::Quantified(a) => a.spell(alloc, out),
             UnitNode::Group(a, b, c) => b.spell_between(alloc, out, *a, b"(", *c, b")"),
-            UnitNode::Private(a, b, c) => put_empty(alloc, out, a, *b, b"[", *c, b"]"),
+            UnitNode::Private(a, b, c) => emit_empty(alloc, out, a, *b, b"[", *c, b"]"),
             UnitNode::PrivateWith(a, b, c, d) => {
-                put_identifier(alloc, out, a)?;
+                emit_identifier(alloc, out, a)?;
                 spell_between(alloc, out, *b, b"[", c, *d, b"]")
             }
-            UnitNode::Predicate(a) => put_symbol(alloc, out, SymbolKind::Predicate, a),
+            UnitNode::Predicate(a) => emit_symbol(alloc, out, SymbolKind::Predicate, a),
             UnitNode::PredicateRight(a, b) => {
-                put_symbol(alloc, out, SymbolKind::Predicate, a)?;
+                emit_symbol(alloc, out, SymbolKind::Predicate, a)?;
                 spell_terms_of(alloc, out, b)
             }
             UnitNode::PredicateLeft(a, b) => spell_left(alloc, out, a, b),
@@ -491,35 +491,35 @@ impl QuantifiedNode {
     {
         match self {
             QuantifiedNode::For(a, b, c, d) => {
-                put_reserved(alloc, out, *a, b"for")?;
+                emit_reserved(alloc, out, *a, b"for")?;
                 spell_declarations_of(alloc, out, b)?;
-                put_reserved(alloc, out, *c, b"holds")?;
+                emit_reserved(alloc, out, *c, b"holds")?;
                 d.spell(alloc, out)
             }
             QuantifiedNode::ForSuch(a, b, c, d, e, f) => {
-                put_reserved(alloc, out, *a, b"for")?;
+                emit_reserved(alloc, out, *a, b"for")?;
                 spell_declarations_of(alloc, out, b)?;
-                put_reserved(alloc, out, *c, b"st")?;
+                emit_reserved(alloc, out, *c, b"st")?;
                 d.spell(alloc, out)?;
-                put_reserved(alloc, out, *e, b"holds")?;
+                emit_reserved(alloc, out, *e, b"holds")?;
                 f.spell(alloc, out)
             }
             QuantifiedNode::ForFurther(a, b, c) => {
-                put_reserved(alloc, out, *a, b"for")?;
+                emit_reserved(alloc, out, *a, b"for")?;
                 spell_declarations_of(alloc, out, b)?;
                 c.spell(alloc, out)
             }
             QuantifiedNode::ForSuchFurther(a, b, c, d, e) => {
-                put_reserved(alloc, out, *a, b"for")?;
+                emit_reserved(alloc, out, *a, b"for")?;
                 spell_declarations_of(alloc, out, b)?;
-                put_reserved(alloc, out, *c, b"st")?;
+                emit_reserved(alloc, out, *c, b"st")?;
                 d.spell(alloc, out)?;
                 e.spell(alloc, out)
             }
             QuantifiedNode::Exists(a, b, c, d) => {
-                put_reserved(alloc, out, *a, b"ex")?;
+                emit_reserved(alloc, out, *a, b"ex")?;
                 spell_declarations_of(alloc, out, b)?;
-                put_reserved(alloc, out, *c, b"st")?;
+                emit_reserved(alloc, out, *c, b"st")?;
                 d.spell(alloc, out)
             }
         }

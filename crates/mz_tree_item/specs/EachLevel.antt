@@ -4,7 +4,7 @@ use Rattle.std.specs.List.{flat_map}
 use Rattle.std.proofs.Common.{ap}
 use Rattle.mz_base.specs.declared.symbol_kind.SymbolKind.TheVariants as symbols
 use Rattle.mz_forms.specs.Form.{each_append}
-use Rattle.mz_marks.specs.declared.marked_token.MarkedToken.{MarkedToken}
+use Rattle.mz_base.specs.declared.token.MarkedToken.{MarkedToken}
 use Rattle.mz_tree.specs.Spelled.{reserved, special, identifier, symbol, functor, mode, reserved_if, maybe}
 use Rattle.mz_tree.specs.Levels.{levels_if, levels_formula, levels_term, levels_type, levels_adjectives, levels_declarations, each_if, each_maybe, each_flat, each_formula, each_term, each_type, each_adjectives, each_declarations, nested_each}
 use Rattle.mz_tree.specs.Spell.{spell_formula, spell_term, spell_type, spell_adjectives, spell_declarations}
@@ -16,74 +16,74 @@ use Rattle.mz_tree_proof.specs.LevelsReasoning.{levels_just}
 use Rattle.mz_tree_proof.specs.EachLevel.{each_proposition, each_propositions}
 use Rattle.mz_tree_proof.specs.EachLevelReasoning.{each_just, each_statement}
 use Rattle.mz_tree_item.specs.Keywords.{directive_word, condition_word, property_word, notation_word}
-use Rattle.mz_tree_item.specs.Spell.{spell_identifier, spell_selector, spell_directive, spell_segment, spell_reserve, spell_theorem, spell_parameter, spell_provided, spell_scheme, spell_result, spell_loci, spell_symbol_pattern, spell_functor_pattern, spell_predicate_pattern, spell_attribute_pattern, spell_mode_loci, spell_mode_pattern, spell_pattern, spell_definition_label, spell_case, spell_otherwise, spell_cases, spell_meaning, spell_field, spell_ancestors, spell_structure_loci, spell_structure, spell_functor_heading, spell_predicate_heading, spell_attribute_heading, spell_mode_heading, spell_abbreviation, spell_heading, spell_condition, spell_property, spell_claim, spell_block_let, spell_definition_part, spell_definition, spell_notation_part, spell_notation, spell_for_type, spell_existential, spell_conditional, spell_functorial, spell_reduce, spell_identify, spell_cluster, spell_registration_part, spell_registration, spell_item, spell_article_part, spell_article}
-use Rattle.mz_tree_item.specs.Levels.{levels_identifier, levels_selector, levels_directive, levels_segment, levels_reserve, levels_theorem, levels_parameter, levels_provided, levels_scheme, levels_result, levels_loci, levels_symbol_pattern, levels_functor_pattern, levels_predicate_pattern, levels_attribute_pattern, levels_mode_loci, levels_mode_pattern, levels_pattern, levels_definition_label, levels_case, levels_otherwise, levels_cases, levels_meaning, levels_field, levels_ancestors, levels_structure_loci, levels_structure, levels_functor_heading, levels_predicate_heading, levels_attribute_heading, levels_mode_heading, levels_abbreviation, levels_heading, levels_condition, levels_property, levels_claim, levels_block_let, levels_definition_part, levels_definition, levels_notation_part, levels_notation, levels_for_type, levels_existential, levels_conditional, levels_functorial, levels_reduce, levels_identify, levels_cluster, levels_registration_part, levels_registration, levels_item, levels_article_part, levels_article}
-use Rattle.mz_tree_item.specs.declared.identifier.IdentifierTree.{IdentifierTree}
-use Rattle.mz_tree_item.specs.declared.selector.SelectorTree.{SelectorTree}
-use Rattle.mz_tree_item.specs.declared.directive.DirectiveTree.{DirectiveTree}
-use Rattle.mz_tree_item.specs.declared.segment.SegmentTree.{SegmentTree}
-use Rattle.mz_tree_item.specs.declared.reserve.ReserveTree.{ReserveTree}
-use Rattle.mz_tree_item.specs.declared.theorem.TheoremTree.{TheoremTree}
-use Rattle.mz_tree_item.specs.declared.parameter.ParameterTree.{ParameterTree}
-use Rattle.mz_tree_item.specs.declared.parameter.ParameterTree.TheVariants as parameter_tree
-use Rattle.mz_tree_item.specs.declared.provided.ProvidedTree.{ProvidedTree}
-use Rattle.mz_tree_item.specs.declared.scheme.SchemeTree.{SchemeTree}
-use Rattle.mz_tree_item.specs.declared.result.ResultTree.{ResultTree}
-use Rattle.mz_tree_item.specs.declared.loci.LociTree.{LociTree}
-use Rattle.mz_tree_item.specs.declared.loci.LociTree.TheVariants as loci_tree
-use Rattle.mz_tree_item.specs.declared.symbol_pattern.SymbolPatternTree.{SymbolPatternTree}
-use Rattle.mz_tree_item.specs.declared.functor_pattern.FunctorPatternTree.{FunctorPatternTree}
-use Rattle.mz_tree_item.specs.declared.functor_pattern.FunctorPatternTree.TheVariants as functor_pattern_tree
-use Rattle.mz_tree_item.specs.declared.predicate_pattern.PredicatePatternTree.{PredicatePatternTree}
-use Rattle.mz_tree_item.specs.declared.attribute_pattern.AttributePatternTree.{AttributePatternTree}
-use Rattle.mz_tree_item.specs.declared.mode_loci.ModeLociTree.{ModeLociTree}
-use Rattle.mz_tree_item.specs.declared.mode_pattern.ModePatternTree.{ModePatternTree}
-use Rattle.mz_tree_item.specs.declared.pattern.PatternTree.{PatternTree}
-use Rattle.mz_tree_item.specs.declared.pattern.PatternTree.TheVariants as pattern_tree
-use Rattle.mz_tree_item.specs.declared.definition_label.DefinitionLabelTree.{DefinitionLabelTree}
-use Rattle.mz_tree_item.specs.declared.case.CaseTree.{CaseTree}
-use Rattle.mz_tree_item.specs.declared.otherwise.OtherwiseTree.{OtherwiseTree}
-use Rattle.mz_tree_item.specs.declared.cases.CasesTree.{CasesTree}
-use Rattle.mz_tree_item.specs.declared.cases.CasesTree.TheVariants as cases_tree
+use Rattle.mz_tree_item.specs.Spell.{spell_identifier, spell_selector, spell_directive, spell_segment, spell_reserve, spell_theorem, spell_parameter, spell_provided, spell_scheme, spell_result, spell_loci, spell_symbol_pattern, spell_functor_pattern, spell_predicate_pattern, spell_attribute_pattern, spell_mode_loci, spell_mode_pattern, spell_pattern, spell_definition_label, spell_case, spell_otherwise, spell_cases, spell_meaning, spell_field, spell_ancestors, spell_structure_loci, spell_structure, spell_functor_heading, spell_predicate_heading, spell_attribute_heading, spell_mode_heading, spell_abbreviation, spell_heading, spell_condition, spell_property, spell_condition_or_property, spell_block_let, spell_definition_part, spell_definition, spell_notation_part, spell_notation, spell_for_type, spell_existential, spell_conditional, spell_functorial, spell_reduce, spell_identify, spell_cluster, spell_registration_part, spell_registration, spell_item, spell_article_part, spell_article}
+use Rattle.mz_tree_item.specs.Levels.{levels_identifier, levels_selector, levels_directive, levels_segment, levels_reserve, levels_theorem, levels_parameter, levels_provided, levels_scheme, levels_result, levels_loci, levels_symbol_pattern, levels_functor_pattern, levels_predicate_pattern, levels_attribute_pattern, levels_mode_loci, levels_mode_pattern, levels_pattern, levels_definition_label, levels_case, levels_otherwise, levels_cases, levels_meaning, levels_field, levels_ancestors, levels_structure_loci, levels_structure, levels_functor_heading, levels_predicate_heading, levels_attribute_heading, levels_mode_heading, levels_abbreviation, levels_heading, levels_condition, levels_property, levels_condition_or_property, levels_block_let, levels_definition_part, levels_definition, levels_notation_part, levels_notation, levels_for_type, levels_existential, levels_conditional, levels_functorial, levels_reduce, levels_identify, levels_cluster, levels_registration_part, levels_registration, levels_item, levels_article_part, levels_article}
+use Rattle.mz_tree_item.specs.declared.patterns.IdentifierTree.{IdentifierTree}
+use Rattle.mz_tree_item.specs.declared.structure.SelectorTree.{SelectorTree}
+use Rattle.mz_tree_item.specs.declared.article.DirectiveTree.{DirectiveTree}
+use Rattle.mz_tree_item.specs.declared.schemes.SegmentTree.{SegmentTree}
+use Rattle.mz_tree_item.specs.declared.schemes.ReserveTree.{ReserveTree}
+use Rattle.mz_tree_item.specs.declared.schemes.TheoremTree.{TheoremTree}
+use Rattle.mz_tree_item.specs.declared.schemes.ParameterTree.{ParameterTree}
+use Rattle.mz_tree_item.specs.declared.schemes.ParameterTree.TheVariants as parameter_tree
+use Rattle.mz_tree_item.specs.declared.schemes.ProvidedTree.{ProvidedTree}
+use Rattle.mz_tree_item.specs.declared.schemes.SchemeTree.{SchemeTree}
+use Rattle.mz_tree_item.specs.declared.heading.ResultTree.{ResultTree}
+use Rattle.mz_tree_item.specs.declared.patterns.LociTree.{LociTree}
+use Rattle.mz_tree_item.specs.declared.patterns.LociTree.TheVariants as loci_tree
+use Rattle.mz_tree_item.specs.declared.patterns.SymbolPatternTree.{SymbolPatternTree}
+use Rattle.mz_tree_item.specs.declared.patterns.FunctorPatternTree.{FunctorPatternTree}
+use Rattle.mz_tree_item.specs.declared.patterns.FunctorPatternTree.TheVariants as functor_pattern_tree
+use Rattle.mz_tree_item.specs.declared.patterns.PredicatePatternTree.{PredicatePatternTree}
+use Rattle.mz_tree_item.specs.declared.patterns.AttributePatternTree.{AttributePatternTree}
+use Rattle.mz_tree_item.specs.declared.patterns.ModeLociTree.{ModeLociTree}
+use Rattle.mz_tree_item.specs.declared.patterns.ModePatternTree.{ModePatternTree}
+use Rattle.mz_tree_item.specs.declared.patterns.PatternTree.{PatternTree}
+use Rattle.mz_tree_item.specs.declared.patterns.PatternTree.TheVariants as pattern_tree
+use Rattle.mz_tree_item.specs.declared.meaning.DefinitionLabelTree.{DefinitionLabelTree}
+use Rattle.mz_tree_item.specs.declared.meaning.CaseTree.{CaseTree}
+use Rattle.mz_tree_item.specs.declared.meaning.OtherwiseTree.{OtherwiseTree}
+use Rattle.mz_tree_item.specs.declared.meaning.CasesTree.{CasesTree}
+use Rattle.mz_tree_item.specs.declared.meaning.CasesTree.TheVariants as cases_tree
 use Rattle.mz_tree_item.specs.declared.meaning.MeaningTree.{MeaningTree}
 use Rattle.mz_tree_item.specs.declared.meaning.MeaningTree.TheVariants as meaning_tree
-use Rattle.mz_tree_item.specs.declared.field.FieldTree.{FieldTree}
-use Rattle.mz_tree_item.specs.declared.ancestors.AncestorsTree.{AncestorsTree}
-use Rattle.mz_tree_item.specs.declared.structure_loci.StructureLociTree.{StructureLociTree}
+use Rattle.mz_tree_item.specs.declared.structure.FieldTree.{FieldTree}
+use Rattle.mz_tree_item.specs.declared.structure.AncestorsTree.{AncestorsTree}
+use Rattle.mz_tree_item.specs.declared.structure.StructureLociTree.{StructureLociTree}
 use Rattle.mz_tree_item.specs.declared.structure.StructureTree.{StructureTree}
-use Rattle.mz_tree_item.specs.declared.functor_heading.FunctorHeadingTree.{FunctorHeadingTree}
-use Rattle.mz_tree_item.specs.declared.predicate_heading.PredicateHeadingTree.{PredicateHeadingTree}
-use Rattle.mz_tree_item.specs.declared.attribute_heading.AttributeHeadingTree.{AttributeHeadingTree}
-use Rattle.mz_tree_item.specs.declared.mode_heading.ModeHeadingTree.{ModeHeadingTree}
-use Rattle.mz_tree_item.specs.declared.abbreviation.AbbreviationTree.{AbbreviationTree}
+use Rattle.mz_tree_item.specs.declared.heading.FunctorHeadingTree.{FunctorHeadingTree}
+use Rattle.mz_tree_item.specs.declared.heading.PredicateHeadingTree.{PredicateHeadingTree}
+use Rattle.mz_tree_item.specs.declared.heading.AttributeHeadingTree.{AttributeHeadingTree}
+use Rattle.mz_tree_item.specs.declared.heading.ModeHeadingTree.{ModeHeadingTree}
+use Rattle.mz_tree_item.specs.declared.heading.AbbreviationTree.{AbbreviationTree}
 use Rattle.mz_tree_item.specs.declared.heading.HeadingTree.{HeadingTree}
 use Rattle.mz_tree_item.specs.declared.heading.HeadingTree.TheVariants as heading_tree
-use Rattle.mz_tree_item.specs.declared.condition.ConditionTree.{ConditionTree}
-use Rattle.mz_tree_item.specs.declared.property.PropertyTree.{PropertyTree}
-use Rattle.mz_tree_item.specs.declared.claim.ClaimTree.{ClaimTree}
-use Rattle.mz_tree_item.specs.declared.claim.ClaimTree.TheVariants as claim_tree
-use Rattle.mz_tree_item.specs.declared.block_let.BlockLetTree.{BlockLetTree}
-use Rattle.mz_tree_item.specs.declared.definition_part.DefinitionPartTree.{DefinitionPartTree}
-use Rattle.mz_tree_item.specs.declared.definition_part.DefinitionPartTree.TheVariants as definition_part_tree
+use Rattle.mz_tree_item.specs.declared.definition.ConditionTree.{ConditionTree}
+use Rattle.mz_tree_item.specs.declared.definition.PropertyTree.{PropertyTree}
+use Rattle.mz_tree_item.specs.declared.definition.ConditionOrPropertyTree.{ConditionOrPropertyTree}
+use Rattle.mz_tree_item.specs.declared.definition.ConditionOrPropertyTree.TheVariants as condition_or_property_tree
+use Rattle.mz_tree_item.specs.declared.definition.BlockLetTree.{BlockLetTree}
+use Rattle.mz_tree_item.specs.declared.definition.DefinitionPartTree.{DefinitionPartTree}
+use Rattle.mz_tree_item.specs.declared.definition.DefinitionPartTree.TheVariants as definition_part_tree
 use Rattle.mz_tree_item.specs.declared.definition.DefinitionTree.{DefinitionTree}
-use Rattle.mz_tree_item.specs.declared.notation_part.NotationPartTree.{NotationPartTree}
-use Rattle.mz_tree_item.specs.declared.notation_part.NotationPartTree.TheVariants as notation_part_tree
+use Rattle.mz_tree_item.specs.declared.notation.NotationPartTree.{NotationPartTree}
+use Rattle.mz_tree_item.specs.declared.notation.NotationPartTree.TheVariants as notation_part_tree
 use Rattle.mz_tree_item.specs.declared.notation.NotationTree.{NotationTree}
-use Rattle.mz_tree_item.specs.declared.for_type.ForTypeTree.{ForTypeTree}
-use Rattle.mz_tree_item.specs.declared.existential.ExistentialTree.{ExistentialTree}
-use Rattle.mz_tree_item.specs.declared.conditional.ConditionalTree.{ConditionalTree}
-use Rattle.mz_tree_item.specs.declared.functorial.FunctorialTree.{FunctorialTree}
-use Rattle.mz_tree_item.specs.declared.reduce.ReduceTree.{ReduceTree}
-use Rattle.mz_tree_item.specs.declared.identify.IdentifyTree.{IdentifyTree}
-use Rattle.mz_tree_item.specs.declared.cluster.ClusterTree.{ClusterTree}
-use Rattle.mz_tree_item.specs.declared.cluster.ClusterTree.TheVariants as cluster_tree
-use Rattle.mz_tree_item.specs.declared.registration_part.RegistrationPartTree.{RegistrationPartTree}
-use Rattle.mz_tree_item.specs.declared.registration_part.RegistrationPartTree.TheVariants as registration_part_tree
+use Rattle.mz_tree_item.specs.declared.registration.ForTypeTree.{ForTypeTree}
+use Rattle.mz_tree_item.specs.declared.registration.ExistentialTree.{ExistentialTree}
+use Rattle.mz_tree_item.specs.declared.registration.ConditionalTree.{ConditionalTree}
+use Rattle.mz_tree_item.specs.declared.registration.FunctorialTree.{FunctorialTree}
+use Rattle.mz_tree_item.specs.declared.registration.ReduceTree.{ReduceTree}
+use Rattle.mz_tree_item.specs.declared.registration.IdentifyTree.{IdentifyTree}
+use Rattle.mz_tree_item.specs.declared.registration.ClusterTree.{ClusterTree}
+use Rattle.mz_tree_item.specs.declared.registration.ClusterTree.TheVariants as cluster_tree
+use Rattle.mz_tree_item.specs.declared.registration.RegistrationPartTree.{RegistrationPartTree}
+use Rattle.mz_tree_item.specs.declared.registration.RegistrationPartTree.TheVariants as registration_part_tree
 use Rattle.mz_tree_item.specs.declared.registration.RegistrationTree.{RegistrationTree}
-use Rattle.mz_tree_item.specs.declared.item.ItemTree.{ItemTree}
-use Rattle.mz_tree_item.specs.declared.item.ItemTree.TheVariants as item_tree
-use Rattle.mz_tree_item.specs.declared.article_part.ArticlePartTree.{ArticlePartTree}
-use Rattle.mz_tree_item.specs.declared.article_part.ArticlePartTree.TheVariants as article_part_tree
+use Rattle.mz_tree_item.specs.declared.article.ItemTree.{ItemTree}
+use Rattle.mz_tree_item.specs.declared.article.ItemTree.TheVariants as item_tree
+use Rattle.mz_tree_item.specs.declared.article.ArticlePartTree.{ArticlePartTree}
+use Rattle.mz_tree_item.specs.declared.article.ArticlePartTree.TheVariants as article_part_tree
 use Rattle.mz_tree_item.specs.declared.article.ArticleTree.{ArticleTree}
 
 pub each_identifier : (t : IdentifierTree) → length (levels_identifier t) ≡ length (spell_identifier t)
@@ -210,16 +210,16 @@ each_condition a = each_append (0 ∷ levels_just a.just) (0 ∷ []) (reserved a
 pub each_property : (t : PropertyTree) → length (levels_property t) ≡ length (spell_property t)
 each_property a = each_append (0 ∷ levels_just a.just) (0 ∷ []) (reserved a.place (property_word a.word) ∷ spell_just a.just) (special a.semicolon (codes ";") ∷ []) (ap suc (each_just a.just)) refl
 
-pub each_claim : (t : ClaimTree) → length (levels_claim t) ≡ length (spell_claim t)
-each_claim (claim_tree.Condition condition) = each_condition condition
-each_claim (claim_tree.Property property) = each_property property
+pub each_condition_or_property : (t : ConditionOrPropertyTree) → length (levels_condition_or_property t) ≡ length (spell_condition_or_property t)
+each_condition_or_property (condition_or_property_tree.Condition condition) = each_condition condition
+each_condition_or_property (condition_or_property_tree.Property property) = each_property property
 
 pub each_block_let : (t : BlockLetTree) → length (levels_block_let t) ≡ length (spell_block_let t)
 each_block_let a = each_append (0 ∷ levels_declarations a.declarations) (0 ∷ []) (reserved a.let_ (codes "let") ∷ spell_declarations a.declarations) (special a.semicolon (codes ";") ∷ []) (ap suc (each_declarations a.declarations)) refl
 
 pub each_definition_part : (t : DefinitionPartTree) → length (levels_definition_part t) ≡ length (spell_definition_part t)
 each_definition_part (definition_part_tree.Let loci) = each_block_let loci
-each_definition_part (definition_part_tree.Heading heading claims) = each_append (levels_heading heading) (flat_map levels_claim claims) (spell_heading heading) (flat_map spell_claim claims) (each_heading heading) (each_flat levels_claim spell_claim each_claim claims)
+each_definition_part (definition_part_tree.Heading heading conditions) = each_append (levels_heading heading) (flat_map levels_condition_or_property conditions) (spell_heading heading) (flat_map spell_condition_or_property conditions) (each_heading heading) (each_flat levels_condition_or_property spell_condition_or_property each_condition_or_property conditions)
 
 pub each_definition : (t : DefinitionTree) → length (levels_definition t) ≡ length (spell_definition t)
 each_definition a = each_append (0 ∷ flat_map levels_definition_part a.parts) (0 ∷ 0 ∷ []) (reserved a.definition (codes "definition") ∷ flat_map spell_definition_part a.parts) (reserved a.end (codes "end") ∷ special a.semicolon (codes ";") ∷ []) (ap suc (each_flat levels_definition_part spell_definition_part each_definition_part a.parts)) refl

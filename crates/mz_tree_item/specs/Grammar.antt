@@ -3,8 +3,8 @@ use Rattle.std.specs.Prelude.{ℕ, true, List, take}
 use Rattle.mz_base.specs.declared.token.Token.{Token}
 use Rattle.mz_forms.specs.Form.{Form}
 use Rattle.mz_forms.specs.Parse.{Spells, Begins}
-use Rattle.mz_tree.specs.Grammar.{AreMarked}
-use Rattle.mz_marks.specs.declared.marked_token.MarkedToken.{MarkedToken}
+use Rattle.mz_marks.specs.Marks.{AreMarked}
+use Rattle.mz_base.specs.declared.token.MarkedToken.{MarkedToken}
 use Rattle.mz_tree_item.specs.declared.article.ArticleTree.{ArticleTree}
 use Rattle.mz_tree_item.specs.Spell.{spell_article}
 use Rattle.mz_tree_item.specs.Levels.{levels_article}

@@ -1,13 +1,13 @@
 -- The words of directives, conditions, properties and notations.
 use Rattle.std.specs.Prelude.{ℕ, List, codes}
-use Rattle.mz_tree_item.specs.declared.directive_word.DirectiveWord.{DirectiveWord}
-use Rattle.mz_tree_item.specs.declared.directive_word.DirectiveWord.TheVariants as directive_words
-use Rattle.mz_tree_item.specs.declared.condition_word.ConditionWord.{ConditionWord}
-use Rattle.mz_tree_item.specs.declared.condition_word.ConditionWord.TheVariants as condition_words
-use Rattle.mz_tree_item.specs.declared.property_word.PropertyWord.{PropertyWord}
-use Rattle.mz_tree_item.specs.declared.property_word.PropertyWord.TheVariants as property_words
-use Rattle.mz_tree_item.specs.declared.notation_word.NotationWord.{NotationWord}
-use Rattle.mz_tree_item.specs.declared.notation_word.NotationWord.TheVariants as notation_words
+use Rattle.mz_tree_item.specs.declared.words.DirectiveWord.{DirectiveWord}
+use Rattle.mz_tree_item.specs.declared.words.DirectiveWord.TheVariants as directive_words
+use Rattle.mz_tree_item.specs.declared.words.ConditionWord.{ConditionWord}
+use Rattle.mz_tree_item.specs.declared.words.ConditionWord.TheVariants as condition_words
+use Rattle.mz_tree_item.specs.declared.words.PropertyWord.{PropertyWord}
+use Rattle.mz_tree_item.specs.declared.words.PropertyWord.TheVariants as property_words
+use Rattle.mz_tree_item.specs.declared.words.NotationWord.{NotationWord}
+use Rattle.mz_tree_item.specs.declared.words.NotationWord.TheVariants as notation_words
 
 abbrev pub directive_word : DirectiveWord → List ℕ
 directive_word directive_words.Vocabularies = codes "vocabularies"

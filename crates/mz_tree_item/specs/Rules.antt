@@ -3,69 +3,66 @@ use Rattle.std.specs.Prelude.{◌≡◌, ◌||◌, Bool, true, false, List, [], 
 use Rattle.mz_base.specs.Name.{is_name}
 use Rattle.mz_base.specs.declared.place.Place.{Place}
 use Rattle.mz_tree.specs.Trees.{TypeData, FormulaData, DisjunctionData, ConjunctionData, UnitData, QuantifiedData, NextConjunctionList, NextUnitList, PlainFormula, ImpliesFormula, IffFormula, ChainDisjunction, OrNextConjunction, ChainConjunction, AndNextUnit, NotUnit, ContradictionUnit, ThesisUnit, QuantifiedUnit, GroupUnit, PrivateUnit, PrivateWithUnit, PredicateUnit, PredicateRightUnit, PredicateLeftUnit, PredicateBothUnit, IsTypeUnit, IsAdjectivesUnit, ForQuantified, ForSuchQuantified, ForFurtherQuantified, ForSuchFurtherQuantified, ExistsQuantified, no_next_conjunctions, more_next_conjunctions, no_next_units, more_next_units, ModeType, ModeOfType, StructureType, StructureOverType, no_adjectives, more_adjectives}
-use Rattle.mz_tree.specs.Rules.{IsTerm, IsType, IsFormula, AreSomeAdjectives, AreDeclarations, DividesAfter, ends_in_terms, Every, IfAny}
-use Rattle.mz_tree.specs.declared.comma.Comma.{Comma}
-use Rattle.mz_tree.specs.declared.chain.Next.{Next}
-use Rattle.mz_tree.specs.declared.separated.Separated.{Separated}
-use Rattle.mz_tree.specs.Lists.{AreSeparated}
+use Rattle.mz_tree.specs.Rules.{IsTerm, IsType, IsFormula, AreSomeAdjectives, AreDeclarations, ends_in_terms, Every, IfAny}
+use Rattle.mz_tree.specs.Lists.{AreSeparated, AreDivided}
 use Rattle.mz_tree_proof.specs.Rules.{IsProposition, ArePropositions, AreTypes}
 use Rattle.mz_tree_proof.specs.RulesReasoning.{IsJust, IsStatement}
-use Rattle.mz_tree_item.specs.declared.directive_word.DirectiveWord.{DirectiveWord}
-use Rattle.mz_tree_item.specs.declared.directive_word.DirectiveWord.TheVariants as directive_words
-use Rattle.mz_tree_item.specs.declared.condition_word.ConditionWord.{ConditionWord}
-use Rattle.mz_tree_item.specs.declared.condition_word.ConditionWord.TheVariants as condition_words
-use Rattle.mz_tree_item.specs.declared.property_word.PropertyWord.{PropertyWord}
-use Rattle.mz_tree_item.specs.declared.property_word.PropertyWord.TheVariants as property_words
-use Rattle.mz_tree_item.specs.declared.identifier.IdentifierTree.{IdentifierTree}
-use Rattle.mz_tree_item.specs.declared.directive.DirectiveTree.{DirectiveTree}
-use Rattle.mz_tree_item.specs.declared.segment.SegmentTree.{SegmentTree}
-use Rattle.mz_tree_item.specs.declared.reserve.ReserveTree.{ReserveTree}
-use Rattle.mz_tree_item.specs.declared.theorem.TheoremTree.{TheoremTree}
-use Rattle.mz_tree_item.specs.declared.parameter.ParameterTree.{ParameterTree}
-use Rattle.mz_tree_item.specs.declared.parameter.ParameterTree.TheVariants as parameter_tree
-use Rattle.mz_tree_item.specs.declared.provided.ProvidedTree.{ProvidedTree}
-use Rattle.mz_tree_item.specs.declared.scheme.SchemeTree.{SchemeTree}
-use Rattle.mz_tree_item.specs.declared.result.ResultTree.{ResultTree}
-use Rattle.mz_tree_item.specs.declared.case.CaseTree.{CaseTree}
-use Rattle.mz_tree_item.specs.declared.otherwise.OtherwiseTree.{OtherwiseTree}
-use Rattle.mz_tree_item.specs.declared.cases.CasesTree.{CasesTree}
-use Rattle.mz_tree_item.specs.declared.cases.CasesTree.TheVariants as cases_tree
+use Rattle.mz_tree_item.specs.declared.words.DirectiveWord.{DirectiveWord}
+use Rattle.mz_tree_item.specs.declared.words.DirectiveWord.TheVariants as directive_words
+use Rattle.mz_tree_item.specs.declared.words.ConditionWord.{ConditionWord}
+use Rattle.mz_tree_item.specs.declared.words.ConditionWord.TheVariants as condition_words
+use Rattle.mz_tree_item.specs.declared.words.PropertyWord.{PropertyWord}
+use Rattle.mz_tree_item.specs.declared.words.PropertyWord.TheVariants as property_words
+use Rattle.mz_tree_item.specs.declared.patterns.IdentifierTree.{IdentifierTree}
+use Rattle.mz_tree_item.specs.declared.article.DirectiveTree.{DirectiveTree}
+use Rattle.mz_tree_item.specs.declared.schemes.SegmentTree.{SegmentTree}
+use Rattle.mz_tree_item.specs.declared.schemes.ReserveTree.{ReserveTree}
+use Rattle.mz_tree_item.specs.declared.schemes.TheoremTree.{TheoremTree}
+use Rattle.mz_tree_item.specs.declared.schemes.ParameterTree.{ParameterTree}
+use Rattle.mz_tree_item.specs.declared.schemes.ParameterTree.TheVariants as parameter_tree
+use Rattle.mz_tree_item.specs.declared.schemes.ProvidedTree.{ProvidedTree}
+use Rattle.mz_tree_item.specs.declared.schemes.SchemeTree.{SchemeTree}
+use Rattle.mz_tree_item.specs.declared.heading.ResultTree.{ResultTree}
+use Rattle.mz_tree_item.specs.declared.meaning.CaseTree.{CaseTree}
+use Rattle.mz_tree_item.specs.declared.meaning.OtherwiseTree.{OtherwiseTree}
+use Rattle.mz_tree_item.specs.declared.meaning.CasesTree.{CasesTree}
+use Rattle.mz_tree_item.specs.declared.meaning.CasesTree.TheVariants as cases_tree
 use Rattle.mz_tree_item.specs.declared.meaning.MeaningTree.{MeaningTree}
 use Rattle.mz_tree_item.specs.declared.meaning.MeaningTree.TheVariants as meaning_tree
-use Rattle.mz_tree_item.specs.declared.field.FieldTree.{FieldTree}
-use Rattle.mz_tree_item.specs.declared.ancestors.AncestorsTree.{AncestorsTree}
+use Rattle.mz_tree_item.specs.declared.structure.FieldTree.{FieldTree}
+use Rattle.mz_tree_item.specs.declared.structure.AncestorsTree.{AncestorsTree}
 use Rattle.mz_tree_item.specs.declared.structure.StructureTree.{StructureTree}
-use Rattle.mz_tree_item.specs.declared.functor_heading.FunctorHeadingTree.{FunctorHeadingTree}
-use Rattle.mz_tree_item.specs.declared.predicate_heading.PredicateHeadingTree.{PredicateHeadingTree}
-use Rattle.mz_tree_item.specs.declared.attribute_heading.AttributeHeadingTree.{AttributeHeadingTree}
-use Rattle.mz_tree_item.specs.declared.mode_heading.ModeHeadingTree.{ModeHeadingTree}
-use Rattle.mz_tree_item.specs.declared.abbreviation.AbbreviationTree.{AbbreviationTree}
+use Rattle.mz_tree_item.specs.declared.heading.FunctorHeadingTree.{FunctorHeadingTree}
+use Rattle.mz_tree_item.specs.declared.heading.PredicateHeadingTree.{PredicateHeadingTree}
+use Rattle.mz_tree_item.specs.declared.heading.AttributeHeadingTree.{AttributeHeadingTree}
+use Rattle.mz_tree_item.specs.declared.heading.ModeHeadingTree.{ModeHeadingTree}
+use Rattle.mz_tree_item.specs.declared.heading.AbbreviationTree.{AbbreviationTree}
 use Rattle.mz_tree_item.specs.declared.heading.HeadingTree.{HeadingTree}
 use Rattle.mz_tree_item.specs.declared.heading.HeadingTree.TheVariants as heading_tree
-use Rattle.mz_tree_item.specs.declared.condition.ConditionTree.{ConditionTree}
-use Rattle.mz_tree_item.specs.declared.property.PropertyTree.{PropertyTree}
-use Rattle.mz_tree_item.specs.declared.claim.ClaimTree.{ClaimTree}
-use Rattle.mz_tree_item.specs.declared.claim.ClaimTree.TheVariants as claim_tree
-use Rattle.mz_tree_item.specs.declared.block_let.BlockLetTree.{BlockLetTree}
-use Rattle.mz_tree_item.specs.declared.definition_part.DefinitionPartTree.{DefinitionPartTree}
-use Rattle.mz_tree_item.specs.declared.definition_part.DefinitionPartTree.TheVariants as definition_part_tree
+use Rattle.mz_tree_item.specs.declared.definition.ConditionTree.{ConditionTree}
+use Rattle.mz_tree_item.specs.declared.definition.PropertyTree.{PropertyTree}
+use Rattle.mz_tree_item.specs.declared.definition.ConditionOrPropertyTree.{ConditionOrPropertyTree}
+use Rattle.mz_tree_item.specs.declared.definition.ConditionOrPropertyTree.TheVariants as condition_or_property_tree
+use Rattle.mz_tree_item.specs.declared.definition.BlockLetTree.{BlockLetTree}
+use Rattle.mz_tree_item.specs.declared.definition.DefinitionPartTree.{DefinitionPartTree}
+use Rattle.mz_tree_item.specs.declared.definition.DefinitionPartTree.TheVariants as definition_part_tree
 use Rattle.mz_tree_item.specs.declared.definition.DefinitionTree.{DefinitionTree}
-use Rattle.mz_tree_item.specs.declared.notation_part.NotationPartTree.{NotationPartTree}
-use Rattle.mz_tree_item.specs.declared.notation_part.NotationPartTree.TheVariants as notation_part_tree
+use Rattle.mz_tree_item.specs.declared.notation.NotationPartTree.{NotationPartTree}
+use Rattle.mz_tree_item.specs.declared.notation.NotationPartTree.TheVariants as notation_part_tree
 use Rattle.mz_tree_item.specs.declared.notation.NotationTree.{NotationTree}
-use Rattle.mz_tree_item.specs.declared.for_type.ForTypeTree.{ForTypeTree}
-use Rattle.mz_tree_item.specs.declared.existential.ExistentialTree.{ExistentialTree}
-use Rattle.mz_tree_item.specs.declared.conditional.ConditionalTree.{ConditionalTree}
-use Rattle.mz_tree_item.specs.declared.functorial.FunctorialTree.{FunctorialTree}
-use Rattle.mz_tree_item.specs.declared.cluster.ClusterTree.{ClusterTree}
-use Rattle.mz_tree_item.specs.declared.cluster.ClusterTree.TheVariants as cluster_tree
-use Rattle.mz_tree_item.specs.declared.registration_part.RegistrationPartTree.{RegistrationPartTree}
-use Rattle.mz_tree_item.specs.declared.registration_part.RegistrationPartTree.TheVariants as registration_part_tree
+use Rattle.mz_tree_item.specs.declared.registration.ForTypeTree.{ForTypeTree}
+use Rattle.mz_tree_item.specs.declared.registration.ExistentialTree.{ExistentialTree}
+use Rattle.mz_tree_item.specs.declared.registration.ConditionalTree.{ConditionalTree}
+use Rattle.mz_tree_item.specs.declared.registration.FunctorialTree.{FunctorialTree}
+use Rattle.mz_tree_item.specs.declared.registration.ClusterTree.{ClusterTree}
+use Rattle.mz_tree_item.specs.declared.registration.ClusterTree.TheVariants as cluster_tree
+use Rattle.mz_tree_item.specs.declared.registration.RegistrationPartTree.{RegistrationPartTree}
+use Rattle.mz_tree_item.specs.declared.registration.RegistrationPartTree.TheVariants as registration_part_tree
 use Rattle.mz_tree_item.specs.declared.registration.RegistrationTree.{RegistrationTree}
-use Rattle.mz_tree_item.specs.declared.item.ItemTree.{ItemTree}
-use Rattle.mz_tree_item.specs.declared.item.ItemTree.TheVariants as item_tree
-use Rattle.mz_tree_item.specs.declared.article_part.ArticlePartTree.{ArticlePartTree}
-use Rattle.mz_tree_item.specs.declared.article_part.ArticlePartTree.TheVariants as article_part_tree
+use Rattle.mz_tree_item.specs.declared.article.ItemTree.{ItemTree}
+use Rattle.mz_tree_item.specs.declared.article.ItemTree.TheVariants as item_tree
+use Rattle.mz_tree_item.specs.declared.article.ArticlePartTree.{ArticlePartTree}
+use Rattle.mz_tree_item.specs.declared.article.ArticlePartTree.TheVariants as article_part_tree
 use Rattle.mz_tree_item.specs.declared.article.ArticleTree.{ArticleTree}
 
 -- The words of the language so far.
@@ -155,14 +152,6 @@ IsDirective a = (is_directive_yet a.word ≡ true) × AreSeparated IsNamed a.nam
 abbrev pub IsSegment : SegmentTree → Type 0
 IsSegment a = IsType false a.ty
 
--- Where the last of them ends in a list of terms, the comma before the next is a dividing one.
-abbrev pub AreBehind : {X : Type 0} → (X → Type 0) → (X → Bool) → Bool → List (Next Comma X) → Type 0
-AreBehind Is ends b [] = Unit {0}
-AreBehind Is ends b (a ∷ rest) = DividesAfter b a.sign × Is a.tree × AreBehind Is ends (ends a.tree) rest
-
-abbrev pub AreDivided : {X : Type 0} → (X → Type 0) → (X → Bool) → Separated X → Type 0
-AreDivided Is ends a = Is a.first × AreBehind Is ends (ends a.first) a.more
-
 abbrev pub segment_ends_in_terms : SegmentTree → Bool
 segment_ends_in_terms a = ends_in_terms a.ty
 
@@ -184,13 +173,13 @@ abbrev pub IsProvided : ProvidedTree → Type 0
 IsProvided a = ArePropositions a.propositions
 
 abbrev pub IsScheme : SchemeTree → Type 0
-IsScheme a = AreDivided IsParameter parameter_ends_in_terms a.parameters × IsFormula a.formula × IfAny IsProvided a.provided × IsJust a.just
+IsScheme a = AreDivided IsParameter parameter_ends_in_terms a.parameters × IsFormula false a.formula × IfAny IsProvided a.provided × IsJust a.just
 
 abbrev pub IsResult : ResultTree → Type 0
 IsResult a = IsType false a.ty
 
 abbrev pub IsCase : {X : Type 0} → (X → Type 0) → CaseTree X → Type 0
-IsCase Is a = Is a.body × IsFormula a.condition
+IsCase Is a = Is a.body × IsFormula false a.condition
 
 abbrev pub case_ends_in_terms : {X : Type 0} → CaseTree X → Bool
 case_ends_in_terms a = formula_ends_in_terms a.condition
@@ -203,12 +192,12 @@ AreCases Is (cases_tree.Plain a) = Is a
 AreCases Is (cases_tree.Cases a b) = AreDivided (IsCase Is) case_ends_in_terms a × IfAny (IsOtherwise Is) b
 
 abbrev pub IsMeaning : MeaningTree → Type 0
-IsMeaning (meaning_tree.Means p l a) = AreCases IsFormula a
+IsMeaning (meaning_tree.Means p l a) = AreCases (IsFormula false) a
 IsMeaning (meaning_tree.Equals p l a) = AreCases (IsTerm false) a
 
 -- `equals` stands only in the definition of a functor
 abbrev pub IsMeans : MeaningTree → Type 0
-IsMeans (meaning_tree.Means p l a) = AreCases IsFormula a
+IsMeans (meaning_tree.Means p l a) = AreCases (IsFormula false) a
 IsMeans (meaning_tree.Equals p l a) = ⊥
 
 -- in a field's type a selector may stand without `of`
@@ -257,17 +246,17 @@ IsCondition a = (is_condition_yet a.word ≡ true) × IsJust a.just
 abbrev pub IsProperty : PropertyTree → Type 0
 IsProperty a = (is_property_yet a.word ≡ true) × IsJust a.just
 
-abbrev pub IsClaim : ClaimTree → Type 0
-IsClaim (claim_tree.Condition a) = IsCondition a
-IsClaim (claim_tree.Property a) = IsProperty a
+abbrev pub IsConditionOrProperty : ConditionOrPropertyTree → Type 0
+IsConditionOrProperty (condition_or_property_tree.Condition a) = IsCondition a
+IsConditionOrProperty (condition_or_property_tree.Property a) = IsProperty a
 
-abbrev pub has_property : List ClaimTree → Bool
+abbrev pub has_property : List ConditionOrPropertyTree → Bool
 has_property [] = false
-has_property (claim_tree.Condition a ∷ rest) = has_property rest
-has_property (claim_tree.Property a ∷ rest) = true
+has_property (condition_or_property_tree.Condition a ∷ rest) = has_property rest
+has_property (condition_or_property_tree.Property a ∷ rest) = true
 
 -- A redefinition has a type or a meaning, or, of a functor or predicate, a property.
-abbrev pub may_redefine : HeadingTree → List ClaimTree → Bool
+abbrev pub may_redefine : HeadingTree → List ConditionOrPropertyTree → Bool
 may_redefine (heading_tree.Functor a) cs = true
 may_redefine (heading_tree.Predicate a) cs = true
 may_redefine (heading_tree.Attribute a) cs = true
@@ -280,11 +269,11 @@ may_redefine (heading_tree.RedefinedAttribute p a) cs = is_some a.meaning
 may_redefine (heading_tree.RedefinedMode p a) cs = is_some a.result || is_some a.meaning
 
 abbrev pub IsLoci : BlockLetTree → Type 0
-IsLoci a = AreDeclarations a.declarations
+IsLoci a = AreDeclarations false a.declarations
 
 abbrev pub IsDefinitionPart : DefinitionPartTree → Type 0
 IsDefinitionPart (definition_part_tree.Let a) = IsLoci a
-IsDefinitionPart (definition_part_tree.Heading a cs) = IsHeading a × Every IsClaim cs × (may_redefine a cs ≡ true)
+IsDefinitionPart (definition_part_tree.Heading a cs) = IsHeading a × Every IsConditionOrProperty cs × (may_redefine a cs ≡ true)
 
 abbrev pub IsDefinition : DefinitionTree → Type 0
 IsDefinition a = Every IsDefinitionPart a.parts

@@ -2,79 +2,79 @@
 use Rattle.std.specs.Prelude.{List, [], ◌∷◌, ◌++◌, codes}
 use Rattle.std.specs.List.{flat_map}
 use Rattle.mz_base.specs.declared.symbol_kind.SymbolKind.TheVariants as symbols
-use Rattle.mz_marks.specs.declared.marked_token.MarkedToken.{MarkedToken}
+use Rattle.mz_base.specs.declared.token.MarkedToken.{MarkedToken}
 use Rattle.mz_tree.specs.Spelled.{reserved, special, identifier, symbol, functor, mode, reserved_if, maybe}
 use Rattle.mz_tree.specs.Spell.{spell_formula, spell_term, spell_type, spell_adjectives, spell_declarations}
 use Rattle.mz_tree.specs.Lists.{spell_separated}
 use Rattle.mz_tree_proof.specs.Spell.{spell_proposition, spell_propositions}
 use Rattle.mz_tree_proof.specs.SpellReasoning.{spell_just, spell_statement}
 use Rattle.mz_tree_item.specs.Keywords.{directive_word, condition_word, property_word, notation_word}
-use Rattle.mz_tree_item.specs.declared.identifier.IdentifierTree.{IdentifierTree}
-use Rattle.mz_tree_item.specs.declared.selector.SelectorTree.{SelectorTree}
-use Rattle.mz_tree_item.specs.declared.directive.DirectiveTree.{DirectiveTree}
-use Rattle.mz_tree_item.specs.declared.segment.SegmentTree.{SegmentTree}
-use Rattle.mz_tree_item.specs.declared.reserve.ReserveTree.{ReserveTree}
-use Rattle.mz_tree_item.specs.declared.theorem.TheoremTree.{TheoremTree}
-use Rattle.mz_tree_item.specs.declared.parameter.ParameterTree.{ParameterTree}
-use Rattle.mz_tree_item.specs.declared.parameter.ParameterTree.TheVariants as parameter_tree
-use Rattle.mz_tree_item.specs.declared.provided.ProvidedTree.{ProvidedTree}
-use Rattle.mz_tree_item.specs.declared.scheme.SchemeTree.{SchemeTree}
-use Rattle.mz_tree_item.specs.declared.result.ResultTree.{ResultTree}
-use Rattle.mz_tree_item.specs.declared.loci.LociTree.{LociTree}
-use Rattle.mz_tree_item.specs.declared.loci.LociTree.TheVariants as loci_tree
-use Rattle.mz_tree_item.specs.declared.symbol_pattern.SymbolPatternTree.{SymbolPatternTree}
-use Rattle.mz_tree_item.specs.declared.functor_pattern.FunctorPatternTree.{FunctorPatternTree}
-use Rattle.mz_tree_item.specs.declared.functor_pattern.FunctorPatternTree.TheVariants as functor_pattern_tree
-use Rattle.mz_tree_item.specs.declared.predicate_pattern.PredicatePatternTree.{PredicatePatternTree}
-use Rattle.mz_tree_item.specs.declared.attribute_pattern.AttributePatternTree.{AttributePatternTree}
-use Rattle.mz_tree_item.specs.declared.mode_loci.ModeLociTree.{ModeLociTree}
-use Rattle.mz_tree_item.specs.declared.mode_pattern.ModePatternTree.{ModePatternTree}
-use Rattle.mz_tree_item.specs.declared.pattern.PatternTree.{PatternTree}
-use Rattle.mz_tree_item.specs.declared.pattern.PatternTree.TheVariants as pattern_tree
-use Rattle.mz_tree_item.specs.declared.definition_label.DefinitionLabelTree.{DefinitionLabelTree}
-use Rattle.mz_tree_item.specs.declared.case.CaseTree.{CaseTree}
-use Rattle.mz_tree_item.specs.declared.otherwise.OtherwiseTree.{OtherwiseTree}
-use Rattle.mz_tree_item.specs.declared.cases.CasesTree.{CasesTree}
-use Rattle.mz_tree_item.specs.declared.cases.CasesTree.TheVariants as cases_tree
+use Rattle.mz_tree_item.specs.declared.patterns.IdentifierTree.{IdentifierTree}
+use Rattle.mz_tree_item.specs.declared.structure.SelectorTree.{SelectorTree}
+use Rattle.mz_tree_item.specs.declared.article.DirectiveTree.{DirectiveTree}
+use Rattle.mz_tree_item.specs.declared.schemes.SegmentTree.{SegmentTree}
+use Rattle.mz_tree_item.specs.declared.schemes.ReserveTree.{ReserveTree}
+use Rattle.mz_tree_item.specs.declared.schemes.TheoremTree.{TheoremTree}
+use Rattle.mz_tree_item.specs.declared.schemes.ParameterTree.{ParameterTree}
+use Rattle.mz_tree_item.specs.declared.schemes.ParameterTree.TheVariants as parameter_tree
+use Rattle.mz_tree_item.specs.declared.schemes.ProvidedTree.{ProvidedTree}
+use Rattle.mz_tree_item.specs.declared.schemes.SchemeTree.{SchemeTree}
+use Rattle.mz_tree_item.specs.declared.heading.ResultTree.{ResultTree}
+use Rattle.mz_tree_item.specs.declared.patterns.LociTree.{LociTree}
+use Rattle.mz_tree_item.specs.declared.patterns.LociTree.TheVariants as loci_tree
+use Rattle.mz_tree_item.specs.declared.patterns.SymbolPatternTree.{SymbolPatternTree}
+use Rattle.mz_tree_item.specs.declared.patterns.FunctorPatternTree.{FunctorPatternTree}
+use Rattle.mz_tree_item.specs.declared.patterns.FunctorPatternTree.TheVariants as functor_pattern_tree
+use Rattle.mz_tree_item.specs.declared.patterns.PredicatePatternTree.{PredicatePatternTree}
+use Rattle.mz_tree_item.specs.declared.patterns.AttributePatternTree.{AttributePatternTree}
+use Rattle.mz_tree_item.specs.declared.patterns.ModeLociTree.{ModeLociTree}
+use Rattle.mz_tree_item.specs.declared.patterns.ModePatternTree.{ModePatternTree}
+use Rattle.mz_tree_item.specs.declared.patterns.PatternTree.{PatternTree}
+use Rattle.mz_tree_item.specs.declared.patterns.PatternTree.TheVariants as pattern_tree
+use Rattle.mz_tree_item.specs.declared.meaning.DefinitionLabelTree.{DefinitionLabelTree}
+use Rattle.mz_tree_item.specs.declared.meaning.CaseTree.{CaseTree}
+use Rattle.mz_tree_item.specs.declared.meaning.OtherwiseTree.{OtherwiseTree}
+use Rattle.mz_tree_item.specs.declared.meaning.CasesTree.{CasesTree}
+use Rattle.mz_tree_item.specs.declared.meaning.CasesTree.TheVariants as cases_tree
 use Rattle.mz_tree_item.specs.declared.meaning.MeaningTree.{MeaningTree}
 use Rattle.mz_tree_item.specs.declared.meaning.MeaningTree.TheVariants as meaning_tree
-use Rattle.mz_tree_item.specs.declared.field.FieldTree.{FieldTree}
-use Rattle.mz_tree_item.specs.declared.ancestors.AncestorsTree.{AncestorsTree}
-use Rattle.mz_tree_item.specs.declared.structure_loci.StructureLociTree.{StructureLociTree}
+use Rattle.mz_tree_item.specs.declared.structure.FieldTree.{FieldTree}
+use Rattle.mz_tree_item.specs.declared.structure.AncestorsTree.{AncestorsTree}
+use Rattle.mz_tree_item.specs.declared.structure.StructureLociTree.{StructureLociTree}
 use Rattle.mz_tree_item.specs.declared.structure.StructureTree.{StructureTree}
-use Rattle.mz_tree_item.specs.declared.functor_heading.FunctorHeadingTree.{FunctorHeadingTree}
-use Rattle.mz_tree_item.specs.declared.predicate_heading.PredicateHeadingTree.{PredicateHeadingTree}
-use Rattle.mz_tree_item.specs.declared.attribute_heading.AttributeHeadingTree.{AttributeHeadingTree}
-use Rattle.mz_tree_item.specs.declared.mode_heading.ModeHeadingTree.{ModeHeadingTree}
-use Rattle.mz_tree_item.specs.declared.abbreviation.AbbreviationTree.{AbbreviationTree}
+use Rattle.mz_tree_item.specs.declared.heading.FunctorHeadingTree.{FunctorHeadingTree}
+use Rattle.mz_tree_item.specs.declared.heading.PredicateHeadingTree.{PredicateHeadingTree}
+use Rattle.mz_tree_item.specs.declared.heading.AttributeHeadingTree.{AttributeHeadingTree}
+use Rattle.mz_tree_item.specs.declared.heading.ModeHeadingTree.{ModeHeadingTree}
+use Rattle.mz_tree_item.specs.declared.heading.AbbreviationTree.{AbbreviationTree}
 use Rattle.mz_tree_item.specs.declared.heading.HeadingTree.{HeadingTree}
 use Rattle.mz_tree_item.specs.declared.heading.HeadingTree.TheVariants as heading_tree
-use Rattle.mz_tree_item.specs.declared.condition.ConditionTree.{ConditionTree}
-use Rattle.mz_tree_item.specs.declared.property.PropertyTree.{PropertyTree}
-use Rattle.mz_tree_item.specs.declared.claim.ClaimTree.{ClaimTree}
-use Rattle.mz_tree_item.specs.declared.claim.ClaimTree.TheVariants as claim_tree
-use Rattle.mz_tree_item.specs.declared.block_let.BlockLetTree.{BlockLetTree}
-use Rattle.mz_tree_item.specs.declared.definition_part.DefinitionPartTree.{DefinitionPartTree}
-use Rattle.mz_tree_item.specs.declared.definition_part.DefinitionPartTree.TheVariants as definition_part_tree
+use Rattle.mz_tree_item.specs.declared.definition.ConditionTree.{ConditionTree}
+use Rattle.mz_tree_item.specs.declared.definition.PropertyTree.{PropertyTree}
+use Rattle.mz_tree_item.specs.declared.definition.ConditionOrPropertyTree.{ConditionOrPropertyTree}
+use Rattle.mz_tree_item.specs.declared.definition.ConditionOrPropertyTree.TheVariants as condition_or_property_tree
+use Rattle.mz_tree_item.specs.declared.definition.BlockLetTree.{BlockLetTree}
+use Rattle.mz_tree_item.specs.declared.definition.DefinitionPartTree.{DefinitionPartTree}
+use Rattle.mz_tree_item.specs.declared.definition.DefinitionPartTree.TheVariants as definition_part_tree
 use Rattle.mz_tree_item.specs.declared.definition.DefinitionTree.{DefinitionTree}
-use Rattle.mz_tree_item.specs.declared.notation_part.NotationPartTree.{NotationPartTree}
-use Rattle.mz_tree_item.specs.declared.notation_part.NotationPartTree.TheVariants as notation_part_tree
+use Rattle.mz_tree_item.specs.declared.notation.NotationPartTree.{NotationPartTree}
+use Rattle.mz_tree_item.specs.declared.notation.NotationPartTree.TheVariants as notation_part_tree
 use Rattle.mz_tree_item.specs.declared.notation.NotationTree.{NotationTree}
-use Rattle.mz_tree_item.specs.declared.for_type.ForTypeTree.{ForTypeTree}
-use Rattle.mz_tree_item.specs.declared.existential.ExistentialTree.{ExistentialTree}
-use Rattle.mz_tree_item.specs.declared.conditional.ConditionalTree.{ConditionalTree}
-use Rattle.mz_tree_item.specs.declared.functorial.FunctorialTree.{FunctorialTree}
-use Rattle.mz_tree_item.specs.declared.reduce.ReduceTree.{ReduceTree}
-use Rattle.mz_tree_item.specs.declared.identify.IdentifyTree.{IdentifyTree}
-use Rattle.mz_tree_item.specs.declared.cluster.ClusterTree.{ClusterTree}
-use Rattle.mz_tree_item.specs.declared.cluster.ClusterTree.TheVariants as cluster_tree
-use Rattle.mz_tree_item.specs.declared.registration_part.RegistrationPartTree.{RegistrationPartTree}
-use Rattle.mz_tree_item.specs.declared.registration_part.RegistrationPartTree.TheVariants as registration_part_tree
+use Rattle.mz_tree_item.specs.declared.registration.ForTypeTree.{ForTypeTree}
+use Rattle.mz_tree_item.specs.declared.registration.ExistentialTree.{ExistentialTree}
+use Rattle.mz_tree_item.specs.declared.registration.ConditionalTree.{ConditionalTree}
+use Rattle.mz_tree_item.specs.declared.registration.FunctorialTree.{FunctorialTree}
+use Rattle.mz_tree_item.specs.declared.registration.ReduceTree.{ReduceTree}
+use Rattle.mz_tree_item.specs.declared.registration.IdentifyTree.{IdentifyTree}
+use Rattle.mz_tree_item.specs.declared.registration.ClusterTree.{ClusterTree}
+use Rattle.mz_tree_item.specs.declared.registration.ClusterTree.TheVariants as cluster_tree
+use Rattle.mz_tree_item.specs.declared.registration.RegistrationPartTree.{RegistrationPartTree}
+use Rattle.mz_tree_item.specs.declared.registration.RegistrationPartTree.TheVariants as registration_part_tree
 use Rattle.mz_tree_item.specs.declared.registration.RegistrationTree.{RegistrationTree}
-use Rattle.mz_tree_item.specs.declared.item.ItemTree.{ItemTree}
-use Rattle.mz_tree_item.specs.declared.item.ItemTree.TheVariants as item_tree
-use Rattle.mz_tree_item.specs.declared.article_part.ArticlePartTree.{ArticlePartTree}
-use Rattle.mz_tree_item.specs.declared.article_part.ArticlePartTree.TheVariants as article_part_tree
+use Rattle.mz_tree_item.specs.declared.article.ItemTree.{ItemTree}
+use Rattle.mz_tree_item.specs.declared.article.ItemTree.TheVariants as item_tree
+use Rattle.mz_tree_item.specs.declared.article.ArticlePartTree.{ArticlePartTree}
+use Rattle.mz_tree_item.specs.declared.article.ArticlePartTree.TheVariants as article_part_tree
 use Rattle.mz_tree_item.specs.declared.article.ArticleTree.{ArticleTree}
 
 abbrev pub spell_identifier : IdentifierTree → List MarkedToken
@@ -201,16 +201,16 @@ spell_condition a = reserved a.place (condition_word a.word) ∷ spell_just a.ju
 abbrev pub spell_property : PropertyTree → List MarkedToken
 spell_property a = reserved a.place (property_word a.word) ∷ spell_just a.just ++ special a.semicolon (codes ";") ∷ []
 
-abbrev pub spell_claim : ClaimTree → List MarkedToken
-spell_claim (claim_tree.Condition condition) = spell_condition condition
-spell_claim (claim_tree.Property property) = spell_property property
+abbrev pub spell_condition_or_property : ConditionOrPropertyTree → List MarkedToken
+spell_condition_or_property (condition_or_property_tree.Condition condition) = spell_condition condition
+spell_condition_or_property (condition_or_property_tree.Property property) = spell_property property
 
 abbrev pub spell_block_let : BlockLetTree → List MarkedToken
 spell_block_let a = reserved a.let_ (codes "let") ∷ spell_declarations a.declarations ++ special a.semicolon (codes ";") ∷ []
 
 abbrev pub spell_definition_part : DefinitionPartTree → List MarkedToken
 spell_definition_part (definition_part_tree.Let loci) = spell_block_let loci
-spell_definition_part (definition_part_tree.Heading heading claims) = spell_heading heading ++ flat_map spell_claim claims
+spell_definition_part (definition_part_tree.Heading heading conditions) = spell_heading heading ++ flat_map spell_condition_or_property conditions
 
 abbrev pub spell_definition : DefinitionTree → List MarkedToken
 spell_definition a = reserved a.definition (codes "definition") ∷ flat_map spell_definition_part a.parts ++ reserved a.end (codes "end") ∷ special a.semicolon (codes ";") ∷ []

@@ -1,15 +1,138 @@
-//! An article.
-ghost use Rattle.std.specs.Prelude.{◌≡◌, ◌++◌, IfOk};
-ghost use Rattle.mz_tree_item.specs.Spell.{spell_article};
+//! Articles: directives and items.
+ghost use Rattle.std.specs.Prelude.{Some, ◌≡◌, ◌++◌, IfOk};
+ghost use Rattle.mz_tree.specs.Places.{first_place};
+ghost use Rattle.mz_tree_item.specs.Spell.{spell_directive, spell_item, spell_article_part, spell_article};
 
-use crate::article_part::ArticlePartTree;
-use crate::directive::DirectiveTree;
+use crate::definition::DefinitionTree;
+use crate::notation::NotationTree;
+use crate::patterns::IdentifierTree;
+use crate::registration::RegistrationTree;
+use crate::schemes::{ReserveTree, SchemeTree, TheoremTree};
+use crate::words::DirectiveWord;
 use mz_base::place::Place;
-use mz_marks::marked_token::MarkedToken;
-use mz_tree::put::put_reserved;
-use mz_tree::spelling::Spell;
-use mz_tree::trees::Trees;
+use mz_base::token::MarkedToken;
+use mz_tree::emit::{emit_reserved, emit_special};
+use mz_tree::lists::{Separated, Trees};
+use mz_tree::tree::{Copied, Spell};
+use mz_tree_proof::reasoning::StatementTree;
 use std::alloc::{AllocError, Global};
+
+/// A directive.
+#[derive(Drop)]
+pub struct DirectiveTree {
+    pub place: Place,
+    pub word: DirectiveWord,
+    pub names: Separated<IdentifierTree>,
+    pub semicolon: Place,
+}
+
+impl Copied for DirectiveTree {
+    fn copy(&self, alloc: Global) -> Result<DirectiveTree, AllocError> {
+        let names = self.names.copy(alloc)?;
+        Ok(DirectiveTree {
+            place: self.place,
+            word: self.word,
+            names,
+            semicolon: self.semicolon,
+        })
+    }
+}
+
+impl Spell for DirectiveTree {
+    ghost spelled = { spell_directive };
+
+    fn spell(&self, alloc: Global, out: &mut Vec<MarkedToken>) -> Result<(), AllocError> {
+        emit_reserved(alloc, out, self.place, self.word.spelling())?;
+        self.names.spell(alloc, out)?;
+        emit_special(alloc, out, self.semicolon, b";")
+    }
+}
+
+/// An item.
+#[derive(Drop)]
+pub enum ItemTree {
+    Reserve(ReserveTree),
+    Theorem(TheoremTree),
+    Scheme(SchemeTree),
+    Definition(DefinitionTree),
+    Notation(NotationTree),
+    Registration(RegistrationTree),
+    Statement(StatementTree),
+}
+
+impl Copied for ItemTree {
+    fn copy(&self, alloc: Global) -> Result<ItemTree, AllocError> {
+        match self {
+            ItemTree::Reserve(part) => Ok(ItemTree::Reserve(part.copy(alloc)?)),
+            ItemTree::Theorem(part) => Ok(ItemTree::Theorem(part.copy(alloc)?)),
+            ItemTree::Scheme(part) => Ok(ItemTree::Scheme(part.copy(alloc)?)),
+            ItemTree::Definition(part) => Ok(ItemTree::Definition(part.copy(alloc)?)),
+            ItemTree::Notation(part) => Ok(ItemTree::Notation(part.copy(alloc)?)),
+            ItemTree::Registration(part) => Ok(ItemTree::Registration(part.copy(alloc)?)),
+            ItemTree::Statement(part) => Ok(ItemTree::Statement(part.copy(alloc)?)),
+        }
+    }
+}
+
+impl Spell for ItemTree {
+    ghost spelled = { spell_item };
+
+    fn spell(&self, alloc: Global, out: &mut Vec<MarkedToken>) -> Result<(), AllocError> {
+        match self {
+            ItemTree::Reserve(item) => item.spell(alloc, out),
+            ItemTree::Theorem(item) => item.spell(alloc, out),
+            ItemTree::Scheme(item) => item.spell(alloc, out),
+            ItemTree::Definition(item) => item.spell(alloc, out),
+            ItemTree::Notation(item) => item.spell(alloc, out),
+            ItemTree::Registration(item) => item.spell(alloc, out),
+            ItemTree::Statement(item) => item.spell(alloc, out),
+        }
+    }
+}
+
+impl ItemTree {
+    /// The place of its first token.
+    pub fn first_place(&self) -> Place
+        ensures { first_place (spell_item self.now) ≡ Some result }
+    {
+        match self {
+            ItemTree::Reserve(item) => item.reserve,
+            ItemTree::Theorem(item) => item.theorem,
+            ItemTree::Scheme(item) => item.scheme,
+            ItemTree::Definition(item) => item.definition,
+            ItemTree::Notation(item) => item.notation,
+            ItemTree::Registration(item) => item.registration,
+            ItemTree::Statement(item) => item.first_place(),
+        }
+    }
+}
+
+/// A further `begin`, or an item.
+#[derive(Drop)]
+pub enum ArticlePartTree {
+    Begin(Place),
+    Item(ItemTree),
+}
+
+impl Copied for ArticlePartTree {
+    fn copy(&self, alloc: Global) -> Result<ArticlePartTree, AllocError> {
+        match self {
+            ArticlePartTree::Begin(part) => Ok(ArticlePartTree::Begin(*part)),
+            ArticlePartTree::Item(part) => Ok(ArticlePartTree::Item(part.copy(alloc)?)),
+        }
+    }
+}
+
+impl Spell for ArticlePartTree {
+    ghost spelled = { spell_article_part };
+
+    fn spell(&self, alloc: Global, out: &mut Vec<MarkedToken>) -> Result<(), AllocError> {
+        match self {
+            ArticlePartTree::Begin(begin) => emit_reserved(alloc, out, *begin, b"begin"),
+            ArticlePartTree::Item(item) => item.spell(alloc, out),
+        }
+    }
+}
 
 /// An article.
 #[derive(Drop)]
@@ -20,13 +143,26 @@ pub struct ArticleTree {
     pub parts: Trees<ArticlePartTree>,
 }
 
+impl Copied for ArticleTree {
+    fn copy(&self, alloc: Global) -> Result<ArticleTree, AllocError> {
+        let directives = self.directives.copy(alloc)?;
+        let parts = self.parts.copy(alloc)?;
+        Ok(ArticleTree {
+            environ: self.environ,
+            directives,
+            begin: self.begin,
+            parts,
+        })
+    }
+}
+
 impl Spell for ArticleTree {
     ghost spelled = { spell_article };
 
     fn spell(&self, alloc: Global, out: &mut Vec<MarkedToken>) -> Result<(), AllocError> {
-        put_reserved(alloc, out, self.environ, b"environ")?;
+        emit_reserved(alloc, out, self.environ, b"environ")?;
         self.directives.spell(alloc, out)?;
-        put_reserved(alloc, out, self.begin, b"begin")?;
+        emit_reserved(alloc, out, self.begin, b"begin")?;
         self.parts.spell(alloc, out)
     }
 }

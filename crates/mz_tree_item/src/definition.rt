@@ -1,14 +1,185 @@
-//! A block of definitions.
+//! Definitions: headings with their conditions and properties.
 ghost use Rattle.std.specs.Prelude.{◌≡◌, ◌++◌, IfOk};
-ghost use Rattle.mz_tree_item.specs.Spell.{spell_definition};
+ghost use Rattle.mz_tree_item.specs.Spell.{spell_condition, spell_property, spell_condition_or_property, spell_block_let, spell_definition_part, spell_definition};
 
-use crate::definition_part::DefinitionPartTree;
+use crate::heading::HeadingTree;
+use crate::words::{ConditionWord, PropertyWord};
 use mz_base::place::Place;
-use mz_marks::marked_token::MarkedToken;
-use mz_tree::put::{put_reserved, put_special};
-use mz_tree::spelling::Spell;
-use mz_tree::trees::Trees;
+use mz_base::token::MarkedToken;
+use mz_tree::emit::{emit_reserved, emit_special};
+use mz_tree::expressions::DeclarationsTree;
+use mz_tree::lists::Trees;
+use mz_tree::tree::{Copied, Spell};
+use mz_tree_proof::reasoning::JustTree;
 use std::alloc::{AllocError, Global};
+
+/// A condition and its justification.
+#[derive(Drop)]
+pub struct ConditionTree {
+    pub place: Place,
+    pub word: ConditionWord,
+    pub just: JustTree,
+    pub semicolon: Place,
+}
+
+impl Copied for ConditionTree {
+    fn copy(&self, alloc: Global) -> Result<ConditionTree, AllocError> {
+        let just = self.just.copy(alloc)?;
+        Ok(ConditionTree {
+            place: self.place,
+            word: self.word,
+            just,
+            semicolon: self.semicolon,
+        })
+    }
+}
+
+impl Spell for ConditionTree {
+    ghost spelled = { spell_condition };
+
+    fn spell(&self, alloc: Global, out: &mut Vec<MarkedToken>) -> Result<(), AllocError> {
+        emit_reserved(alloc, out, self.place, self.word.spelling())?;
+        self.just.spell(alloc, out)?;
+        emit_special(alloc, out, self.semicolon, b";")
+    }
+}
+
+/// A property and its justification.
+#[derive(Drop)]
+pub struct PropertyTree {
+    pub place: Place,
+    pub word: PropertyWord,
+    pub just: JustTree,
+    pub semicolon: Place,
+}
+
+impl Copied for PropertyTree {
+    fn copy(&self, alloc: Global) -> Result<PropertyTree, AllocError> {
+        let just = self.just.copy(alloc)?;
+        Ok(PropertyTree {
+            place: self.place,
+            word: self.word,
+            just,
+            semicolon: self.semicolon,
+        })
+    }
+}
+
+impl Spell for PropertyTree {
+    ghost spelled = { spell_property };
+
+    fn spell(&self, alloc: Global, out: &mut Vec<MarkedToken>) -> Result<(), AllocError> {
+        emit_reserved(alloc, out, self.place, self.word.spelling())?;
+        self.just.spell(alloc, out)?;
+        emit_special(alloc, out, self.semicolon, b";")
+    }
+}
+
+/// A condition or a property behind a heading.
+#[derive(Drop)]
+pub enum ConditionOrPropertyTree {
+    Condition(ConditionTree),
+    Property(PropertyTree),
+}
+
+impl Copied for ConditionOrPropertyTree {
+    fn copy(&self, alloc: Global) -> Result<ConditionOrPropertyTree, AllocError> {
+        match self {
+            ConditionOrPropertyTree::Condition(part) => Ok(ConditionOrPropertyTree::Condition(
+                part.copy(alloc)?,
+            )),
+            ConditionOrPropertyTree::Property(part) => Ok(ConditionOrPropertyTree::Property(
+                part.copy(alloc)?,
+            )),
+        }
+    }
+}
+
+impl Spell for ConditionOrPropertyTree {
+    ghost spelled = { spell_condition_or_property };
+
+    fn spell(&self, alloc: Global, out: &mut Vec<MarkedToken>) -> Result<(), AllocError> {
+        match self {
+            ConditionOrPropertyTree::Condition(condition) => condition.spell(alloc, out),
+            ConditionOrPropertyTree::Property(property) => property.spell(alloc, out),
+        }
+    }
+}
+
+/// The loci of a block.
+#[derive(Drop)]
+pub struct BlockLetTree {
+    pub let_: Place,
+    pub declarations: DeclarationsTree,
+    pub semicolon: Place,
+}
+
+impl Copied for BlockLetTree {
+    fn copy(&self, alloc: Global) -> Result<BlockLetTree, AllocError> {
+        let declarations = self.declarations.copy(alloc)?;
+        Ok(BlockLetTree {
+            let_: self.let_,
+            declarations,
+            semicolon: self.semicolon,
+        })
+    }
+}
+
+impl Spell for BlockLetTree {
+    ghost spelled = { spell_block_let };
+
+    fn spell(&self, alloc: Global, out: &mut Vec<MarkedToken>) -> Result<(), AllocError> {
+        emit_reserved(alloc, out, self.let_, b"let")?;
+        self.declarations.spell(alloc, out)?;
+        emit_special(alloc, out, self.semicolon, b";")
+    }
+}
+
+/// A part of a block of definitions: loci, or a heading with its conditions and properties.
+#[derive(Drop)]
+pub enum DefinitionPartTree {
+    Let(BlockLetTree),
+    Heading {
+        heading: HeadingTree,
+        conditions: Trees<ConditionOrPropertyTree>,
+    },
+}
+
+impl Copied for DefinitionPartTree {
+    fn copy(&self, alloc: Global) -> Result<DefinitionPartTree, AllocError> {
+        match self {
+            DefinitionPartTree::Let(part) => Ok(DefinitionPartTree::Let(part.copy(alloc)?)),
+            DefinitionPartTree::Heading {
+                heading,
+                conditions,
+            } => {
+                let conditions = conditions.copy(alloc)?;
+                let heading = heading.copy(alloc)?;
+                Ok(DefinitionPartTree::Heading {
+                    heading,
+                    conditions,
+                })
+            }
+        }
+    }
+}
+
+impl Spell for DefinitionPartTree {
+    ghost spelled = { spell_definition_part };
+
+    fn spell(&self, alloc: Global, out: &mut Vec<MarkedToken>) -> Result<(), AllocError> {
+        match self {
+            DefinitionPartTree::Let(loci) => loci.spell(alloc, out),
+            DefinitionPartTree::Heading {
+                heading,
+                conditions,
+            } => {
+                heading.spell(alloc, out)?;
+                conditions.spell(alloc, out)
+            }
+        }
+    }
+}
 
 /// A block of definitions.
 #[derive(Drop)]
@@ -19,13 +190,25 @@ pub struct DefinitionTree {
     pub semicolon: Place,
 }
 
+impl Copied for DefinitionTree {
+    fn copy(&self, alloc: Global) -> Result<DefinitionTree, AllocError> {
+        let parts = self.parts.copy(alloc)?;
+        Ok(DefinitionTree {
+            definition: self.definition,
+            parts,
+            end: self.end,
+            semicolon: self.semicolon,
+        })
+    }
+}
+
 impl Spell for DefinitionTree {
     ghost spelled = { spell_definition };
 
     fn spell(&self, alloc: Global, out: &mut Vec<MarkedToken>) -> Result<(), AllocError> {
-        put_reserved(alloc, out, self.definition, b"definition")?;
+        emit_reserved(alloc, out, self.definition, b"definition")?;
         self.parts.spell(alloc, out)?;
-        put_reserved(alloc, out, self.end, b"end")?;
-        put_special(alloc, out, self.semicolon, b";")
+        emit_reserved(alloc, out, self.end, b"end")?;
+        emit_special(alloc, out, self.semicolon, b";")
     }
 }

@@ -1,14 +1,81 @@
-//! A block of notations.
+//! Notations: synonyms and antonyms.
 ghost use Rattle.std.specs.Prelude.{◌≡◌, ◌++◌, IfOk};
-ghost use Rattle.mz_tree_item.specs.Spell.{spell_notation};
+ghost use Rattle.mz_tree_item.specs.Spell.{spell_notation_part, spell_notation};
 
-use crate::notation_part::NotationPartTree;
+use crate::definition::BlockLetTree;
+use crate::patterns::PatternTree;
+use crate::words::NotationWord;
 use mz_base::place::Place;
-use mz_marks::marked_token::MarkedToken;
-use mz_tree::put::{put_reserved, put_special};
-use mz_tree::spelling::Spell;
-use mz_tree::trees::Trees;
+use mz_base::token::MarkedToken;
+use mz_tree::emit::{emit_reserved, emit_special};
+use mz_tree::lists::Trees;
+use mz_tree::tree::{Copied, Spell};
 use std::alloc::{AllocError, Global};
+
+/// A part of a block of notations: loci, or a further pattern for an old one.
+#[derive(Drop)]
+pub enum NotationPartTree {
+    Let(BlockLetTree),
+    Notation {
+        place: Place,
+        word: NotationWord,
+        first: PatternTree,
+        for_: Place,
+        second: PatternTree,
+        semicolon: Place,
+    },
+}
+
+impl Copied for NotationPartTree {
+    fn copy(&self, alloc: Global) -> Result<NotationPartTree, AllocError> {
+        match self {
+            NotationPartTree::Let(part) => Ok(NotationPartTree::Let(part.copy(alloc)?)),
+            NotationPartTree::Notation {
+                place,
+                word,
+                first,
+                for_,
+                second,
+                semicolon,
+            } => {
+                let first = first.copy(alloc)?;
+                let second = second.copy(alloc)?;
+                Ok(NotationPartTree::Notation {
+                    place: *place,
+                    word: *word,
+                    first,
+                    for_: *for_,
+                    second,
+                    semicolon: *semicolon,
+                })
+            }
+        }
+    }
+}
+
+impl Spell for NotationPartTree {
+    ghost spelled = { spell_notation_part };
+
+    fn spell(&self, alloc: Global, out: &mut Vec<MarkedToken>) -> Result<(), AllocError> {
+        match self {
+            NotationPartTree::Let(loci) => loci.spell(alloc, out),
+            NotationPartTree::Notation {
+                place,
+                word,
+                first,
+                for_,
+                second,
+                semicolon,
+            } => {
+                emit_reserved(alloc, out, *place, word.spelling())?;
+                first.spell(alloc, out)?;
+                emit_reserved(alloc, out, *for_, b"for")?;
+                second.spell(alloc, out)?;
+                emit_special(alloc, out, *semicolon, b";")
+            }
+        }
+    }
+}
 
 /// A block of notations.
 #[derive(Drop)]
@@ -19,13 +86,25 @@ pub struct NotationTree {
     pub semicolon: Place,
 }
 
+impl Copied for NotationTree {
+    fn copy(&self, alloc: Global) -> Result<NotationTree, AllocError> {
+        let parts = self.parts.copy(alloc)?;
+        Ok(NotationTree {
+            notation: self.notation,
+            parts,
+            end: self.end,
+            semicolon: self.semicolon,
+        })
+    }
+}
+
 impl Spell for NotationTree {
     ghost spelled = { spell_notation };
 
     fn spell(&self, alloc: Global, out: &mut Vec<MarkedToken>) -> Result<(), AllocError> {
-        put_reserved(alloc, out, self.notation, b"notation")?;
+        emit_reserved(alloc, out, self.notation, b"notation")?;
         self.parts.spell(alloc, out)?;
-        put_reserved(alloc, out, self.end, b"end")?;
-        put_special(alloc, out, self.semicolon, b";")
+        emit_reserved(alloc, out, self.end, b"end")?;
+        emit_special(alloc, out, self.semicolon, b";")
     }
 }

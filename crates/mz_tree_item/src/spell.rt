@@ -5,10 +5,8 @@ ghost use Rattle.mz_tree_item.specs.Ends.{token_of, end_behind, end_of};
 
 use crate::article::ArticleTree;
 use mz_base::place::Place;
-use mz_base::token::Token;
-use mz_base::tokens::Tokens;
-use mz_marks::marked_token::MarkedToken;
-use mz_tree::spelling::Spell;
+use mz_base::token::{MarkedToken, Token, Tokens};
+use mz_tree::tree::Spell;
 use std::alloc::{AllocError, Global};
 
 /// The place just behind the token, in its line.

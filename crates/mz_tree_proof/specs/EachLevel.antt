@@ -7,44 +7,44 @@ use Rattle.mz_tree.specs.Spelled.{reserved, special, identifier, numeral, equals
 use Rattle.mz_tree.specs.Spell.{spell_term, spell_type, spell_declarations, spell_formula}
 use Rattle.mz_tree.specs.Levels.{levels_if, levels_term, levels_type, levels_declarations, levels_formula, each_if, each_maybe, each_flat, nested_each, each_term, each_type, each_declarations, each_formula}
 use Rattle.mz_tree.specs.Lists.{spell_separated, levels_separated, each_separated}
-use Rattle.mz_tree_proof.specs.Spell.{spell_label, spell_proposition, spell_and_proposition, spell_propositions, spell_hypotheses, spell_such, spell_number, spell_reference, spell_scheme_reference, spell_premises, spell_simple, spell_link, spell_named_term, spell_retyped, spell_taken, spell_consider, spell_reconsider, spell_set, spell_deffunc, spell_defpred, spell_naming, spell_let, spell_assume, spell_given, spell_take, spell_skeleton, spell_split}
-use Rattle.mz_tree_proof.specs.Levels.{levels_label, levels_proposition, levels_and_proposition, levels_propositions, levels_hypotheses, levels_such, levels_number, levels_reference, levels_scheme_reference, levels_premises, levels_simple, levels_link, levels_named_term, levels_retyped, levels_taken, levels_consider, levels_reconsider, levels_set, levels_deffunc, levels_defpred, levels_naming, levels_let, levels_assume, levels_given, levels_take, levels_skeleton, levels_split}
-use Rattle.mz_tree_proof.specs.declared.label.LabelTree.{LabelTree}
-use Rattle.mz_tree_proof.specs.declared.proposition.PropositionTree.{PropositionTree}
-use Rattle.mz_tree_proof.specs.declared.and_proposition.AndPropositionTree.{AndPropositionTree}
+use Rattle.mz_tree_proof.specs.Spell.{spell_label, spell_proposition, spell_and_proposition, spell_propositions, spell_hypotheses, spell_such, spell_number, spell_reference, spell_scheme_reference, spell_premises, spell_simple, spell_equality_step, spell_named_term, spell_retyped, spell_taken, spell_consider, spell_reconsider, spell_set, spell_deffunc, spell_defpred, spell_introduction, spell_let, spell_assume, spell_given, spell_take, spell_skeleton, spell_split}
+use Rattle.mz_tree_proof.specs.Levels.{levels_label, levels_proposition, levels_and_proposition, levels_propositions, levels_hypotheses, levels_such, levels_number, levels_reference, levels_scheme_reference, levels_premises, levels_simple, levels_equality_step, levels_named_term, levels_retyped, levels_taken, levels_consider, levels_reconsider, levels_set, levels_deffunc, levels_defpred, levels_introduction, levels_let, levels_assume, levels_given, levels_take, levels_skeleton, levels_split}
+use Rattle.mz_tree_proof.specs.declared.references.LabelTree.{LabelTree}
+use Rattle.mz_tree_proof.specs.declared.propositions.PropositionTree.{PropositionTree}
+use Rattle.mz_tree_proof.specs.declared.propositions.AndPropositionTree.{AndPropositionTree}
 use Rattle.mz_tree_proof.specs.declared.propositions.PropositionsTree.{PropositionsTree}
-use Rattle.mz_tree_proof.specs.declared.hypotheses.HypothesesTree.{HypothesesTree}
-use Rattle.mz_tree_proof.specs.declared.hypotheses.HypothesesTree.TheVariants as hypotheses_tree
-use Rattle.mz_tree_proof.specs.declared.such.SuchTree.{SuchTree}
-use Rattle.mz_tree_proof.specs.declared.number.NumberTree.{NumberTree}
-use Rattle.mz_tree_proof.specs.declared.number.NumberTree.TheVariants as number_tree
-use Rattle.mz_tree_proof.specs.declared.reference.ReferenceTree.{ReferenceTree}
-use Rattle.mz_tree_proof.specs.declared.reference.ReferenceTree.TheVariants as reference_tree
-use Rattle.mz_tree_proof.specs.declared.scheme_reference.SchemeReferenceTree.{SchemeReferenceTree}
-use Rattle.mz_tree_proof.specs.declared.scheme_reference.SchemeReferenceTree.TheVariants as scheme_reference_tree
-use Rattle.mz_tree_proof.specs.declared.premises.PremisesTree.{PremisesTree}
-use Rattle.mz_tree_proof.specs.declared.simple.SimpleTree.{SimpleTree}
-use Rattle.mz_tree_proof.specs.declared.simple.SimpleTree.TheVariants as simple_tree
-use Rattle.mz_tree_proof.specs.declared.link.LinkTree.{LinkTree}
-use Rattle.mz_tree_proof.specs.declared.named_term.NamedTermTree.{NamedTermTree}
-use Rattle.mz_tree_proof.specs.declared.retyped.RetypedTree.{RetypedTree}
-use Rattle.mz_tree_proof.specs.declared.retyped.RetypedTree.TheVariants as retyped_tree
-use Rattle.mz_tree_proof.specs.declared.taken.TakenTree.{TakenTree}
-use Rattle.mz_tree_proof.specs.declared.taken.TakenTree.TheVariants as taken_tree
-use Rattle.mz_tree_proof.specs.declared.consider.ConsiderTree.{ConsiderTree}
-use Rattle.mz_tree_proof.specs.declared.reconsider.ReconsiderTree.{ReconsiderTree}
-use Rattle.mz_tree_proof.specs.declared.set.SetTree.{SetTree}
-use Rattle.mz_tree_proof.specs.declared.deffunc.DeffuncTree.{DeffuncTree}
-use Rattle.mz_tree_proof.specs.declared.defpred.DefpredTree.{DefpredTree}
-use Rattle.mz_tree_proof.specs.declared.naming.NamingTree.{NamingTree}
-use Rattle.mz_tree_proof.specs.declared.naming.NamingTree.TheVariants as naming_tree
-use Rattle.mz_tree_proof.specs.declared.let_step.LetTree.{LetTree}
-use Rattle.mz_tree_proof.specs.declared.assume.AssumeTree.{AssumeTree}
-use Rattle.mz_tree_proof.specs.declared.given.GivenTree.{GivenTree}
-use Rattle.mz_tree_proof.specs.declared.take.TakeTree.{TakeTree}
+use Rattle.mz_tree_proof.specs.declared.propositions.HypothesesTree.{HypothesesTree}
+use Rattle.mz_tree_proof.specs.declared.propositions.HypothesesTree.TheVariants as hypotheses_tree
+use Rattle.mz_tree_proof.specs.declared.propositions.SuchTree.{SuchTree}
+use Rattle.mz_tree_proof.specs.declared.references.NumberTree.{NumberTree}
+use Rattle.mz_tree_proof.specs.declared.references.NumberTree.TheVariants as number_tree
+use Rattle.mz_tree_proof.specs.declared.references.ReferenceTree.{ReferenceTree}
+use Rattle.mz_tree_proof.specs.declared.references.ReferenceTree.TheVariants as reference_tree
+use Rattle.mz_tree_proof.specs.declared.references.SchemeReferenceTree.{SchemeReferenceTree}
+use Rattle.mz_tree_proof.specs.declared.references.SchemeReferenceTree.TheVariants as scheme_reference_tree
+use Rattle.mz_tree_proof.specs.declared.references.PremisesTree.{PremisesTree}
+use Rattle.mz_tree_proof.specs.declared.references.SimpleTree.{SimpleTree}
+use Rattle.mz_tree_proof.specs.declared.references.SimpleTree.TheVariants as simple_tree
+use Rattle.mz_tree_proof.specs.declared.equality_step.EqualityStepTree.{EqualityStepTree}
+use Rattle.mz_tree_proof.specs.declared.introduction.NamedTermTree.{NamedTermTree}
+use Rattle.mz_tree_proof.specs.declared.introduction.RetypedTree.{RetypedTree}
+use Rattle.mz_tree_proof.specs.declared.introduction.RetypedTree.TheVariants as retyped_tree
+use Rattle.mz_tree_proof.specs.declared.skeleton.TakenTree.{TakenTree}
+use Rattle.mz_tree_proof.specs.declared.skeleton.TakenTree.TheVariants as taken_tree
+use Rattle.mz_tree_proof.specs.declared.introduction.ConsiderTree.{ConsiderTree}
+use Rattle.mz_tree_proof.specs.declared.introduction.ReconsiderTree.{ReconsiderTree}
+use Rattle.mz_tree_proof.specs.declared.introduction.SetTree.{SetTree}
+use Rattle.mz_tree_proof.specs.declared.introduction.DeffuncTree.{DeffuncTree}
+use Rattle.mz_tree_proof.specs.declared.introduction.DefpredTree.{DefpredTree}
+use Rattle.mz_tree_proof.specs.declared.introduction.IntroductionTree.{IntroductionTree}
+use Rattle.mz_tree_proof.specs.declared.introduction.IntroductionTree.TheVariants as introduction_tree
+use Rattle.mz_tree_proof.specs.declared.skeleton.LetTree.{LetTree}
+use Rattle.mz_tree_proof.specs.declared.skeleton.AssumeTree.{AssumeTree}
+use Rattle.mz_tree_proof.specs.declared.skeleton.GivenTree.{GivenTree}
+use Rattle.mz_tree_proof.specs.declared.skeleton.TakeTree.{TakeTree}
 use Rattle.mz_tree_proof.specs.declared.skeleton.SkeletonTree.{SkeletonTree}
 use Rattle.mz_tree_proof.specs.declared.skeleton.SkeletonTree.TheVariants as skeleton_tree
-use Rattle.mz_tree_proof.specs.declared.split.SplitTree.{SplitTree}
+use Rattle.mz_tree_proof.specs.declared.skeleton.SplitTree.{SplitTree}
 
 pub each_label : (t : LabelTree) → length (levels_label t) ≡ length (spell_label t)
 each_label a = refl
@@ -85,8 +85,8 @@ each_simple simple_tree.Nothing = refl
 each_simple (simple_tree.By by references) = ap suc (each_separated levels_reference spell_reference each_reference references)
 each_simple (simple_tree.From from_ scheme premises) = each_append (0 ∷ levels_scheme_reference scheme) (maybe levels_premises premises) (reserved from_ (codes "from") ∷ spell_scheme_reference scheme) (maybe spell_premises premises) (ap suc (each_scheme_reference scheme)) (each_maybe levels_premises spell_premises each_premises premises)
 
-pub each_link : (t : LinkTree) → length (levels_link t) ≡ length (spell_link t)
-each_link a = each_append (0 ∷ levels_term a.term) (levels_simple a.simple) (special a.sign (codes ".=") ∷ spell_term a.term) (spell_simple a.simple) (ap suc (each_term a.term)) (each_simple a.simple)
+pub each_equality_step : (t : EqualityStepTree) → length (levels_equality_step t) ≡ length (spell_equality_step t)
+each_equality_step a = each_append (0 ∷ levels_term a.term) (levels_simple a.simple) (special a.sign (codes ".=") ∷ spell_term a.term) (spell_simple a.simple) (ap suc (each_term a.term)) (each_simple a.simple)
 
 pub each_named_term : (t : NamedTermTree) → length (levels_named_term t) ≡ length (spell_named_term t)
 each_named_term a = ap suc (ap suc (each_term a.term))
@@ -114,12 +114,12 @@ each_deffunc a = each_append (0 ∷ 0 ∷ 1 ∷ map suc (maybe (levels_separated
 pub each_defpred : (t : DefpredTree) → length (levels_defpred t) ≡ length (spell_defpred t)
 each_defpred a = each_append (0 ∷ 0 ∷ 1 ∷ map suc (maybe (levels_separated levels_type) a.types) ++ 0 ∷ 0 ∷ levels_formula a.formula) (0 ∷ []) (reserved a.defpred (codes "defpred") ∷ identifier a.name ∷ special a.left (codes "[") ∷ maybe (spell_separated spell_type) a.types ++ special a.right (codes "]") ∷ reserved a.means (codes "means") ∷ spell_formula a.formula) (special a.semicolon (codes ";") ∷ []) (each_append (0 ∷ 0 ∷ 1 ∷ map suc (maybe (levels_separated levels_type) a.types)) (0 ∷ 0 ∷ levels_formula a.formula) (reserved a.defpred (codes "defpred") ∷ identifier a.name ∷ special a.left (codes "[") ∷ maybe (spell_separated spell_type) a.types) (special a.right (codes "]") ∷ reserved a.means (codes "means") ∷ spell_formula a.formula) (ap suc (ap suc (ap suc (nested_each (maybe (levels_separated levels_type) a.types) (maybe (spell_separated spell_type) a.types) (each_maybe (levels_separated levels_type) (spell_separated spell_type) (each_separated levels_type spell_type each_type) a.types))))) (ap suc (ap suc (each_formula a.formula)))) refl
 
-pub each_naming : (t : NamingTree) → length (levels_naming t) ≡ length (spell_naming t)
-each_naming (naming_tree.Consider tree) = each_consider tree
-each_naming (naming_tree.Reconsider tree) = each_reconsider tree
-each_naming (naming_tree.Set tree) = each_set tree
-each_naming (naming_tree.Deffunc tree) = each_deffunc tree
-each_naming (naming_tree.Defpred tree) = each_defpred tree
+pub each_introduction : (t : IntroductionTree) → length (levels_introduction t) ≡ length (spell_introduction t)
+each_introduction (introduction_tree.Consider tree) = each_consider tree
+each_introduction (introduction_tree.Reconsider tree) = each_reconsider tree
+each_introduction (introduction_tree.Set tree) = each_set tree
+each_introduction (introduction_tree.Deffunc tree) = each_deffunc tree
+each_introduction (introduction_tree.Defpred tree) = each_defpred tree
 
 pub each_let : (t : LetTree) → length (levels_let t) ≡ length (spell_let t)
 each_let a = each_append (0 ∷ levels_declarations a.declarations ++ maybe levels_such a.such) (0 ∷ []) (reserved a.let_ (codes "let") ∷ spell_declarations a.declarations ++ maybe spell_such a.such) (special a.semicolon (codes ";") ∷ []) (each_append (0 ∷ levels_declarations a.declarations) (maybe levels_such a.such) (reserved a.let_ (codes "let") ∷ spell_declarations a.declarations) (maybe spell_such a.such) (ap suc (each_declarations a.declarations)) (each_maybe levels_such spell_such each_such a.such)) refl

@@ -2,17 +2,17 @@
 -- states fewer.
 use Rattle.std.specs.Prelude.{Bool, true}
 use Rattle.mz_forms.specs.Form.{Form}
-use Rattle.mz_marks.specs.declared.marked_token.MarkedToken.{MarkedToken}
-use Rattle.mz_tree_proof.specs.declared.proposition.PropositionTree.{PropositionTree}
-use Rattle.mz_tree_proof.specs.Reasoning.{JustData, StatementData, ReasoningData}
+use Rattle.mz_base.specs.declared.token.MarkedToken.{MarkedToken}
+use Rattle.mz_tree_proof.specs.declared.propositions.PropositionTree.{PropositionTree}
+use Rattle.mz_tree_proof.specs.Reasoning.{JustData, StatementData, StepList}
 use Rattle.mz_tree_proof.specs.Spell.{spell_proposition}
-use Rattle.mz_tree_proof.specs.SpellReasoning.{spell_just, spell_statement, spell_reasoning}
+use Rattle.mz_tree_proof.specs.SpellReasoning.{spell_just, spell_statement, spell_step_list}
 use Rattle.mz_tree_proof.specs.Levels.{levels_proposition}
-use Rattle.mz_tree_proof.specs.LevelsReasoning.{levels_just, levels_statement, levels_reasoning}
+use Rattle.mz_tree_proof.specs.LevelsReasoning.{levels_just, levels_statement, levels_step_list}
 use Rattle.mz_tree_proof.specs.EachLevel.{each_proposition}
-use Rattle.mz_tree_proof.specs.EachLevelReasoning.{each_just, each_statement, each_reasoning}
+use Rattle.mz_tree_proof.specs.EachLevelReasoning.{each_just, each_statement, each_step_list}
 use Rattle.mz_tree_proof.specs.Rules.{IsProposition}
-use Rattle.mz_tree_proof.specs.RulesReasoning.{IsJust, IsStatement, IsReasoning}
+use Rattle.mz_tree_proof.specs.RulesReasoning.{IsJust, IsStatement, AreSteps}
 
 abbrev pub proposition : Form MarkedToken
 proposition = record { Tree = PropositionTree; spell = spell_proposition; levels = levels_proposition; each = each_proposition; IsTree = IsProposition; goes = λ _ _. true }
@@ -24,4 +24,4 @@ abbrev pub statement : Form MarkedToken
 statement = record { Tree = StatementData; spell = spell_statement; levels = levels_statement; each = each_statement; IsTree = IsStatement; goes = λ _ _. true }
 
 abbrev pub reasoning : Form MarkedToken
-reasoning = record { Tree = ReasoningData; spell = spell_reasoning; levels = levels_reasoning; each = each_reasoning; IsTree = IsReasoning; goes = λ _ _. true }
+reasoning = record { Tree = StepList; spell = spell_step_list; levels = levels_step_list; each = each_step_list; IsTree = AreSteps; goes = λ _ _. true }

@@ -5,42 +5,42 @@ use Rattle.std.specs.List.{flat_map}
 use Rattle.mz_tree.specs.Spelled.{maybe}
 use Rattle.mz_tree.specs.Levels.{levels_if, levels_term, levels_type, levels_declarations, levels_formula}
 use Rattle.mz_tree.specs.Lists.{levels_separated}
-use Rattle.mz_tree_proof.specs.declared.label.LabelTree.{LabelTree}
-use Rattle.mz_tree_proof.specs.declared.proposition.PropositionTree.{PropositionTree}
-use Rattle.mz_tree_proof.specs.declared.and_proposition.AndPropositionTree.{AndPropositionTree}
+use Rattle.mz_tree_proof.specs.declared.references.LabelTree.{LabelTree}
+use Rattle.mz_tree_proof.specs.declared.propositions.PropositionTree.{PropositionTree}
+use Rattle.mz_tree_proof.specs.declared.propositions.AndPropositionTree.{AndPropositionTree}
 use Rattle.mz_tree_proof.specs.declared.propositions.PropositionsTree.{PropositionsTree}
-use Rattle.mz_tree_proof.specs.declared.hypotheses.HypothesesTree.{HypothesesTree}
-use Rattle.mz_tree_proof.specs.declared.hypotheses.HypothesesTree.TheVariants as hypotheses_tree
-use Rattle.mz_tree_proof.specs.declared.such.SuchTree.{SuchTree}
-use Rattle.mz_tree_proof.specs.declared.number.NumberTree.{NumberTree}
-use Rattle.mz_tree_proof.specs.declared.number.NumberTree.TheVariants as number_tree
-use Rattle.mz_tree_proof.specs.declared.reference.ReferenceTree.{ReferenceTree}
-use Rattle.mz_tree_proof.specs.declared.reference.ReferenceTree.TheVariants as reference_tree
-use Rattle.mz_tree_proof.specs.declared.scheme_reference.SchemeReferenceTree.{SchemeReferenceTree}
-use Rattle.mz_tree_proof.specs.declared.scheme_reference.SchemeReferenceTree.TheVariants as scheme_reference_tree
-use Rattle.mz_tree_proof.specs.declared.premises.PremisesTree.{PremisesTree}
-use Rattle.mz_tree_proof.specs.declared.simple.SimpleTree.{SimpleTree}
-use Rattle.mz_tree_proof.specs.declared.simple.SimpleTree.TheVariants as simple_tree
-use Rattle.mz_tree_proof.specs.declared.link.LinkTree.{LinkTree}
-use Rattle.mz_tree_proof.specs.declared.named_term.NamedTermTree.{NamedTermTree}
-use Rattle.mz_tree_proof.specs.declared.retyped.RetypedTree.{RetypedTree}
-use Rattle.mz_tree_proof.specs.declared.retyped.RetypedTree.TheVariants as retyped_tree
-use Rattle.mz_tree_proof.specs.declared.taken.TakenTree.{TakenTree}
-use Rattle.mz_tree_proof.specs.declared.taken.TakenTree.TheVariants as taken_tree
-use Rattle.mz_tree_proof.specs.declared.consider.ConsiderTree.{ConsiderTree}
-use Rattle.mz_tree_proof.specs.declared.reconsider.ReconsiderTree.{ReconsiderTree}
-use Rattle.mz_tree_proof.specs.declared.set.SetTree.{SetTree}
-use Rattle.mz_tree_proof.specs.declared.deffunc.DeffuncTree.{DeffuncTree}
-use Rattle.mz_tree_proof.specs.declared.defpred.DefpredTree.{DefpredTree}
-use Rattle.mz_tree_proof.specs.declared.naming.NamingTree.{NamingTree}
-use Rattle.mz_tree_proof.specs.declared.naming.NamingTree.TheVariants as naming_tree
-use Rattle.mz_tree_proof.specs.declared.let_step.LetTree.{LetTree}
-use Rattle.mz_tree_proof.specs.declared.assume.AssumeTree.{AssumeTree}
-use Rattle.mz_tree_proof.specs.declared.given.GivenTree.{GivenTree}
-use Rattle.mz_tree_proof.specs.declared.take.TakeTree.{TakeTree}
+use Rattle.mz_tree_proof.specs.declared.propositions.HypothesesTree.{HypothesesTree}
+use Rattle.mz_tree_proof.specs.declared.propositions.HypothesesTree.TheVariants as hypotheses_tree
+use Rattle.mz_tree_proof.specs.declared.propositions.SuchTree.{SuchTree}
+use Rattle.mz_tree_proof.specs.declared.references.NumberTree.{NumberTree}
+use Rattle.mz_tree_proof.specs.declared.references.NumberTree.TheVariants as number_tree
+use Rattle.mz_tree_proof.specs.declared.references.ReferenceTree.{ReferenceTree}
+use Rattle.mz_tree_proof.specs.declared.references.ReferenceTree.TheVariants as reference_tree
+use Rattle.mz_tree_proof.specs.declared.references.SchemeReferenceTree.{SchemeReferenceTree}
+use Rattle.mz_tree_proof.specs.declared.references.SchemeReferenceTree.TheVariants as scheme_reference_tree
+use Rattle.mz_tree_proof.specs.declared.references.PremisesTree.{PremisesTree}
+use Rattle.mz_tree_proof.specs.declared.references.SimpleTree.{SimpleTree}
+use Rattle.mz_tree_proof.specs.declared.references.SimpleTree.TheVariants as simple_tree
+use Rattle.mz_tree_proof.specs.declared.equality_step.EqualityStepTree.{EqualityStepTree}
+use Rattle.mz_tree_proof.specs.declared.introduction.NamedTermTree.{NamedTermTree}
+use Rattle.mz_tree_proof.specs.declared.introduction.RetypedTree.{RetypedTree}
+use Rattle.mz_tree_proof.specs.declared.introduction.RetypedTree.TheVariants as retyped_tree
+use Rattle.mz_tree_proof.specs.declared.skeleton.TakenTree.{TakenTree}
+use Rattle.mz_tree_proof.specs.declared.skeleton.TakenTree.TheVariants as taken_tree
+use Rattle.mz_tree_proof.specs.declared.introduction.ConsiderTree.{ConsiderTree}
+use Rattle.mz_tree_proof.specs.declared.introduction.ReconsiderTree.{ReconsiderTree}
+use Rattle.mz_tree_proof.specs.declared.introduction.SetTree.{SetTree}
+use Rattle.mz_tree_proof.specs.declared.introduction.DeffuncTree.{DeffuncTree}
+use Rattle.mz_tree_proof.specs.declared.introduction.DefpredTree.{DefpredTree}
+use Rattle.mz_tree_proof.specs.declared.introduction.IntroductionTree.{IntroductionTree}
+use Rattle.mz_tree_proof.specs.declared.introduction.IntroductionTree.TheVariants as introduction_tree
+use Rattle.mz_tree_proof.specs.declared.skeleton.LetTree.{LetTree}
+use Rattle.mz_tree_proof.specs.declared.skeleton.AssumeTree.{AssumeTree}
+use Rattle.mz_tree_proof.specs.declared.skeleton.GivenTree.{GivenTree}
+use Rattle.mz_tree_proof.specs.declared.skeleton.TakeTree.{TakeTree}
 use Rattle.mz_tree_proof.specs.declared.skeleton.SkeletonTree.{SkeletonTree}
 use Rattle.mz_tree_proof.specs.declared.skeleton.SkeletonTree.TheVariants as skeleton_tree
-use Rattle.mz_tree_proof.specs.declared.split.SplitTree.{SplitTree}
+use Rattle.mz_tree_proof.specs.declared.skeleton.SplitTree.{SplitTree}
 
 abbrev pub levels_label : LabelTree → List ℕ
 levels_label a = 0 ∷ 0 ∷ []
@@ -81,8 +81,8 @@ levels_simple simple_tree.Nothing = []
 levels_simple (simple_tree.By by references) = 0 ∷ levels_separated levels_reference references
 levels_simple (simple_tree.From from_ scheme premises) = 0 ∷ levels_scheme_reference scheme ++ maybe levels_premises premises
 
-abbrev pub levels_link : LinkTree → List ℕ
-levels_link a = 0 ∷ levels_term a.term ++ levels_simple a.simple
+abbrev pub levels_equality_step : EqualityStepTree → List ℕ
+levels_equality_step a = 0 ∷ levels_term a.term ++ levels_simple a.simple
 
 abbrev pub levels_named_term : NamedTermTree → List ℕ
 levels_named_term a = 0 ∷ 0 ∷ levels_term a.term
@@ -110,12 +110,12 @@ levels_deffunc a = 0 ∷ 0 ∷ 1 ∷ map suc (maybe (levels_separated levels_typ
 abbrev pub levels_defpred : DefpredTree → List ℕ
 levels_defpred a = 0 ∷ 0 ∷ 1 ∷ map suc (maybe (levels_separated levels_type) a.types) ++ 0 ∷ 0 ∷ levels_formula a.formula ++ 0 ∷ []
 
-abbrev pub levels_naming : NamingTree → List ℕ
-levels_naming (naming_tree.Consider tree) = levels_consider tree
-levels_naming (naming_tree.Reconsider tree) = levels_reconsider tree
-levels_naming (naming_tree.Set tree) = levels_set tree
-levels_naming (naming_tree.Deffunc tree) = levels_deffunc tree
-levels_naming (naming_tree.Defpred tree) = levels_defpred tree
+abbrev pub levels_introduction : IntroductionTree → List ℕ
+levels_introduction (introduction_tree.Consider tree) = levels_consider tree
+levels_introduction (introduction_tree.Reconsider tree) = levels_reconsider tree
+levels_introduction (introduction_tree.Set tree) = levels_set tree
+levels_introduction (introduction_tree.Deffunc tree) = levels_deffunc tree
+levels_introduction (introduction_tree.Defpred tree) = levels_defpred tree
 
 abbrev pub levels_let : LetTree → List ℕ
 levels_let a = 0 ∷ levels_declarations a.declarations ++ maybe levels_such a.such ++ 0 ∷ []

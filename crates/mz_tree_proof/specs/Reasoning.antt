@@ -3,48 +3,45 @@ use Rattle.std.specs.Prelude.{◌≡◌, ℕ, suc, ◌+◌, ◌≤◌, List, [],
 use Rattle.std.proofs.Common.{arith, ap, sym, ◌∙◌}
 use denote.Param.Weighed.{most}
 use Rattle.mz_base.specs.declared.place.Place.{Place}
-use Rattle.mz_tree_proof.specs.declared.hypotheses.HypothesesTree.{HypothesesTree}
-use Rattle.mz_tree_proof.specs.declared.label.LabelTree.{LabelTree}
-use Rattle.mz_tree_proof.specs.declared.link.LinkTree.{LinkTree}
-use Rattle.mz_tree_proof.specs.declared.naming.NamingTree.{NamingTree}
-use Rattle.mz_tree_proof.specs.declared.proposition.PropositionTree.{PropositionTree}
-use Rattle.mz_tree_proof.specs.declared.simple.SimpleTree.{SimpleTree}
+use Rattle.mz_tree_proof.specs.declared.propositions.HypothesesTree.{HypothesesTree}
+use Rattle.mz_tree_proof.specs.declared.references.LabelTree.{LabelTree}
+use Rattle.mz_tree_proof.specs.declared.equality_step.EqualityStepTree.{EqualityStepTree}
+use Rattle.mz_tree_proof.specs.declared.introduction.IntroductionTree.{IntroductionTree}
+use Rattle.mz_tree_proof.specs.declared.propositions.PropositionTree.{PropositionTree}
+use Rattle.mz_tree_proof.specs.declared.references.SimpleTree.{SimpleTree}
 use Rattle.mz_tree_proof.specs.declared.skeleton.SkeletonTree.{SkeletonTree}
-use Rattle.mz_tree_proof.specs.declared.split.SplitTree.{SplitTree}
+use Rattle.mz_tree_proof.specs.declared.skeleton.SplitTree.{SplitTree}
 
 mutual
   -- A justification.
   pub data JustData : Type 0 where
     SimpleJust : SimpleTree → JustData
-    ProofJust : Place → ReasoningData → Place → JustData
+    ProofJust : Place → StepList → Place → JustData
 
   -- A proposition with its justification, and the further sides of an iterative equality.
   pub data CompactData : Type 0 where
-    StatedCompact : PropositionTree → JustData → List LinkTree → Place → CompactData
+    StatedCompact : PropositionTree → JustData → List EqualityStepTree → Place → CompactData
 
   -- A statement.
   pub data StatementData : Type 0 where
     CompactStatement : Option Place → CompactData → StatementData
-    NowStatement : Option LabelTree → Place → ReasoningData → Place → Place → StatementData
-    NamingStatement : NamingTree → StatementData
+    NowStatement : Option LabelTree → Place → StepList → Place → Place → StatementData
+    IntroductionStatement : IntroductionTree → StatementData
 
-  -- A step of a reasoning.
+  -- A step of a reasoning. A split into cases is one, which only the last step may be.
   pub data StepData : Type 0 where
     StatementStep : StatementData → StepData
     ThusStep : Place → CompactData → StepData
     HenceStep : Place → CompactData → StepData
-    HerebyStep : Place → ReasoningData → Place → Place → StepData
+    HerebyStep : Place → StepList → Place → Place → StepData
     SkeletonStep : SkeletonTree → StepData
-
-  -- Steps, and at their end a split into cases or none.
-  pub data ReasoningData : Type 0 where
-    PlainReasoning : StepList → ReasoningData
-    CasesReasoning : StepList → SplitTree → SupposeData → SupposeList → ReasoningData
+    CasesStep : SplitTree → SupposeData → SupposeList → StepData
 
   -- A case: what it supposes, and its reasoning.
   pub data SupposeData : Type 0 where
-    CaseSuppose : Place → HypothesesTree → Place → ReasoningData → Place → Place → SupposeData
+    CaseSuppose : Place → HypothesesTree → Place → StepList → Place → Place → SupposeData
 
+  -- A reasoning.
   pub data StepList : Type 0 where
     no_steps : StepList
     more_steps : StepData → StepList → StepList
@@ -87,29 +84,26 @@ supposes_of-inj ts us e = sym (suppose_list-supposes_of ts) ∙ ap suppose_list 
 abbrev mutual
   pub just_size : JustData → ℕ
   just_size (SimpleJust a) = 1
-  just_size (ProofJust a b c) = suc (reasoning_size b)
+  just_size (ProofJust a b c) = suc (step_list_size b)
 
   pub compact_size : CompactData → ℕ
   compact_size (StatedCompact a b c d) = suc (just_size b)
 
   pub statement_size : StatementData → ℕ
   statement_size (CompactStatement a b) = suc (compact_size b)
-  statement_size (NowStatement a b c d e) = suc (reasoning_size c)
-  statement_size (NamingStatement a) = 1
+  statement_size (NowStatement a b c d e) = suc (step_list_size c)
+  statement_size (IntroductionStatement a) = 1
 
   pub step_size : StepData → ℕ
   step_size (StatementStep a) = suc (statement_size a)
   step_size (ThusStep a b) = suc (compact_size b)
   step_size (HenceStep a b) = suc (compact_size b)
-  step_size (HerebyStep a b c d) = suc (reasoning_size b)
+  step_size (HerebyStep a b c d) = suc (step_list_size b)
   step_size (SkeletonStep a) = 1
-
-  pub reasoning_size : ReasoningData → ℕ
-  reasoning_size (PlainReasoning a) = suc (step_list_size a)
-  reasoning_size (CasesReasoning a b c d) = suc (step_list_size a + suppose_size c + suppose_list_size d)
+  step_size (CasesStep a b c) = suc (suppose_size b + suppose_list_size c)
 
   pub suppose_size : SupposeData → ℕ
-  suppose_size (CaseSuppose a b c d e f) = suc (reasoning_size d)
+  suppose_size (CaseSuppose a b c d e f) = suc (step_list_size d)
 
   pub step_list_size : StepList → ℕ
   step_list_size no_steps = 1

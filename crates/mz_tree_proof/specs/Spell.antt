@@ -1,46 +1,46 @@
 -- The spelling of what reasonings are made of: one case for each alternative of the grammar.
 use Rattle.std.specs.Prelude.{List, [], ◌∷◌, ◌++◌, codes}
 use Rattle.std.specs.List.{flat_map}
-use Rattle.mz_marks.specs.declared.marked_token.MarkedToken.{MarkedToken}
+use Rattle.mz_base.specs.declared.token.MarkedToken.{MarkedToken}
 use Rattle.mz_tree.specs.Spelled.{reserved, special, identifier, numeral, equals_sign, reserved_if, maybe}
 use Rattle.mz_tree.specs.Spell.{spell_term, spell_type, spell_declarations, spell_formula}
 use Rattle.mz_tree.specs.Lists.{spell_separated}
-use Rattle.mz_tree_proof.specs.declared.label.LabelTree.{LabelTree}
-use Rattle.mz_tree_proof.specs.declared.proposition.PropositionTree.{PropositionTree}
-use Rattle.mz_tree_proof.specs.declared.and_proposition.AndPropositionTree.{AndPropositionTree}
+use Rattle.mz_tree_proof.specs.declared.references.LabelTree.{LabelTree}
+use Rattle.mz_tree_proof.specs.declared.propositions.PropositionTree.{PropositionTree}
+use Rattle.mz_tree_proof.specs.declared.propositions.AndPropositionTree.{AndPropositionTree}
 use Rattle.mz_tree_proof.specs.declared.propositions.PropositionsTree.{PropositionsTree}
-use Rattle.mz_tree_proof.specs.declared.hypotheses.HypothesesTree.{HypothesesTree}
-use Rattle.mz_tree_proof.specs.declared.hypotheses.HypothesesTree.TheVariants as hypotheses_tree
-use Rattle.mz_tree_proof.specs.declared.such.SuchTree.{SuchTree}
-use Rattle.mz_tree_proof.specs.declared.number.NumberTree.{NumberTree}
-use Rattle.mz_tree_proof.specs.declared.number.NumberTree.TheVariants as number_tree
-use Rattle.mz_tree_proof.specs.declared.reference.ReferenceTree.{ReferenceTree}
-use Rattle.mz_tree_proof.specs.declared.reference.ReferenceTree.TheVariants as reference_tree
-use Rattle.mz_tree_proof.specs.declared.scheme_reference.SchemeReferenceTree.{SchemeReferenceTree}
-use Rattle.mz_tree_proof.specs.declared.scheme_reference.SchemeReferenceTree.TheVariants as scheme_reference_tree
-use Rattle.mz_tree_proof.specs.declared.premises.PremisesTree.{PremisesTree}
-use Rattle.mz_tree_proof.specs.declared.simple.SimpleTree.{SimpleTree}
-use Rattle.mz_tree_proof.specs.declared.simple.SimpleTree.TheVariants as simple_tree
-use Rattle.mz_tree_proof.specs.declared.link.LinkTree.{LinkTree}
-use Rattle.mz_tree_proof.specs.declared.named_term.NamedTermTree.{NamedTermTree}
-use Rattle.mz_tree_proof.specs.declared.retyped.RetypedTree.{RetypedTree}
-use Rattle.mz_tree_proof.specs.declared.retyped.RetypedTree.TheVariants as retyped_tree
-use Rattle.mz_tree_proof.specs.declared.taken.TakenTree.{TakenTree}
-use Rattle.mz_tree_proof.specs.declared.taken.TakenTree.TheVariants as taken_tree
-use Rattle.mz_tree_proof.specs.declared.consider.ConsiderTree.{ConsiderTree}
-use Rattle.mz_tree_proof.specs.declared.reconsider.ReconsiderTree.{ReconsiderTree}
-use Rattle.mz_tree_proof.specs.declared.set.SetTree.{SetTree}
-use Rattle.mz_tree_proof.specs.declared.deffunc.DeffuncTree.{DeffuncTree}
-use Rattle.mz_tree_proof.specs.declared.defpred.DefpredTree.{DefpredTree}
-use Rattle.mz_tree_proof.specs.declared.naming.NamingTree.{NamingTree}
-use Rattle.mz_tree_proof.specs.declared.naming.NamingTree.TheVariants as naming_tree
-use Rattle.mz_tree_proof.specs.declared.let_step.LetTree.{LetTree}
-use Rattle.mz_tree_proof.specs.declared.assume.AssumeTree.{AssumeTree}
-use Rattle.mz_tree_proof.specs.declared.given.GivenTree.{GivenTree}
-use Rattle.mz_tree_proof.specs.declared.take.TakeTree.{TakeTree}
+use Rattle.mz_tree_proof.specs.declared.propositions.HypothesesTree.{HypothesesTree}
+use Rattle.mz_tree_proof.specs.declared.propositions.HypothesesTree.TheVariants as hypotheses_tree
+use Rattle.mz_tree_proof.specs.declared.propositions.SuchTree.{SuchTree}
+use Rattle.mz_tree_proof.specs.declared.references.NumberTree.{NumberTree}
+use Rattle.mz_tree_proof.specs.declared.references.NumberTree.TheVariants as number_tree
+use Rattle.mz_tree_proof.specs.declared.references.ReferenceTree.{ReferenceTree}
+use Rattle.mz_tree_proof.specs.declared.references.ReferenceTree.TheVariants as reference_tree
+use Rattle.mz_tree_proof.specs.declared.references.SchemeReferenceTree.{SchemeReferenceTree}
+use Rattle.mz_tree_proof.specs.declared.references.SchemeReferenceTree.TheVariants as scheme_reference_tree
+use Rattle.mz_tree_proof.specs.declared.references.PremisesTree.{PremisesTree}
+use Rattle.mz_tree_proof.specs.declared.references.SimpleTree.{SimpleTree}
+use Rattle.mz_tree_proof.specs.declared.references.SimpleTree.TheVariants as simple_tree
+use Rattle.mz_tree_proof.specs.declared.equality_step.EqualityStepTree.{EqualityStepTree}
+use Rattle.mz_tree_proof.specs.declared.introduction.NamedTermTree.{NamedTermTree}
+use Rattle.mz_tree_proof.specs.declared.introduction.RetypedTree.{RetypedTree}
+use Rattle.mz_tree_proof.specs.declared.introduction.RetypedTree.TheVariants as retyped_tree
+use Rattle.mz_tree_proof.specs.declared.skeleton.TakenTree.{TakenTree}
+use Rattle.mz_tree_proof.specs.declared.skeleton.TakenTree.TheVariants as taken_tree
+use Rattle.mz_tree_proof.specs.declared.introduction.ConsiderTree.{ConsiderTree}
+use Rattle.mz_tree_proof.specs.declared.introduction.ReconsiderTree.{ReconsiderTree}
+use Rattle.mz_tree_proof.specs.declared.introduction.SetTree.{SetTree}
+use Rattle.mz_tree_proof.specs.declared.introduction.DeffuncTree.{DeffuncTree}
+use Rattle.mz_tree_proof.specs.declared.introduction.DefpredTree.{DefpredTree}
+use Rattle.mz_tree_proof.specs.declared.introduction.IntroductionTree.{IntroductionTree}
+use Rattle.mz_tree_proof.specs.declared.introduction.IntroductionTree.TheVariants as introduction_tree
+use Rattle.mz_tree_proof.specs.declared.skeleton.LetTree.{LetTree}
+use Rattle.mz_tree_proof.specs.declared.skeleton.AssumeTree.{AssumeTree}
+use Rattle.mz_tree_proof.specs.declared.skeleton.GivenTree.{GivenTree}
+use Rattle.mz_tree_proof.specs.declared.skeleton.TakeTree.{TakeTree}
 use Rattle.mz_tree_proof.specs.declared.skeleton.SkeletonTree.{SkeletonTree}
 use Rattle.mz_tree_proof.specs.declared.skeleton.SkeletonTree.TheVariants as skeleton_tree
-use Rattle.mz_tree_proof.specs.declared.split.SplitTree.{SplitTree}
+use Rattle.mz_tree_proof.specs.declared.skeleton.SplitTree.{SplitTree}
 
 abbrev pub spell_label : LabelTree → List MarkedToken
 spell_label a = identifier a.name ∷ special a.colon (codes ":") ∷ []
@@ -81,8 +81,8 @@ spell_simple simple_tree.Nothing = []
 spell_simple (simple_tree.By by references) = reserved by (codes "by") ∷ spell_separated spell_reference references
 spell_simple (simple_tree.From from_ scheme premises) = reserved from_ (codes "from") ∷ spell_scheme_reference scheme ++ maybe spell_premises premises
 
-abbrev pub spell_link : LinkTree → List MarkedToken
-spell_link a = special a.sign (codes ".=") ∷ spell_term a.term ++ spell_simple a.simple
+abbrev pub spell_equality_step : EqualityStepTree → List MarkedToken
+spell_equality_step a = special a.sign (codes ".=") ∷ spell_term a.term ++ spell_simple a.simple
 
 abbrev pub spell_named_term : NamedTermTree → List MarkedToken
 spell_named_term a = identifier a.name ∷ equals_sign a.equals ∷ spell_term a.term
@@ -110,12 +110,12 @@ spell_deffunc a = reserved a.deffunc (codes "deffunc") ∷ identifier a.name ∷
 abbrev pub spell_defpred : DefpredTree → List MarkedToken
 spell_defpred a = reserved a.defpred (codes "defpred") ∷ identifier a.name ∷ special a.left (codes "[") ∷ maybe (spell_separated spell_type) a.types ++ special a.right (codes "]") ∷ reserved a.means (codes "means") ∷ spell_formula a.formula ++ special a.semicolon (codes ";") ∷ []
 
-abbrev pub spell_naming : NamingTree → List MarkedToken
-spell_naming (naming_tree.Consider tree) = spell_consider tree
-spell_naming (naming_tree.Reconsider tree) = spell_reconsider tree
-spell_naming (naming_tree.Set tree) = spell_set tree
-spell_naming (naming_tree.Deffunc tree) = spell_deffunc tree
-spell_naming (naming_tree.Defpred tree) = spell_defpred tree
+abbrev pub spell_introduction : IntroductionTree → List MarkedToken
+spell_introduction (introduction_tree.Consider tree) = spell_consider tree
+spell_introduction (introduction_tree.Reconsider tree) = spell_reconsider tree
+spell_introduction (introduction_tree.Set tree) = spell_set tree
+spell_introduction (introduction_tree.Deffunc tree) = spell_deffunc tree
+spell_introduction (introduction_tree.Defpred tree) = spell_defpred tree
 
 abbrev pub spell_let : LetTree → List MarkedToken
 spell_let a = reserved a.let_ (codes "let") ∷ spell_declarations a.declarations ++ maybe spell_such a.such ++ special a.semicolon (codes ";") ∷ []

@@ -1,14 +1,11 @@
 //! Trees of reasonings: justifications, statements and steps.
-use crate::hypotheses::HypothesesTree;
-use crate::label::LabelTree;
-use crate::link::LinkTree;
-use crate::naming::NamingTree;
-use crate::proposition::PropositionTree;
-use crate::simple::SimpleTree;
-use crate::skeleton::SkeletonTree;
-use crate::split::SplitTree;
+use crate::equality_step::EqualityStepTree;
+use crate::introduction::IntroductionTree;
+use crate::propositions::{HypothesesTree, PropositionTree};
+use crate::references::{LabelTree, SimpleTree};
+use crate::skeleton::{SkeletonTree, SplitTree};
 use mz_base::place::Place;
-use mz_tree::trees::Trees;
+use mz_tree::lists::Trees;
 use std::marker::Model;
 
 /// A justification.
@@ -23,7 +20,7 @@ pub struct JustTree {
 #[derive(Drop)]
 pub enum JustNode {
     Simple(SimpleTree),
-    Proof(Place, Box<ReasoningTree>, Place),
+    Proof(Place, Steps, Place),
 }
 
 impl Model for JustTree {
@@ -56,7 +53,7 @@ pub struct CompactTree {
 #[cycle(reasoning)]
 #[derive(Drop)]
 pub enum CompactNode {
-    Stated(PropositionTree, Box<JustTree>, Trees<LinkTree>, Place),
+    Stated(PropositionTree, Box<JustTree>, Trees<EqualityStepTree>, Place),
 }
 
 impl Model for CompactTree {
@@ -90,8 +87,8 @@ pub struct StatementTree {
 #[derive(Drop)]
 pub enum StatementNode {
     Compact(Option<Place>, Box<CompactTree>),
-    Now(Option<LabelTree>, Place, Box<ReasoningTree>, Place, Place),
-    Naming(NamingTree),
+    Now(Option<LabelTree>, Place, Steps, Place, Place),
+    Introduction(IntroductionTree),
 }
 
 impl Model for StatementTree {
@@ -120,15 +117,16 @@ pub struct StepTree {
     pub node: StepNode,
 }
 
-/// A step: a statement, a conclusion, or a step of the skeleton.
+/// A step: a statement, a conclusion, a step of the skeleton, or a split into cases, which only the last step may be.
 #[cycle(reasoning)]
 #[derive(Drop)]
 pub enum StepNode {
     Statement(Box<StatementTree>),
     Thus(Place, Box<CompactTree>),
     Hence(Place, Box<CompactTree>),
-    Hereby(Place, Box<ReasoningTree>, Place, Place),
+    Hereby(Place, Steps, Place, Place),
     Skeleton(SkeletonTree),
+    Cases(SplitTree, Box<SupposeTree>, SupposeTrees),
 }
 
 impl Model for StepTree {
@@ -150,40 +148,6 @@ impl Model for StepTree {
     ghost size_decreases = { λ a h. step_falls a.node };
 }
 
-/// Steps, and at their end a split into cases or none.
-#[cycle(reasoning)]
-#[derive(Drop)]
-pub struct ReasoningTree {
-    pub node: ReasoningNode,
-}
-
-/// A reasoning without cases, or with them.
-#[cycle(reasoning)]
-#[derive(Drop)]
-pub enum ReasoningNode {
-    Plain(Steps),
-    Cases(Steps, SplitTree, Box<SupposeTree>, SupposeTrees),
-}
-
-impl Model for ReasoningTree {
-    ghost use Rattle.mz_tree_proof.specs.Reasoning.{ReasoningData, reasoning_size};
-    ghost use Rattle.mz_tree_proof.specs.Codes.{reasoning_code};
-
-    ghost Value = { ReasoningData };
-
-    ghost coded = { reasoning_code };
-
-    ghost use Rattle.mz_tree_proof.specs.Views.{reasoning_view};
-
-    ghost view = { λ a. reasoning_view a.node };
-
-    ghost size = { reasoning_size };
-
-    ghost use Rattle.mz_tree_proof.specs.Falls.{reasoning_falls};
-
-    ghost size_decreases = { λ a h. reasoning_falls a.node };
-}
-
 /// A case: what it supposes, and its reasoning.
 #[cycle(reasoning)]
 #[derive(Drop)]
@@ -195,7 +159,7 @@ pub struct SupposeTree {
 #[cycle(reasoning)]
 #[derive(Drop)]
 pub enum SupposeNode {
-    Case(Place, HypothesesTree, Place, Box<ReasoningTree>, Place, Place),
+    Case(Place, HypothesesTree, Place, Steps, Place, Place),
 }
 
 impl Model for SupposeTree {
@@ -217,7 +181,7 @@ impl Model for SupposeTree {
     ghost size_decreases = { λ a h. suppose_falls a.node };
 }
 
-/// Steps, in order.
+/// Steps, in order: a whole reasoning.
 #[cycle(reasoning)]
 #[derive(Drop)]
 pub struct Steps {

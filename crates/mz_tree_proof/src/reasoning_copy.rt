@@ -2,10 +2,10 @@
 ghost use Rattle.std.specs.Prelude.{◌≡◌, IfOk};
 
 use crate::reasoning::{
-    CompactNode, CompactTree, JustNode, JustTree, ReasoningNode, ReasoningTree, StatementNode,
-    StatementTree, StepNode, StepTree, Steps, SupposeNode, SupposeTree, SupposeTrees,
+    CompactNode, CompactTree, JustNode, JustTree, StatementNode, StatementTree, StepNode, StepTree,
+    Steps, SupposeNode, SupposeTree, SupposeTrees,
 };
-use mz_tree::copied::Copied;
+use mz_tree::tree::Copied;
 use std::alloc::{AllocError, Global};
 
 impl JustTree {
@@ -21,7 +21,7 @@ impl JustTree {
                 Ok(JustTree { node })
             }
             JustNode::Proof(a, b, c) => {
-                let b = b.boxed(alloc)?;
+                let b = b.copy(alloc)?;
                 let node = JustNode::Proof(*a, b, *c);
                 Ok(JustTree { node })
             }
@@ -79,13 +79,13 @@ impl StatementTree {
             }
             StatementNode::Now(a, b, c, d, e) => {
                 let a = a.copy(alloc)?;
-                let c = c.boxed(alloc)?;
+                let c = c.copy(alloc)?;
                 let node = StatementNode::Now(a, *b, c, *d, *e);
                 Ok(StatementTree { node })
             }
-            StatementNode::Naming(a) => {
+            StatementNode::Introduction(a) => {
                 let a = a.copy(alloc)?;
-                let node = StatementNode::Naming(a);
+                let node = StatementNode::Introduction(a);
                 Ok(StatementTree { node })
             }
         }
@@ -124,7 +124,7 @@ impl StepTree {
                 Ok(StepTree { node })
             }
             StepNode::Hereby(a, b, c, d) => {
-                let b = b.boxed(alloc)?;
+                let b = b.copy(alloc)?;
                 let node = StepNode::Hereby(*a, b, *c, *d);
                 Ok(StepTree { node })
             }
@@ -133,40 +133,14 @@ impl StepTree {
                 let node = StepNode::Skeleton(a);
                 Ok(StepTree { node })
             }
-        }
-    }
-}
-
-impl ReasoningTree {
-    /// An equal tree.
-    #[cycle(copy)]
-    pub fn copy(&self, alloc: Global) -> Result<ReasoningTree, AllocError>
-        ensures { IfOk result (λ t. t ≡ self.now) }
-    {
-        match &self.node {
-            ReasoningNode::Plain(a) => {
+            StepNode::Cases(a, b, c) => {
+                let b = b.boxed(alloc)?;
+                let c = c.copy(alloc)?;
                 let a = a.copy(alloc)?;
-                let node = ReasoningNode::Plain(a);
-                Ok(ReasoningTree { node })
-            }
-            ReasoningNode::Cases(a, b, c, d) => {
-                let a = a.copy(alloc)?;
-                let c = c.boxed(alloc)?;
-                let d = d.copy(alloc)?;
-                let b = b.copy(alloc)?;
-                let node = ReasoningNode::Cases(a, b, c, d);
-                Ok(ReasoningTree { node })
+                let node = StepNode::Cases(a, b, c);
+                Ok(StepTree { node })
             }
         }
-    }
-
-    #[cycle(copy)]
-    fn boxed(&self, alloc: Global) -> Result<Box<ReasoningTree>, AllocError>
-        ensures { IfOk result (λ b. b.value ≡ self.now) }
-    {
-        let copy = self.copy(alloc)?;
-        let boxed = Box::new(alloc, copy)?;
-        Ok(boxed)
     }
 }
 
@@ -178,7 +152,7 @@ impl SupposeTree {
     {
         match &self.node {
             SupposeNode::Case(a, b, c, d, e, f) => {
-                let d = d.boxed(alloc)?;
+                let d = d.copy(alloc)?;
                 let b = b.copy(alloc)?;
                 let node = SupposeNode::Case(*a, b, *c, d, *e, *f);
                 Ok(SupposeTree { node })

@@ -3,17 +3,17 @@ ghost use Rattle.std.specs.Prelude.{◌≡◌, ◌++◌, ◌∷◌, [], IfOk, co
 ghost use Rattle.mz_tree.specs.Spelled.{reserved, special};
 ghost use Rattle.std.specs.List.{flat_map};
 ghost use Rattle.mz_tree_proof.specs.Spell.{spell_hypotheses};
-ghost use Rattle.mz_tree_proof.specs.SpellReasoning.{spell_just, spell_compact, spell_statement, spell_step, spell_reasoning, spell_suppose};
+ghost use Rattle.mz_tree_proof.specs.SpellReasoning.{spell_just, spell_compact, spell_statement, spell_step, spell_suppose};
 
-use crate::hypotheses::HypothesesTree;
+use crate::propositions::HypothesesTree;
 use crate::reasoning::{
-    CompactNode, CompactTree, JustNode, JustTree, ReasoningNode, ReasoningTree, StatementNode,
-    StatementTree, StepNode, StepTree, Steps, SupposeNode, SupposeTree, SupposeTrees,
+    CompactNode, CompactTree, JustNode, JustTree, StatementNode, StatementTree, StepNode, StepTree,
+    Steps, SupposeNode, SupposeTree, SupposeTrees,
 };
 use mz_base::place::Place;
-use mz_marks::marked_token::MarkedToken;
-use mz_tree::put::{put_reserved, put_reserved_if, put_special};
-use mz_tree::spelling::Spell;
+use mz_base::token::MarkedToken;
+use mz_tree::emit::{emit_reserved, emit_reserved_if, emit_special};
+use mz_tree::tree::Spell;
 use std::alloc::{AllocError, Global};
 
 impl JustTree {
@@ -29,9 +29,9 @@ impl JustTree {
                 Ok(())
             }
             JustNode::Proof(a, b, c) => {
-                put_reserved(alloc, out, *a, b"proof")?;
+                emit_reserved(alloc, out, *a, b"proof")?;
                 b.spell(alloc, out)?;
-                put_reserved(alloc, out, *c, b"end")?;
+                emit_reserved(alloc, out, *c, b"end")?;
                 Ok(())
             }
         }
@@ -50,7 +50,7 @@ impl CompactTree {
                 a.spell(alloc, out)?;
                 b.spell(alloc, out)?;
                 c.spell(alloc, out)?;
-                put_special(alloc, out, *d, b";")?;
+                emit_special(alloc, out, *d, b";")?;
                 Ok(())
             }
         }
@@ -66,19 +66,19 @@ impl StatementTree {
     {
         match &self.node {
             StatementNode::Compact(a, b) => {
-                put_reserved_if(alloc, out, *a, b"then")?;
+                emit_reserved_if(alloc, out, *a, b"then")?;
                 b.spell(alloc, out)?;
                 Ok(())
             }
             StatementNode::Now(a, b, c, d, e) => {
                 a.spell(alloc, out)?;
-                put_reserved(alloc, out, *b, b"now")?;
+                emit_reserved(alloc, out, *b, b"now")?;
                 c.spell(alloc, out)?;
-                put_reserved(alloc, out, *d, b"end")?;
-                put_special(alloc, out, *e, b";")?;
+                emit_reserved(alloc, out, *d, b"end")?;
+                emit_special(alloc, out, *e, b";")?;
                 Ok(())
             }
-            StatementNode::Naming(a) => {
+            StatementNode::Introduction(a) => {
                 a.spell(alloc, out)?;
                 Ok(())
             }
@@ -99,47 +99,30 @@ impl StepTree {
                 Ok(())
             }
             StepNode::Thus(a, b) => {
-                put_reserved(alloc, out, *a, b"thus")?;
+                emit_reserved(alloc, out, *a, b"thus")?;
                 b.spell(alloc, out)?;
                 Ok(())
             }
             StepNode::Hence(a, b) => {
-                put_reserved(alloc, out, *a, b"hence")?;
+                emit_reserved(alloc, out, *a, b"hence")?;
                 b.spell(alloc, out)?;
                 Ok(())
             }
             StepNode::Hereby(a, b, c, d) => {
-                put_reserved(alloc, out, *a, b"hereby")?;
+                emit_reserved(alloc, out, *a, b"hereby")?;
                 b.spell(alloc, out)?;
-                put_reserved(alloc, out, *c, b"end")?;
-                put_special(alloc, out, *d, b";")?;
+                emit_reserved(alloc, out, *c, b"end")?;
+                emit_special(alloc, out, *d, b";")?;
                 Ok(())
             }
             StepNode::Skeleton(a) => {
                 a.spell(alloc, out)?;
                 Ok(())
             }
-        }
-    }
-}
-
-impl ReasoningTree {
-    /// Adds its tokens.
-    #[cycle(spell)]
-    #[tactic(auto, using(crate::proofs::SpellLemmas::spell_rules))]
-    pub fn spell(&self, alloc: Global, out: &mut Vec<MarkedToken>) -> Result<(), AllocError>
-        ensures { IfOk result (λ _. out.new.items ≡ out.old.items ++ spell_reasoning self.now) }
-    {
-        match &self.node {
-            ReasoningNode::Plain(a) => {
-                a.spell(alloc, out)?;
-                Ok(())
-            }
-            ReasoningNode::Cases(a, b, c, d) => {
+            StepNode::Cases(a, b, c) => {
                 a.spell(alloc, out)?;
                 b.spell(alloc, out)?;
                 c.spell(alloc, out)?;
-                d.spell(alloc, out)?;
                 Ok(())
             }
         }
@@ -157,7 +140,7 @@ impl SupposeTree {
             SupposeNode::Case(a, b, c, d, e, f) => {
                 spell_suppose_head(alloc, out, *a, b, *c)?;
                 d.spell(alloc, out)?;
-                put_end(alloc, out, *e, *f)?;
+                emit_end(alloc, out, *e, *f)?;
                 Ok(())
             }
         }
@@ -203,15 +186,15 @@ fn spell_suppose_head(
 ) -> Result<(), AllocError>
     ensures { IfOk result (λ _. out.new.items ≡ out.old.items ++ reserved place (codes "suppose") ∷ spell_hypotheses hypotheses.now ++ special semicolon (codes ";") ∷ []) }
 {
-    put_reserved(alloc, out, place, b"suppose")?;
+    emit_reserved(alloc, out, place, b"suppose")?;
     hypotheses.spell(alloc, out)?;
-    put_special(alloc, out, semicolon, b";")?;
+    emit_special(alloc, out, semicolon, b";")?;
     Ok(())
 }
 
 /// `end ;`
 #[tactic(auto, using(crate::proofs::SpellLemmas::spell_rules))]
-fn put_end(
+fn emit_end(
     alloc: Global,
     out: &mut Vec<MarkedToken>,
     end: Place,
@@ -219,7 +202,7 @@ fn put_end(
 ) -> Result<(), AllocError>
     ensures { IfOk result (λ _. out.new.items ≡ out.old.items ++ reserved end (codes "end") ∷ special semicolon (codes ";") ∷ []) }
 {
-    put_reserved(alloc, out, end, b"end")?;
-    put_special(alloc, out, semicolon, b";")?;
+    emit_reserved(alloc, out, end, b"end")?;
+    emit_special(alloc, out, semicolon, b";")?;
     Ok(())
 }

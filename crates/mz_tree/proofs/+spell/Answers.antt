@@ -37,13 +37,13 @@ pub nodes::BaseNode::spell-returns-in_ok-spell-in-SetOf-2 :
     goal.nodes::BaseNode::spell-returns-in_ok-spell-in-SetOf-2
 nodes::BaseNode::spell-returns-in_ok-spell-in-SetOf-2 t c = rw (c.in-SetOf.is) (search (rules, base_rules, spell_rules))
 
-pub nodes::QuantifiedNode::spell-returns-in_ok-put_reserved-in-For-2 :
-    goal.nodes::QuantifiedNode::spell-returns-in_ok-put_reserved-in-For-2
-nodes::QuantifiedNode::spell-returns-in_ok-put_reserved-in-For-2 t c = rw (c.in-For.is) (search (rules, quantified_rules, spell_rules))
+pub nodes::QuantifiedNode::spell-returns-in_ok-emit_reserved-in-For-2 :
+    goal.nodes::QuantifiedNode::spell-returns-in_ok-emit_reserved-in-For-2
+nodes::QuantifiedNode::spell-returns-in_ok-emit_reserved-in-For-2 t c = rw (c.in-For.is) (search (rules, quantified_rules, spell_rules))
 
-pub nodes::QuantifiedNode::spell-returns-in_ok-put_reserved-in-ForSuch-3 :
-    goal.nodes::QuantifiedNode::spell-returns-in_ok-put_reserved-in-ForSuch-3
-nodes::QuantifiedNode::spell-returns-in_ok-put_reserved-in-ForSuch-3 t c = rw (c.in-ForSuch.is) (search (rules, quantified_rules, spell_rules))
+pub nodes::QuantifiedNode::spell-returns-in_ok-emit_reserved-in-ForSuch-3 :
+    goal.nodes::QuantifiedNode::spell-returns-in_ok-emit_reserved-in-ForSuch-3
+nodes::QuantifiedNode::spell-returns-in_ok-emit_reserved-in-ForSuch-3 t c = rw (c.in-ForSuch.is) (search (rules, quantified_rules, spell_rules))
 
 pub nodes::QuantifiedNode::spell-returns-in_ok-spell_declarations_of-in-ForFurther :
     goal.nodes::QuantifiedNode::spell-returns-in_ok-spell_declarations_of-in-ForFurther
@@ -53,9 +53,9 @@ pub nodes::QuantifiedNode::spell-returns-in_ok-spell-in-ForSuchFurther :
     goal.nodes::QuantifiedNode::spell-returns-in_ok-spell-in-ForSuchFurther
 nodes::QuantifiedNode::spell-returns-in_ok-spell-in-ForSuchFurther t c = rw (c.in-ForSuchFurther.is) (search (rules, quantified_rules, spell_rules))
 
-pub nodes::QuantifiedNode::spell-returns-in_ok-put_reserved-in-Exists-2 :
-    goal.nodes::QuantifiedNode::spell-returns-in_ok-put_reserved-in-Exists-2
-nodes::QuantifiedNode::spell-returns-in_ok-put_reserved-in-Exists-2 t c = rw (c.in-Exists.is) (search (rules, quantified_rules, spell_rules))
+pub nodes::QuantifiedNode::spell-returns-in_ok-emit_reserved-in-Exists-2 :
+    goal.nodes::QuantifiedNode::spell-returns-in_ok-emit_reserved-in-Exists-2
+nodes::QuantifiedNode::spell-returns-in_ok-emit_reserved-in-Exists-2 t c = rw (c.in-Exists.is) (search (rules, quantified_rules, spell_rules))
 
 pub nodes::UnitNode::spell-returns-in-Contradiction :
     goal.nodes::UnitNode::spell-returns-in-Contradiction

@@ -1,5 +1,5 @@
 use Rattle.std.proofs.Common.{◌≡◌, drop}
-use Rattle.mz_core.specs.Connectives.{joined_to}
+use Rattle.mz_logic.specs.Connectives.{joined_to}
 use Rattle.mz_core.proofs.connectives.join_to.Given as goal
 
 abbrev pub invariant-loop-g : goal.invariant-loop-g

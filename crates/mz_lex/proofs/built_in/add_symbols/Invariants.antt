@@ -1,6 +1,6 @@
 use Rattle.std.proofs.Common.{◌≡◌, ◌++◌, take}
 use Rattle.std.specs.Prelude.{map}
-use Rattle.mz_base.specs.declared.token_kind.TokenKind.TheVariants.{Symbol}
+use Rattle.mz_base.specs.declared.token.TokenKind.TheVariants.{Symbol}
 use Rattle.mz_lex.specs.BuiltIn.{lexeme}
 use Rattle.mz_lex.proofs.built_in.add_symbols.Given as goal
 

@@ -1,5 +1,6 @@
 use Rattle.std.proofs.Common.{◌<◌, ◌+◌, ◌*◌, ℕ, get_or}
-use Rattle.mz_logic.specs.Term.{Term, size_of, sizes_of}
+use Rattle.mz_logic.specs.Term.{Term}
+use Rattle.mz_logic.specs.TermStorage.{size_of, sizes_of}
 use Rattle.mz_logic.specs.Replacement.{TermReplaced}
 use Rattle.mz_logic.proofs.replacement.+replaced.Given as goal
 

@@ -1,5 +1,5 @@
 use Rattle.std.proofs.Common.{◌+◌, ◌*◌}
-use Rattle.mz_logic.specs.Formula.{formula_size}
+use Rattle.mz_logic.specs.FormulaStorage.{formula_size}
 use Rattle.mz_logic.specs.Conjuncts.{rest_size}
 use Rattle.mz_logic.specs.Rest.{list_of}
 use Rattle.mz_logic.proofs.sameness.+same_parts.Given as goal

@@ -1,5 +1,5 @@
 use Rattle.std.proofs.Common.{◌+◌, ◌*◌}
-use Rattle.mz_logic.specs.Formula.{formula_size}
+use Rattle.mz_logic.specs.FormulaStorage.{formula_size}
 use Rattle.mz_nf.proofs.split.+split.Given as goal
 
 abbrev pub decreases-split : goal.decreases-split

@@ -1,6 +1,6 @@
 use Rattle.std.proofs.Common.{◌≡◌, ◌++◌, ◌∷◌, [], map, take, drop, length, flat_map}
 use Rattle.std.specs.Prelude.{if◌then◌else◌, Option, None, Some, ◌-◌}
-use Rattle.mz_logic.specs.Formula.{formula_size}
+use Rattle.mz_logic.specs.FormulaStorage.{formula_size}
 use Rattle.std.specs.Prelude.{◌+◌}
 use Rattle.mz_refute.proofs.alike.+alike_formula.Given as goal
 

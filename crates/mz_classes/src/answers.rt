@@ -1,0 +1,96 @@
+//! What class facts answer.
+ghost use Rattle.std.specs.Prelude.{◌<◌, length};
+ghost use Rattle.mz_classes.specs.Classes.{DecidesClass, DecidesMembers, DecidesSigned};
+ghost use Rattle.mz_classes.specs.ClassFacts.{class_view};
+ghost use Rattle.mz_classes.specs.Indexed.{AreSignedLists};
+
+use crate::class_facts::ClassFacts;
+use crate::numbers::Numbers;
+use crate::sym_lists::SymLists;
+use mz_ground::fact_set::FactSet;
+use mz_ground::ground::Ground;
+use mz_logic::literal::Literal;
+use mz_logic::sym::Sym;
+use mz_logic::term::Term;
+
+impl FactSet for ClassFacts {
+    ghost view = { class_view };
+
+    fn ground(&self) -> &Ground {
+        self.table.ground()
+    }
+
+    fn class_at(&self, place: usize) -> usize {
+        self.table.class_at(place)
+    }
+
+    fn is_signed(&self, place: usize, positive: bool) -> bool {
+        self.table.is_signed(place, positive)
+    }
+
+    fn is_disequal(&self, place: usize) -> bool {
+        self.table.is_disequal(place)
+    }
+
+    fn holds(&self, l: &Literal) -> bool {
+        self.table.holds(l)
+    }
+
+    fn same(&self, t: &Term, u: &Term) -> bool {
+        self.table.same(t, u)
+    }
+
+    fn contradictory(&self) -> bool {
+        self.table.contradictory()
+    }
+}
+
+impl ClassFacts {
+    /// The least number of a term that is equal to the term with this number.
+    #[tactic(auto, using(crate::proofs::ClassLemmas::class_rules))]
+    pub fn class_of(&self, term: u32) -> u32
+        requires { term < length (class_view self.now).part.terms }
+        ensures { DecidesClass (class_view self.now) term result }
+    {
+        match self.members.get(self.table.class_at(term as usize)) {
+            Some(numbers) => match numbers.first() {
+                Some(number) => number,
+                None => term,
+            },
+            None => term,
+        }
+    }
+
+    /// The numbers of the terms whose class this number is, ascending; none where it is no class.
+    pub fn members(&self, class: u32) -> &Numbers
+        ensures { DecidesMembers (class_view self.now) class result.now }
+    {
+        if class as usize >= self.table.ground.terms.len() || self.class_of(class) != class {
+            return &self.none;
+        }
+        match self.members.get(self.table.class_at(class as usize)) {
+            Some(numbers) => numbers,
+            None => &self.none,
+        }
+    }
+
+    /// The numbers of the ground atoms with the symbol that are facts with the sign, ascending.
+    pub fn signed(&self, sym: Sym, positive: bool) -> &Numbers
+        ensures { DecidesSigned (class_view self.now) sym positive result.now }
+    {
+        match self.lists_of(positive).get(sym) {
+            Some(numbers) => numbers,
+            None => &self.none,
+        }
+    }
+
+    fn lists_of(&self, positive: bool) -> &SymLists
+        ensures { AreSignedLists (class_view self.now) positive result.now }
+    {
+        if positive {
+            &self.positive
+        } else {
+            &self.negative
+        }
+    }
+}

@@ -1,0 +1,56 @@
+//! The closing of a disjunct under clauses, by numbered classes.
+ghost use Rattle.std.specs.Prelude.{◌≡◌, ◌≤◌, ℕ, slice_index, IfOk};
+ghost use Rattle.mz_ground.specs.Ground.{IsGround};
+ghost use Rattle.mz_ground.specs.FactSet.{HasFacts};
+ghost use Rattle.mz_classes.specs.ClassFacts.{class_view};
+
+use crate::class_facts::ClassFacts;
+use crate::member_lists::member_lists;
+use crate::numbers::Numbers;
+use crate::propagate::propagated_labels;
+use crate::roots::roots_of;
+use crate::signed_lists::signed_lists;
+use mz_congruence::fact_table::{FactTable, facts_of};
+use mz_congruence::ground_graph::graph_of;
+use mz_congruence::settle::settle;
+use mz_ground::clauses::Clauses;
+use mz_ground::ground::Ground;
+use mz_logic::disjunct::Disjunct;
+use std::alloc::{AllocError, Global};
+
+/// The facts of a disjunct under clauses, where `g` is the ground part of both.
+#[tactic(auto, using(crate::proofs::CloseLemmas::close_rules))]
+pub fn close_classes(
+    alloc: Global,
+    g: &Ground,
+    d: &Disjunct,
+    clauses: &Clauses,
+) -> Result<ClassFacts, AllocError>
+    requires { IsGround d.now clauses.now g.now }
+    ensures kept { IfOk result (λ f. (class_view f).part ≡ g.now) }
+    ensures facts { IfOk result (λ f. HasFacts d.now clauses.now (class_view f)) }
+{
+    let graph = graph_of(alloc, g, d, clauses)?;
+    let labels = propagated_labels(alloc, &graph.graph)?;
+    let mut classes = roots_of(alloc, labels.as_slice())?;
+    settle(alloc, &graph.graph, classes.as_mut_slice())?;
+    let table = facts_of(alloc, g, &graph, classes.as_slice())?;
+    indexed(alloc, table)
+}
+
+// The table with its lists.
+fn indexed(alloc: Global, table: FactTable) -> Result<ClassFacts, AllocError>
+    requires { (k : ℕ) → slice_index table.classes.items k ≤ k }
+    ensures { IfOk result (λ f. f.table ≡ table) }
+{
+    let members = member_lists(alloc, &table)?;
+    let positive = signed_lists(alloc, &table, true)?;
+    let negative = signed_lists(alloc, &table, false)?;
+    Ok(ClassFacts {
+        table,
+        members,
+        positive,
+        negative,
+        none: Numbers::new(alloc),
+    })
+}

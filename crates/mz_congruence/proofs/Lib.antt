@@ -1,0 +1,16 @@
+pub mod RootLemmas
+pub mod SignatureLemmas
+pub mod ClosingLemmas
+pub mod ListLemmas
+pub mod GroundLemmas
+pub mod NodeLemmas
+pub mod FactLemmas
+pub mod UpLemmas
+pub mod StandLemmas
+pub mod LookupLemmas
+pub mod DecideLemmas
+pub mod PairLemmas
+pub mod ValueLemmas
+pub mod MatchingLemmas
+pub mod RuleLemmas
+pub mod GraphLemmas

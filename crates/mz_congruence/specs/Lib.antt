@@ -1,0 +1,14 @@
+pub mod Signature
+pub mod Classes
+pub mod Congruence
+pub mod Closing
+pub mod Nodes
+pub mod Codes
+pub mod Stands
+pub mod Values
+pub mod Layout
+pub mod Pairing
+pub mod Lookup
+pub mod FactTable
+pub mod OfClasses
+pub mod GroundGraph

@@ -1,0 +1,96 @@
+-- The two nodes of a literal, and which rules are put among others.
+use Rattle.std.specs.Prelude.{◌≡◌, ◌<◌, ◌⊎◌, ℕ, List, [], map, length, Option, None, Some, slice_get, Contains}
+use Rattle.mz_logic.specs.Term.{Term}
+use Rattle.mz_logic.specs.declared.literal.Literal.{Literal}
+use Rattle.mz_logic.specs.declared.disjunct.Disjunct.{Disjunct}
+use Rattle.mz_ground.specs.Piece.{Piece, TermPiece}
+use Rattle.mz_ground.specs.Ground.{term_at, ground_terms, atom_piece, IsGround}
+use Rattle.mz_ground.specs.Instance.{literal_filled, trigger_filled, premises_at, conclusion_at}
+use Rattle.mz_ground.specs.declared.clause.Clause.{Clause}
+use Rattle.mz_ground.specs.declared.trigger.Trigger.{Trigger}
+use Rattle.mz_ground.specs.declared.trigger.Trigger.TheVariants as trigger
+use Rattle.mz_ground.specs.declared.ground.Ground.{Ground}
+use Rattle.mz_ground.specs.declared.ground_atom.GroundAtom.{GroundAtom}
+use Rattle.mz_ground.specs.declared.ground_equation.GroundEquation.{GroundEquation}
+use Rattle.mz_congruence.specs.declared.pair.Pair.{Pair}
+use Rattle.mz_congruence.specs.declared.rule.Rule.{Rule}
+use Rattle.mz_congruence.specs.Nodes.{disequal_place}
+use Rattle.mz_congruence.specs.Codes.{Codes, CodesAll, rule_of}
+
+-- the numbers are places of ground terms
+abbrev pub AllWithin : Ground → List ℕ → Type 0
+AllWithin g is = (k : ℕ) → Contains is k → k < length g.terms
+
+-- the terms at the places
+abbrev pub terms_at : Ground → List ℕ → List Term
+terms_at g args = map (term_at (ground_terms g)) args
+
+-- the two nodes of the literal; there are none where its atom or equation is not ground
+abbrev pub IsPairOf : Ground → Literal → Option Pair → Type 0
+IsPairOf g l None = (i j : ℕ) → Codes g l i j → ⊥
+IsPairOf g l (Some p) = Codes g l p.left p.right
+
+abbrev pub ArePairsOf : Ground → List Literal → Option (List Pair) → Type 0
+ArePairsOf g ls None = (ps : List Pair) → CodesAll g ls ps → ⊥
+ArePairsOf g ls (Some ps) = CodesAll g ls ps
+
+unfoldable pub PairOf : Ground → List ℕ → Literal → Option Pair → Type 0
+PairOf g args l r = (d : Disjunct) (cs : List Clause) → IsGround d cs g → AllWithin g args → IsPairOf g (literal_filled (terms_at g args) l) r
+
+unfoldable pub PairsOf : Ground → List ℕ → List Literal → Option (List Pair) → Type 0
+PairsOf g args ls r = (d : Disjunct) (cs : List Clause) → IsGround d cs g → AllWithin g args → ArePairsOf g (map (literal_filled (terms_at g args)) ls) r
+
+-- the new list has the old rules and those that meet P, and no others
+pub record Adds (P : Rule → Type 0) (old new : List Rule) : Type 0 where
+  pub kept : (r : Rule) → Contains old r → Contains new r
+  pub added : (r : Rule) → P r → Contains new r
+  pub only : (r : Rule) → Contains new r → Contains old r ⊎ P r
+
+-- the rule meets Q at some number below n
+abbrev pub Below : (ℕ → Rule → Type 0) → ℕ → Rule → Type 0
+Below Q n r = (k : ℕ) × (k < n) × Q k r
+
+-- the rule by which the literal k holds
+abbrev pub IsLiteralRule : Ground → List Literal → ℕ → Rule → Type 0
+IsLiteralRule g ls k r = (l : Literal) × (i : ℕ) × (j : ℕ) × (slice_get ls k ≡ Some l) × Codes g l i j × (r ≡ rule_of [] i j)
+
+-- the rule by which the ground equation k fails where its exchange does
+abbrev pub IsExchangeRule : Ground → ℕ → Rule → Type 0
+IsExchangeRule g k r = (e : GroundEquation) × (m : ℕ) × (f : GroundEquation) × (slice_get g.equations k ≡ Some e) × (slice_get g.equations m ≡ Some f) × (e.left ≡ f.right) × (e.right ≡ f.left) × (r ≡ rule_of [] (disequal_place g k) (disequal_place g m))
+
+-- the rule of the clause at the terms
+abbrev pub IsInstanceRule : Ground → Clause → List Term → Rule → Type 0
+IsInstanceRule g c ts r = (ps : List Pair) × (i : ℕ) × (j : ℕ) × CodesAll g (premises_at c ts) ps × Codes g (conclusion_at c ts) i j × (r ≡ rule_of ps i j)
+
+-- the ground term or atom at the place, as the trigger wants it
+abbrev pub IsPieceAt : Ground → Trigger → ℕ → Piece → Type 0
+IsPieceAt g (trigger.Term t) k p = (k < length g.terms) × (p ≡ TermPiece (term_at (ground_terms g) k))
+IsPieceAt g (trigger.Atom s ts) k p = (a : GroundAtom) × (slice_get g.atoms k ≡ Some a) × (p ≡ atom_piece (ground_terms g) a)
+
+-- the rule of the clause at terms whose trigger is the ground term or atom at the place
+abbrev pub IsPlaceRule : Ground → Clause → ℕ → Rule → Type 0
+IsPlaceRule g c k r = (p : Piece) × (ts : List Term) × IsPieceAt g c.trigger k p × (length ts ≡ c.variables) × (trigger_filled ts c.trigger ≡ p) × IsInstanceRule g c ts r
+
+-- how many ground terms or atoms a trigger may be
+abbrev pub places_for : Ground → Trigger → ℕ
+places_for g (trigger.Term t) = length g.terms
+places_for g (trigger.Atom s ts) = length g.atoms
+
+-- the rule of the clause k at some place
+abbrev pub IsClauseRule : Ground → List Clause → ℕ → Rule → Type 0
+IsClauseRule g cs k r = (c : Clause) × (slice_get cs k ≡ Some c) × Below (IsPlaceRule g c) (places_for g c.trigger) r
+
+-- the new list has the old rules and those that meet P, where g is a ground part
+unfoldable pub AddsRules : Ground → (Rule → Type 0) → List Rule → List Rule → Type 0
+AddsRules g P old new = (d : Disjunct) (cs : List Clause) → IsGround d cs g → Adds P old new
+
+unfoldable pub AddsInstance : Ground → List ℕ → Clause → List Rule → List Rule → Type 0
+AddsInstance g args c old new = (d : Disjunct) (cs : List Clause) → IsGround d cs g → AllWithin g args → Adds (IsInstanceRule g c (terms_at g args)) old new
+
+-- the places of the terms at which the trigger is the ground term or atom at a place; there are none where it is not at any terms
+abbrev pub IsMatch : Ground → Clause → ℕ → Option (List ℕ) → Type 0
+IsMatch g c k None = (p : Piece) (ts : List Term) → IsPieceAt g c.trigger k p → length ts ≡ c.variables → trigger_filled ts c.trigger ≡ p → ⊥
+IsMatch g c k (Some args) = AllWithin g args × (length args ≡ c.variables) × ((p : Piece) → IsPieceAt g c.trigger k p → trigger_filled (terms_at g args) c.trigger ≡ p) × ((p : Piece) (ts : List Term) → IsPieceAt g c.trigger k p → length ts ≡ c.variables → trigger_filled ts c.trigger ≡ p → ts ≡ terms_at g args)
+
+unfoldable pub Matched : Ground → Clause → ℕ → Option (List ℕ) → Type 0
+Matched g c k r = (d : Disjunct) (cs : List Clause) → IsGround d cs g → (p : Piece) → IsPieceAt g c.trigger k p → IsMatch g c k r

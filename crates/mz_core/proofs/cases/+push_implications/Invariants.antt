@@ -1,5 +1,0 @@
-use Rattle.std.proofs.Common.{length}
-use Rattle.mz_core.proofs.cases.+push_implications.Given as goal
-
-abbrev pub decreases-push_implications : goal.decreases-push_implications
-decreases-push_implications l = length l.cs.now

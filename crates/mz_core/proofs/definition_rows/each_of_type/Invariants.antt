@@ -1,6 +1,0 @@
-use Rattle.std.proofs.Common.{◌≡◌, map, take}
-use Rattle.mz_core.specs.DefinitionRows.{of_type}
-use Rattle.mz_core.proofs.definition_rows.each_of_type.Given as goal
-
-abbrev pub invariant-loop-x : goal.invariant-loop-x
-invariant-loop-x l = l.out.items ≡ map (of_type l.ty) (take l.x-index l.x-items)

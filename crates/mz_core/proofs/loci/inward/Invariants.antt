@@ -1,6 +1,0 @@
-use Rattle.std.proofs.Common.{◌≡◌, ◌+◌}
-use Rattle.mz_core.specs.Loci.{inward}
-use Rattle.mz_core.proofs.loci.inward.Given as goal
-
-abbrev pub invariant-loop-k : goal.invariant-loop-k
-invariant-loop-k l = (l.out ≡ inward l.depth l.k) × (l.index ≡ l.depth + l.k)

@@ -1,6 +1,0 @@
-use Rattle.std.proofs.Common.{◌≡◌}
-use Rattle.mz_core.specs.StructureRows.{for_objects}
-use Rattle.mz_core.proofs.structure_rows.for_objects.Given as goal
-
-abbrev pub invariant-loop-k : goal.invariant-loop-k
-invariant-loop-k l = l.out ≡ for_objects l.k l.fn.f

@@ -1,0 +1,9 @@
+pub mod AscendingLemmas
+pub mod ContainsLemmas
+pub mod FoundLemmas
+pub mod GatherLemmas
+pub mod MadeLemmas
+pub mod OnceLemmas
+pub mod OrderLemmas
+pub mod OrderlyLemmas
+pub mod ReachLemmas

@@ -1,0 +1,7 @@
+use Rattle.std.proofs.Common.{◌≡◌, take}
+use Rattle.std.specs.Prelude.{fold, map}
+use Rattle.mz_corpus.specs.Names.{with_name}
+use Rattle.mz_corpus.proofs.directives.add_names.Given as goal
+
+abbrev pub invariant-loop-placed : goal.invariant-loop-placed
+invariant-loop-placed l = l.set ≡ fold with_name l.initial.set (map (λ placed. placed.name) (take l.placed-index l.placed-items))

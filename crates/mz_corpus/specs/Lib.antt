@@ -1,0 +1,14 @@
+pub mod Article
+pub mod Ascending
+pub mod Corpus
+pub mod Directives
+pub mod Fit
+pub mod Found
+pub mod Gather
+pub mod Link
+pub mod Made
+pub mod Names
+pub mod Order
+pub mod Orderly
+pub mod Reach
+pub mod Source

@@ -1,7 +1,0 @@
-use Rattle.std.proofs.Common.{◌≡◌, ◌++◌, take, map}
-use Rattle.mz_facts.specs.Classes.{root}
-use Rattle.mz_facts.specs.Signature.{head_code}
-use Rattle.mz_facts.proofs.closing.signature_of.Given as goal
-
-abbrev pub invariant-loop-arg : goal.invariant-loop-arg
-invariant-loop-arg l = l.out.items ≡ head_code l.node.head ++ map (root l.c) (take l.arg-index l.node.args)

@@ -1,6 +1,0 @@
-use Rattle.std.proofs.Common.{◌≡◌, ◌<◌, ℕ, true}
-use Rattle.mz_facts.specs.HoldsFacts.{flag_at}
-use Rattle.mz_facts.proofs.facts.Facts.atom_clashes.Given as goal
-
-abbrev pub invariant-loop-k : goal.invariant-loop-k
-invariant-loop-k l = (k : ℕ) → k < l.k → flag_at l.self.positive.items k ≡ true → flag_at l.self.negative.items k ≡ true → ⊥

@@ -1,6 +1,0 @@
-use Rattle.std.proofs.Common.{◌≡◌, ◌++◌, take, map}
-use Rattle.mz_facts.specs.Nodes.{apart_node}
-use Rattle.mz_facts.proofs.numbering.push_equations.Given as goal
-
-abbrev pub invariant-loop-e : goal.invariant-loop-e
-invariant-loop-e l = l.out ≡ l.fn.out ++ map apart_node (take l.e-index l.e-items)

@@ -1,0 +1,4 @@
+pub mod LocusLemmas
+pub mod RowLemmas
+pub mod ItemLemmas
+pub mod ClosedLaws

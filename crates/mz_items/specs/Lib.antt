@@ -1,0 +1,13 @@
+pub mod Loci
+pub mod Cases
+pub mod DefinitionRows
+pub mod RedefinitionRows
+pub mod RegistrationRows
+pub mod SchemeRows
+pub mod SetTermRows
+pub mod PropertyRows
+pub mod StructureRows
+pub mod Items
+pub mod Exports
+pub mod Closed
+pub mod Laws

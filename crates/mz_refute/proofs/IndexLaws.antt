@@ -1,0 +1,43 @@
+-- The index of facts, and what is answered by it.
+use Rattle.std.proofs.Common.{◌≡◌, ℕ, Bool, true, false, List, length, sym, ◌∙◌, ap, subst}
+use Rattle.mz_logic.specs.Formula.{Formula}
+use Rattle.mz_logic.specs.declared.disjunct.Disjunct.{Disjunct}
+use Rattle.mz_ground.specs.Ground.{ground_terms}
+use Rattle.mz_ground.specs.FactSet.{FactView, HasFacts}
+use Rattle.mz_ground.specs.declared.clause.Clause.{Clause}
+use Rattle.mz_ground.specs.declared.ground.Ground.{Ground}
+use Rattle.mz_refute.specs.declared.answer.Answer.{Answer}
+use Rattle.mz_refute.specs.declared.fact_index.FactIndex.{FactIndex}
+use Rattle.mz_refute.specs.Answered.{IsAnswer}
+use Rattle.mz_refute.specs.Entries.{HasEntries}
+use Rattle.mz_refute.specs.Held.{AreHeld, entries_of}
+use Rattle.mz_refute.specs.FactIndex.{IsFactIndex, AreClasses, AreSigns, AreDisequal}
+use Rattle.mz_refute.specs.RowsWork.{RowsAnswer}
+use Rattle.mz_refute.specs.Table.{rows_of}
+use Rattle.mz_refute.specs.TermClass.{class_in}
+use Rattle.mz_refute.proofs.AnswerLaws.{answer_by_rows}
+use Rattle.mz_refute.proofs.HeldLaws.{held_facts}
+use Rattle.mz_refute.proofs.TabledLaws.{tabled}
+use Rattle.mz_refute.proofs.CountLaws.{counted}
+
+pub index_answer : (d : Disjunct) (cs : List Clause) (x : FactIndex) → IsFactIndex d cs x → (values : List ℕ) → values ≡ x.values.items → (u : Formula) (r : Answer) → RowsAnswer (rows_of x.table) values d.universals u r → IsAnswer d cs u r
+index_answer d cs x h values e u r a =
+    answer_by_rows d cs (class_in (ground_terms h.part) x.values.items) (rows_of x.table) x.values.items
+    (tabled d cs h.part x.values.items h.positive h.negative h.disequal h.held x.table h.entries)
+    (counted d cs h.part x.values.items h.positive h.negative h.disequal h.held x.table h.entries)
+    u r (subst (λ (vs : List ℕ). RowsAnswer (rows_of x.table) vs d.universals u r) e a)
+
+pub index_made : (v : FactView) (x : FactIndex) (classes : List ℕ) (positive negative disequal : List Bool) (g : Ground) (ws : List ℕ) (ps ns qs : List Bool) → AreClasses v classes → AreSigns v true positive → AreSigns v false negative → AreDisequal v disequal → g ≡ v.part → ws ≡ classes → ps ≡ positive → ns ≡ negative → qs ≡ disequal → x.values.items ≡ classes → HasEntries x.table (entries_of g ws ps ns qs) → (d : Disjunct) (cs : List Clause) → HasFacts d cs v → IsFactIndex d cs x
+index_made v x classes positive negative disequal g ws ps ns qs c p n q eg ew ep en eq ex h d cs f =
+    record {
+      part = v.part;
+      positive = positive;
+      negative = negative;
+      disequal = disequal;
+      held = subst (λ (vs : List ℕ). AreHeld d cs v.part vs positive negative disequal) (sym ex) (held_facts d cs v classes positive negative disequal c p n q f);
+      entries = subst (λ y. HasEntries x.table y) (λ i. entries_of (eg i) ((ew ∙ sym ex) i) (ep i) (en i) (eq i)) h;
+    }
+
+-- the lists are as long as those of the ground part
+pub same_length : {X Y : Type 0} (xs ys : List X) (zs ws : List Y) → xs ≡ ys → length ys ≡ length ws → zs ≡ ws → length xs ≡ length zs
+same_length xs ys zs ws e l h = ap length e ∙ l ∙ sym (ap length h)

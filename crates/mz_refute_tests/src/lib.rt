@@ -1,0 +1,5 @@
+//! Tests of `mz_refute` on small disjuncts.
+#![tactic(auto)]
+
+#[cfg(test)]
+mod tests;

@@ -1,0 +1,308 @@
+// Small disjuncts with what is answered for a universal, worked out by hand from the rules.
+ghost use Rattle.mz_ground.specs.Ground.{IsGround};
+
+use mz_classes::close_classes::close_classes;
+use mz_ground::clauses::Clauses;
+use mz_ground::ground::Ground;
+use mz_ground::making::ground;
+use mz_logic::disjunct::Disjunct;
+use mz_logic::formula::{Formula, FormulaNode};
+use mz_logic::formulas::Formulas;
+use mz_logic::kind::Kind;
+use mz_logic::literal::Literal;
+use mz_logic::literals::Literals;
+use mz_logic::sym::Sym;
+use mz_logic::term::{Term, Terms};
+use mz_refute::answer::Answer;
+use mz_refute::refuted::refuted;
+use mz_refute::row::{Head, Row};
+use mz_refute::table::Table;
+use std::alloc::{AllocError, Global};
+use std::test::Fail;
+
+// A disjunct is written in postfix notation. A digit is a constant; `x` and `y` are the indices 0 and 1; `f` and `g`
+// are functors of one term. `P` and `Q` make an atom of one term, `E` one of two, `=` an equation; `T` is truth, `!`
+// negation, `&` conjunction, `A` a quantifier. `+` takes the last formula as a literal, and `-` its negation. What is
+// left are the universals, of which the last is asked for.
+#[derive(Drop)]
+struct Stack {
+    terms: Terms,
+    formulas: Formulas,
+    literals: Literals,
+}
+
+fn sym(kind: Kind, letter: u8) -> Sym {
+    Sym {
+        article: 0,
+        kind,
+        number: u32::from(letter),
+    }
+}
+
+fn literal(positive: bool, f: Formula) -> Result<Literal, AllocError> {
+    match f.node {
+        FormulaNode::Atom(sym, args) => Ok(Literal::Atom {
+            positive,
+            sym,
+            args,
+        }),
+        FormulaNode::Eq(left, right) => Ok(Literal::Eq {
+            positive,
+            left,
+            right,
+        }),
+        _ => Err(AllocError),
+    }
+}
+
+impl Stack {
+    fn term(&mut self) -> Result<Term, AllocError> {
+        self.terms.items.pop().ok_or(AllocError)
+    }
+
+    fn formula(&mut self) -> Result<Formula, AllocError> {
+        self.formulas.items.pop().ok_or(AllocError)
+    }
+
+    fn apply(&mut self, alloc: Global, letter: u8) -> Result<(), AllocError> {
+        let mut args = Terms::new(alloc);
+        args.push(self.term()?)?;
+        self.terms
+            .push(Term::apply(sym(Kind::Functor, letter), args))
+    }
+
+    fn atom(&mut self, alloc: Global, letter: u8) -> Result<(), AllocError> {
+        let mut args = Terms::new(alloc);
+        let last = self.term()?;
+        if letter == b'E' {
+            args.push(self.term()?)?;
+        }
+        args.push(last)?;
+        self.formulas
+            .push(Formula::atom(sym(Kind::Predicate, letter), args))
+    }
+
+    fn equation(&mut self) -> Result<(), AllocError> {
+        let right = self.term()?;
+        let left = self.term()?;
+        self.formulas.push(Formula::equation(left, right))
+    }
+
+    fn negate(&mut self, alloc: Global) -> Result<(), AllocError> {
+        let f = Formula::not(alloc, self.formula()?)?;
+        self.formulas.push(f)
+    }
+
+    fn join(&mut self, alloc: Global) -> Result<(), AllocError> {
+        let g = self.formula()?;
+        let f = Formula::and(alloc, self.formula()?, g)?;
+        self.formulas.push(f)
+    }
+
+    fn quantify(&mut self, alloc: Global) -> Result<(), AllocError> {
+        let f = Formula::all(alloc, self.formula()?)?;
+        self.formulas.push(f)
+    }
+
+    fn give(&mut self, positive: bool) -> Result<(), AllocError> {
+        let l = literal(positive, self.formula()?)?;
+        self.literals.push(l)
+    }
+
+    fn put(&mut self, alloc: Global, c: u8) -> Result<(), AllocError> {
+        match c {
+            b'x'..=b'y' => self.terms.push(Term::bound(u32::from(c - b'x'))),
+            b'0'..=b'9' => self.terms.push(Term::constant(u32::from(c - b'0'))),
+            b'f' | b'g' => self.apply(alloc, c),
+            b'P' | b'Q' | b'E' => self.atom(alloc, c),
+            b'=' => self.equation(),
+            b'T' => self.formulas.push(Formula::truth()),
+            b'!' => self.negate(alloc),
+            b'&' => self.join(alloc),
+            b'A' => self.quantify(alloc),
+            b'+' => self.give(true),
+            b'-' => self.give(false),
+            _ => Ok(()),
+        }
+    }
+}
+
+fn disjunct(alloc: Global, text: &str) -> Result<Disjunct, AllocError> {
+    let mut stack = Stack {
+        terms: Terms::new(alloc),
+        formulas: Formulas::new(alloc),
+        literals: Literals::new(alloc),
+    };
+    for c in text.as_bytes() {
+        stack.put(alloc, *c)?;
+    }
+    Ok(Disjunct {
+        literals: stack.literals,
+        universals: stack.formulas,
+    })
+}
+
+fn answer_for_last(
+    alloc: Global,
+    d: &Disjunct,
+    clauses: &Clauses,
+    g: &Ground,
+) -> Result<Answer, AllocError>
+    requires { IsGround d.now clauses.now g.now }
+{
+    let facts = close_classes(alloc, g, d, clauses)?;
+    match d.universals.items.last() {
+        Some(u) => refuted(alloc, &facts, d, u),
+        None => Err(AllocError),
+    }
+}
+
+fn answer_for(alloc: Global, text: &str) -> Result<Answer, AllocError> {
+    let d = disjunct(alloc, text)?;
+    let clauses = Clauses::new(alloc);
+    match ground(alloc, &d, &clauses) {
+        Ok(g) => answer_for_last(alloc, &d, &clauses, &g),
+        Err(_) => Err(AllocError),
+    }
+}
+
+const REFUTED: [&str; 21] = [
+    // the complement of an atom, of a negated atom, in value
+    "1P- xPA",
+    "1P+ xP!A",
+    "21fE- 12=+ xxfEA",
+    // two values apart, in either order; one value
+    "12=- x2=A",
+    "12=- x1=A",
+    "12=- 13=+ x3=A",
+    "1f1=+ xxf=!A",
+    // the negation of truth, without a fact
+    "T!A",
+    // one part; the negations of both parts at one term
+    "1P- xPxQ&A",
+    "1Q- xPxQ&A",
+    "1P+ 1Q+ xPxQ&!A",
+    "1P+ 2Q+ 12=+ xPxQ&!A",
+    // at two terms; a universal inside, left again; a variable of which nothing is said
+    "12E- yxEAA",
+    "12E- 1P+ yxEA!xP&!A",
+    "1P- yPAA",
+    // the universal is listed at a term, up to double negation, in value, with the same functor, twice nested
+    "1xEA yxEA!A",
+    "1xE!!A yxEA!A",
+    "12=+ 1xEA 2xEA!A",
+    "xfPA xfPA!A",
+    "yxEAA yxEAA!A",
+    "1x=A yx=A!A",
+];
+
+const NOT_REFUTED: [&str; 18] = [
+    // the atom is itself a fact, or nothing is known of it; without the equation
+    "1P+ xPA",
+    "1P- xP!A",
+    "1P- xQA",
+    "21fE- xxfEA",
+    // the argument has no value
+    "1P- xfPA",
+    // nothing is apart from 3; no term has the value of its image
+    "12=- x3=A",
+    "1f2=+ xxf=!A",
+    "TA",
+    // neither part; both parts, but at different terms
+    "1P+ 1Q+ xPxQ&A",
+    "1P+ 2Q+ xPxQ&!A",
+    // one term for one variable
+    "12E- xxEA",
+    "12E- 2P+ yxEA!xP&!A",
+    // another universal is listed: the sides exchanged, another value, another functor, the sign
+    "x1EA yxEA!A",
+    "1xEA 2xEA!A",
+    "xgPA xfPA!A",
+    "xyEAA yxEAA!A",
+    "xP!A xPA!A",
+    // listed, but not negated
+    "xQA xPA",
+];
+
+#[test]
+fn universals_that_are_refuted(rt: HostRuntime) -> Result<(), Fail> {
+    for text in REFUTED {
+        assert_eq!(rt; answer_for(rt.alloc(), text)?, Answer::Yes, "{text}");
+    }
+    Ok(())
+}
+
+#[test]
+fn universals_that_are_not_refuted(rt: HostRuntime) -> Result<(), Fail> {
+    for text in NOT_REFUTED {
+        assert_eq!(rt; answer_for(rt.alloc(), text)?, Answer::No, "{text}");
+    }
+    Ok(())
+}
+
+/// Ten facts: seven atoms have the greatest work that is allowed, and truth beside them adds one to it. A work stops
+/// at 1,000,000,000, and is 0 where one factor is.
+#[test]
+fn work_of_a_universal(rt: HostRuntime) -> Result<(), Fail> {
+    let facts = "0P+ 1P+ 2P+ 3P+ 4P+ 5P+ 6P+ 7P+ 8P+ 9P+ ";
+    let seven = "xPxP&xP&xP&xP&xP&xP&";
+    for (rest, wanted) in [
+        ("!A", Answer::Yes),
+        ("!T&A", Answer::Over { work: 10_000_001 }),
+        (
+            "xP&xP&xP&!A",
+            Answer::Over {
+                work: 1_000_000_000,
+            },
+        ),
+        ("xP&xQ&!A", Answer::No),
+    ] {
+        let text = format!(in rt.alloc(); "{facts}{seven}{rest}")?;
+        assert_eq!(rt; answer_for(rt.alloc(), &text)?, wanted, "{rest}");
+    }
+    Ok(())
+}
+
+#[test]
+fn heads_are_compared(rt: HostRuntime) {
+    let p = sym(Kind::Predicate, b'P');
+    let heads = [
+        Head::Constant(1),
+        Head::Constant(2),
+        Head::Functor(p),
+        Head::Holds(p),
+        Head::Fails(p),
+        Head::Fails(sym(Kind::Predicate, b'Q')),
+        Head::Differ,
+    ];
+    for i in 0..heads.len() {
+        for j in 0..heads.len() {
+            assert_eq!(rt; heads[i].is(heads[j]), i == j, "{i} {j}");
+        }
+    }
+}
+
+/// Rows stand under their own head, in the order in which they came.
+#[test]
+fn rows_by_their_heads(rt: HostRuntime) -> Result<(), Fail> {
+    let alloc = rt.alloc();
+    let holds = Head::Holds(sym(Kind::Predicate, b'P'));
+    let mut table = Table::new(alloc);
+    for (head, value) in [(Head::Constant(1), 5), (holds, 6), (Head::Constant(1), 7)] {
+        let args = Vec::new(alloc);
+        table.add(alloc, head, Row { args, value })?;
+    }
+    for (head, wanted) in [
+        (Head::Constant(1), [5, 7].as_slice()),
+        (Head::Constant(2), &[]),
+        (holds, &[6]),
+        (Head::Differ, &[]),
+    ] {
+        let rows = table.rows(head);
+        assert_eq!(rt; rows.len(), wanted.len());
+        for i in 0..wanted.len() {
+            assert_eq!(rt; rows[i].value, wanted[i]);
+        }
+    }
+    Ok(())
+}

@@ -1,0 +1,6 @@
+//! The text of a run's report.
+#![tactic(auto)]
+
+pub mod report;
+#[cfg(test)]
+mod tests;

@@ -1,6 +1,0 @@
-use Rattle.std.proofs.Common.{append_assoc}
-use Rattle.std.proofs.lemmas.Result.{IfOk-equal}
-use Rattle.mz_tree_item.proofs.identify.IdentifyTreeSpell.spell.Goals as goal
-
-pub returns : goal.returns
-returns c = IfOk-equal c.put_special.result _ _ _ c.put_special.ensures (rw (c.in_ok-spell-2.ensures, c.in_ok-put_reserved-2.ensures, c.in_ok-spell.ensures, c.in_ok-put_reserved.ensures) (simp append_assoc))

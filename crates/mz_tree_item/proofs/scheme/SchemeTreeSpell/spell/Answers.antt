@@ -1,6 +1,0 @@
-use Rattle.std.proofs.Common.{append_assoc}
-use Rattle.std.proofs.lemmas.Result.{IfOk-equal}
-use Rattle.mz_tree_item.proofs.scheme.SchemeTreeSpell.spell.Goals as goal
-
-pub returns : goal.returns
-returns c = IfOk-equal c.put_special-4.result _ _ _ c.put_special-4.ensures (rw (c.in_ok-spell-4.ensures, c.in_ok-spell-3.ensures, c.in_ok-spell-2.ensures, c.in_ok-put_special-3.ensures, c.in_ok-put_special-2.ensures, c.in_ok-spell.ensures, c.in_ok-put_special.ensures, c.in_ok-put_identifier.ensures, c.in_ok-put_reserved.ensures) (simp append_assoc))

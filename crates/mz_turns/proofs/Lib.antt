@@ -1,0 +1,9 @@
+pub mod RowLemmas
+pub mod NameLemmas
+pub mod ExportLemmas
+pub mod VerdictLemmas
+pub mod LibraryLemmas
+pub mod GoodLemmas
+pub mod MachineLemmas
+pub mod SoundLemmas
+pub mod OrderLemmas

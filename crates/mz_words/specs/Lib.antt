@@ -1,0 +1,3 @@
+pub mod OptionWord
+pub mod Reading
+pub mod Words
