@@ -4,5 +4,3 @@
 pub mod check;
 pub mod derivation;
 pub mod node;
-#[cfg(test)]
-mod tests;
