@@ -166,14 +166,14 @@ formula_signed_all : (p : ℕ → Term → Bool) (n : ℕ) (b : Bool) (f : Formu
 formula_signed_all p n true f = refl
 formula_signed_all p n false f = refl
 
-literal_formula_all : (p : ℕ → Term → Bool) (n : ℕ) (l : Literal) → literal_all p n l ≡ true → formula_all p n (literal_formula l) ≡ true
+pub literal_formula_all : (p : ℕ → Term → Bool) (n : ℕ) (l : Literal) → literal_all p n l ≡ true → formula_all p n (literal_formula l) ≡ true
 literal_formula_all p n (literal.Atom positive s ts) ha = formula_signed_all p n positive (formula.Atom s ts) ∙ ha
 literal_formula_all p n (literal.Eq positive t u) ha = formula_signed_all p n positive (formula.Eq t u) ∙ ha
 
 pub guard_all : (p : ℕ → Term → Bool) (n : ℕ) (ty : SoftType) (t : Term) → type_all p n ty ≡ true → p n t ≡ true → list_all (formula_all p n) (guard ty t) ≡ true
 guard_all p n ty t ha hb = all-map (literal_all p n) (formula_all p n) literal_formula (guard_literals ty t) (literal_formula_all p n) (guard_literals_all p n ty t ha hb)
 
-negated_all : (p : ℕ → Term → Bool) (n : ℕ) (f : Formula) → formula_all p n (negated f) ≡ formula_all p n f
+pub negated_all : (p : ℕ → Term → Bool) (n : ℕ) (f : Formula) → formula_all p n (negated f) ≡ formula_all p n f
 negated_all p n formula.Truth = refl
 negated_all p n (formula.Eq t u) = refl
 negated_all p n (formula.Atom s ts) = refl
@@ -187,7 +187,7 @@ joined_to_all p n f (g ∷ gs) ha hb =
     let both : (formula_all p n g ≡ true) × (list_all (formula_all p n) gs ≡ true) = and_parts (formula_all p n g) (list_all (formula_all p n) gs) hb in
     joined_to_all p n (formula.And f g) gs (and_from _ _ ha both.0) both.1
 
-where_guard_all : (p : ℕ → Term → Bool) (n : ℕ) (gs : List Formula) (f : Formula) → list_all (formula_all p n) gs ≡ true → formula_all p n f ≡ true → formula_all p n (where_guard gs f) ≡ true
+pub where_guard_all : (p : ℕ → Term → Bool) (n : ℕ) (gs : List Formula) (f : Formula) → list_all (formula_all p n) gs ≡ true → formula_all p n f ≡ true → formula_all p n (where_guard gs f) ≡ true
 where_guard_all p n [] f ha hb = hb
 where_guard_all p n (g ∷ gs) f ha hb =
     let both : (formula_all p n g ≡ true) × (list_all (formula_all p n) gs ≡ true) = and_parts (formula_all p n g) (list_all (formula_all p n) gs) ha in

@@ -117,7 +117,7 @@ erasure_of_conjunction [] = refl
 erasure_of_conjunction (s ∷ ss) = erase-conjunction_to s ss
 
 -- guards
-map_is : {X Y : Type 0} (f g : X → Y) (xs : List X) → ((x : X) → f x ≡ g x) → map f xs ≡ map g xs
+pub map_is : {X Y : Type 0} (f g : X → Y) (xs : List X) → ((x : X) → f x ≡ g x) → map f xs ≡ map g xs
 map_is f g [] same = refl
 map_is f g (x ∷ xs) same = λ i. same x i ∷ map_is f g xs same i
 
@@ -130,21 +130,21 @@ guard_of_abstraction c depth ty t =
     map_is (formula_over c depth) (formula_with (abstracts c) depth) (guard ty t) (λ f. formula_over-with c depth f) ∙ guard-with (abstracts c) depth ty t
 
 -- one change after another
-map_twice : {X : Type 0} (f h : X → X) (p : X → Bool) (xs : List X) → ((x : X) → p x ≡ true → f (h x) ≡ x) → list_all p xs ≡ true → map f (map h xs) ≡ xs
+pub map_twice : {X : Type 0} (f h : X → X) (p : X → Bool) (xs : List X) → ((x : X) → p x ≡ true → f (h x) ≡ x) → list_all p xs ≡ true → map f (map h xs) ≡ xs
 map_twice f h p [] back e = refl
 map_twice f h p (x ∷ xs) back e =
     let both : (p x ≡ true) × (list_all p xs ≡ true) = and_parts (p x) (list_all p xs) e in
     λ i. back x both.0 i ∷ map_twice f h p xs back both.1 i
 
-adjective_back : (f h : Term → Term) (p : ℕ → Term → Bool) (n : ℕ) (a : Adjective) → ((t : Term) → p n t ≡ true → f (h t) ≡ t) → adjective_all p n a ≡ true → adjective_with f (adjective_with h a) ≡ a
+pub adjective_back : (f h : Term → Term) (p : ℕ → Term → Bool) (n : ℕ) (a : Adjective) → ((t : Term) → p n t ≡ true → f (h t) ≡ t) → adjective_all p n a ≡ true → adjective_with f (adjective_with h a) ≡ a
 adjective_back f h p n a back e i = record { positive = a.positive; sym = a.sym; args = map_twice f h (p n) a.args back e i }
 
-type_back : (f h : Term → Term) (p : ℕ → Term → Bool) (n : ℕ) (ty : SoftType) → ((t : Term) → p n t ≡ true → f (h t) ≡ t) → type_all p n ty ≡ true → type_with f (type_with h ty) ≡ ty
+pub type_back : (f h : Term → Term) (p : ℕ → Term → Bool) (n : ℕ) (ty : SoftType) → ((t : Term) → p n t ≡ true → f (h t) ≡ t) → type_all p n ty ≡ true → type_with f (type_with h ty) ≡ ty
 type_back f h p n ty back e =
     let both : (list_all (adjective_all p n) ty.adjectives ≡ true) × (list_all (p n) ty.radix.args ≡ true) = and_parts (list_all (adjective_all p n) ty.adjectives) (list_all (p n) ty.radix.args) e in
     λ i. record { adjectives = map_twice (adjective_with f) (adjective_with h) (adjective_all p n) ty.adjectives (λ a. adjective_back f h p n a back) both.0 i; radix = record { sym = ty.radix.sym; args = map_twice f h (p n) ty.radix.args back both.1 i } }
 
-statement_back : (f h : ℕ → Term → Term) (p : ℕ → Term → Bool) (d : ℕ) (s : Statement) → ((d : ℕ) (t : Term) → p d t ≡ true → f d (h d t) ≡ t) → statement_all p d s ≡ true → statement_with f d (statement_with h d s) ≡ s
+pub statement_back : (f h : ℕ → Term → Term) (p : ℕ → Term → Bool) (d : ℕ) (s : Statement) → ((d : ℕ) (t : Term) → p d t ≡ true → f d (h d t) ≡ t) → statement_all p d s ≡ true → statement_with f d (statement_with h d s) ≡ s
 statement_back f h p d Truth back e = refl
 statement_back f h p d (Eq t u) back e =
     let both : (p d t ≡ true) × (p d u ≡ true) = and_parts (p d t) (p d u) e in
@@ -159,23 +159,23 @@ statement_back f h p d (For ty s) back e =
     λ i. For (type_back (f d) (h d) p d ty (back d) both.0 i) (statement_back f h p (d + 1) s back both.1 i)
 
 -- what is in force
-abbrev in_force_at : ℕ → ℕ → Term → Bool
+abbrev pub in_force_at : ℕ → ℕ → Term → Bool
 in_force_at next n t = term_in_force next t
 
 mutual
-  term_in_force-shift : (next from by : ℕ) (t : Term) → term_in_force next (shift from by t) ≡ term_in_force next t
+  pub term_in_force-shift : (next from by : ℕ) (t : Term) → term_in_force next (shift from by t) ≡ term_in_force next t
   term_in_force-shift next from by (Bound index) = refl
   term_in_force-shift next from by (Const number) = refl
   term_in_force-shift next from by (App s ts) = args_in_force-shift next from by ts
 
-  args_in_force-shift : (next from by : ℕ) (ts : Terms) → args_in_force next (shift_args from by ts) ≡ args_in_force next ts
+  pub args_in_force-shift : (next from by : ℕ) (ts : Terms) → args_in_force next (shift_args from by ts) ≡ args_in_force next ts
   args_in_force-shift next from by none = refl
   args_in_force-shift next from by (more t ts) = λ i. term_in_force-shift next from by t i && args_in_force-shift next from by ts i
 
-in_force_persists : (next : ℕ) → Persists (in_force_at next)
+pub in_force_persists : (next : ℕ) → Persists (in_force_at next)
 in_force_persists next = record { raised = λ n t h. term_in_force-shift next 0 1 t ∙ h; zero = λ n. refl }
 
-statement_in_force-all : (next n : ℕ) (s : Statement) → statement_in_force next s ≡ statement_all (in_force_at next) n s
+pub statement_in_force-all : (next n : ℕ) (s : Statement) → statement_in_force next s ≡ statement_all (in_force_at next) n s
 statement_in_force-all next n Truth = refl
 statement_in_force-all next n (Eq t u) = refl
 statement_in_force-all next n (Atom s ts) = refl
@@ -183,7 +183,7 @@ statement_in_force-all next n (Not s) = statement_in_force-all next n s
 statement_in_force-all next n (And s t) = λ i. statement_in_force-all next n s i && statement_in_force-all next n t i
 statement_in_force-all next n (For ty s) = ap (λ b. type_in_force next ty && b) (statement_in_force-all next (n + 1) s)
 
-formula_in_force-all : (next n : ℕ) (f : Formula) → formula_in_force next f ≡ formula_all (in_force_at next) n f
+pub formula_in_force-all : (next n : ℕ) (f : Formula) → formula_in_force next f ≡ formula_all (in_force_at next) n f
 formula_in_force-all next n formula.Truth = refl
 formula_in_force-all next n (formula.Eq t u) = refl
 formula_in_force-all next n (formula.Atom s ts) = refl
@@ -197,7 +197,7 @@ constant_back c d number true e = substitute-one_equal d (Const c) d refl ∙ ap
 constant_back c d number false e = refl
 
 mutual
-  term_back : (c d : ℕ) (t : Term) → substitute d (value_at (Const c ∷ [])) (term_over c d t) ≡ t
+  pub term_back : (c d : ℕ) (t : Term) → substitute d (value_at (Const c ∷ [])) (term_over c d t) ≡ t
   term_back c d (Bound index) = substitute-past d (Const c ∷ []) (Bound index)
   term_back c d (Const number) = constant_back c d number (nat_eq number c) refl
   term_back c d (App s ts) = ap (λ us. App s us) (args_back c d ts)
@@ -206,17 +206,17 @@ mutual
   args_back c d none = refl
   args_back c d (more t ts) = λ i. more (term_back c d t i) (args_back c d ts i)
 
-abbrev any_term : ℕ → Term → Bool
+abbrev pub any_term : ℕ → Term → Bool
 any_term n t = true
 
-all_any : {X : Type 0} (p : X → Bool) (xs : List X) → ((x : X) → p x ≡ true) → list_all p xs ≡ true
+pub all_any : {X : Type 0} (p : X → Bool) (xs : List X) → ((x : X) → p x ≡ true) → list_all p xs ≡ true
 all_any p [] each = refl
 all_any p (x ∷ xs) each = and_from _ _ (each x) (all_any p xs each)
 
-type_any : (n : ℕ) (ty : SoftType) → type_all any_term n ty ≡ true
+pub type_any : (n : ℕ) (ty : SoftType) → type_all any_term n ty ≡ true
 type_any n ty = and_from _ _ (all_any (adjective_all any_term n) ty.adjectives (λ a. all_any (any_term n) a.args (λ t. refl))) (all_any (any_term n) ty.radix.args (λ t. refl))
 
-statement_any : (n : ℕ) (s : Statement) → statement_all any_term n s ≡ true
+pub statement_any : (n : ℕ) (s : Statement) → statement_all any_term n s ≡ true
 statement_any n Truth = refl
 statement_any n (Eq t u) = refl
 statement_any n (Atom s ts) = all_any (any_term n) ts (λ t. refl)
@@ -233,7 +233,7 @@ neither : (a b : Bool) → a ≡ false → b ≡ false → (a || b) ≡ false
 neither a b p q = or_from a b p q
 
 mutual
-  term_apart : (n : ℕ) (t : Term) → term_in_force n t ≡ true → occurs n t ≡ false
+  pub term_apart : (n : ℕ) (t : Term) → term_in_force n t ≡ true → occurs n t ≡ false
   term_apart n (Bound index) h = refl
   term_apart n (Const number) h =
       let lt : number < n = ltb-true number n h in
@@ -246,7 +246,7 @@ mutual
       let both : (term_in_force n t ≡ true) × (args_in_force n ts ≡ true) = and_parts (term_in_force n t) (args_in_force n ts) h in
       neither _ _ (term_apart n t both.0) (args_apart n ts both.1)
 
-list_apart : (n : ℕ) (ts : List Term) → list_all (term_in_force n) ts ≡ true → list_any (occurs n) ts ≡ false
+pub list_apart : (n : ℕ) (ts : List Term) → list_all (term_in_force n) ts ≡ true → list_any (occurs n) ts ≡ false
 list_apart n [] h = refl
 list_apart n (t ∷ ts) h =
     let both : (term_in_force n t ≡ true) × (list_all (term_in_force n) ts ≡ true) = and_parts (term_in_force n t) (list_all (term_in_force n) ts) h in
@@ -273,10 +273,10 @@ abstraction_of_body c s h =
 zero_below : (n : ℕ) → 0 < n + 1
 zero_below n = omega arith
 
-below_persists : Persists is_below
+pub below_persists : Persists is_below
 below_persists = record { raised = λ n t h. is_below-shift 0 1 n t h; zero = λ n. lt-ltb 0 (n + 1) (zero_below n) }
 
-formula_below-all : (n : ℕ) (f : Formula) → formula_below n f ≡ formula_all is_below n f
+pub formula_below-all : (n : ℕ) (f : Formula) → formula_below n f ≡ formula_all is_below n f
 formula_below-all n formula.Truth = refl
 formula_below-all n (formula.Eq t u) = refl
 formula_below-all n (formula.Atom s ts) = refl
@@ -287,11 +287,11 @@ formula_below-all n (formula.All f) = formula_below-all (n + 1) f
 pub erasure_below : ErasureBelow
 erasure_below n s h = formula_below-all n (erase s) ∙ erase_all is_below n s below_persists h
 
-below_value : (n : ℕ) (t : Term) (k : ℕ) → closed t ≡ true → k < n + 1 → is_below n (value_at (t ∷ []) k) ≡ true
+pub below_value : (n : ℕ) (t : Term) (k : ℕ) → closed t ≡ true → k < n + 1 → is_below n (value_at (t ∷ []) k) ≡ true
 below_value n t zero h lt = is_below-closed n t h
 below_value n t (suc k) h lt = lt-ltb k n (omega arith)
 
-below_at : (m n : ℕ) (t : Term) → m ≡ n → is_below m t ≡ true → is_below n t ≡ true
+pub below_at : (m n : ℕ) (t : Term) → m ≡ n → is_below m t ≡ true → is_below n t ≡ true
 below_at m n t e h = let P : ℕ → Type 0 = λ k. is_below k t ≡ true in subst P e h
 
 pub body_below : BodyBelow
@@ -305,7 +305,7 @@ body_below n s t ct h =
     (statement_all-at is_below (n + 1) (0 + (n + 1)) s before h) in
     ap (statement_all is_below n) (substitute_statement-with (value_at (t ∷ [])) 0 s) ∙ statement_all-at is_below (0 + n) n made after kept
 
-over_below : (c d n : ℕ) (u : Term) → is_below (d + n) u ≡ true → is_below (d + (n + 1)) (term_over c d u) ≡ true
+pub over_below : (c d n : ℕ) (u : Term) → is_below (d + n) u ≡ true → is_below (d + (n + 1)) (term_over c d u) ≡ true
 over_below c d n u b =
     let le : d ≤ d + n = omega arith in
     let sum : d + n + 1 ≡ d + (n + 1) = omega arith in
@@ -324,7 +324,7 @@ abstraction_below n c s h =
 
 -- more in force
 mutual
-  term_in_force-more : (m n : ℕ) (t : Term) → m ≤ n → term_in_force m t ≡ true → term_in_force n t ≡ true
+  pub term_in_force-more : (m n : ℕ) (t : Term) → m ≤ n → term_in_force m t ≡ true → term_in_force n t ≡ true
   term_in_force-more m n (Bound index) le h = refl
   term_in_force-more m n (Const number) le h =
       let lt : number < m = ltb-true number m h in
@@ -338,7 +338,7 @@ mutual
       and_from _ _ (term_in_force-more m n t le both.0) (args_in_force-more m n ts le both.1)
 
 -- a change of terms that are in force, of statements
-in_force_changed : (g : ℕ → Term → Term) (m n d : ℕ) (s : Statement) → ((d : ℕ) (t : Term) → term_in_force m t ≡ true → term_in_force n (g d t) ≡ true) → statement_in_force m s ≡ true → statement_in_force n (statement_with g d s) ≡ true
+pub in_force_changed : (g : ℕ → Term → Term) (m n d : ℕ) (s : Statement) → ((d : ℕ) (t : Term) → term_in_force m t ≡ true → term_in_force n (g d t) ≡ true) → statement_in_force m s ≡ true → statement_in_force n (statement_with g d s) ≡ true
 in_force_changed g m n d s keeps h =
     statement_in_force-all n (d + 0) (statement_with g d s) ∙ statement_all-with (in_force_at m) (in_force_at n) g 0 0 d s (λ e t k. keeps e t k) (sym (statement_in_force-all m (d + 0) s) ∙ h)
 
@@ -369,7 +369,7 @@ index_in_force_at next depth v index place true vs = refl
 index_in_force_at next depth v index place false vs = term_in_force-shift next 0 depth (v place) ∙ vs place
 
 mutual
-  term_in_force-substitute : (next depth : ℕ) (v : ℕ → Term) (t : Term) → ((k : ℕ) → term_in_force next (v k) ≡ true) → term_in_force next t ≡ true → term_in_force next (substitute depth v t) ≡ true
+  pub term_in_force-substitute : (next depth : ℕ) (v : ℕ → Term) (t : Term) → ((k : ℕ) → term_in_force next (v k) ≡ true) → term_in_force next t ≡ true → term_in_force next (substitute depth v t) ≡ true
   term_in_force-substitute next depth v (Bound index) vs h = index_in_force_at next depth v index (index - depth) (nat_lt index depth) vs
   term_in_force-substitute next depth v (Const number) vs h = h
   term_in_force-substitute next depth v (App s ts) vs h = args_in_force-substitute next depth v ts vs h
@@ -396,7 +396,7 @@ constant_in_force_over c d number false e lt =
     lt-ltb number c (elim (cases_lt number c) [ inl less ↦ less | inr le ↦ absurd (ne (omega arith)) ])
 
 mutual
-  term_in_force-over : (c d : ℕ) (t : Term) → term_in_force (c + 1) t ≡ true → term_in_force c (term_over c d t) ≡ true
+  pub term_in_force-over : (c d : ℕ) (t : Term) → term_in_force (c + 1) t ≡ true → term_in_force c (term_over c d t) ≡ true
   term_in_force-over c d (Bound index) h = refl
   term_in_force-over c d (Const number) h = constant_in_force_over c d number (nat_eq number c) refl (ltb-true number (c + 1) h)
   term_in_force-over c d (App s ts) h = args_in_force-over c d ts h
@@ -415,7 +415,7 @@ abstraction_in_force c s h =
 pub negation_in_force : NegationInForce
 negation_in_force next s = statement_in_force-all next 0 (opposite s) ∙ opposite_all (in_force_at next) 0 s ∙ sym (statement_in_force-all next 0 s)
 
-all_is : {X : Type 0} (p q : X → Bool) (xs : List X) → ((x : X) → p x ≡ q x) → list_all p xs ≡ list_all q xs
+pub all_is : {X : Type 0} (p q : X → Bool) (xs : List X) → ((x : X) → p x ≡ q x) → list_all p xs ≡ list_all q xs
 all_is p q [] same = refl
 all_is p q (x ∷ xs) same = λ i. same x i && all_is p q xs same i
 

@@ -2,8 +2,9 @@
 ghost use Rattle.std.specs.Prelude.{◌≡◌, IfOk};
 ghost use Rattle.mz_core.specs.Erasure.{erase};
 
-use crate::connectives::{for_type, negation};
+use crate::connectives::for_type;
 use crate::statement::{Statement, StatementNode};
+use mz_logic::conjunction::negation;
 use mz_logic::formula::Formula;
 use std::alloc::{AllocError, Global};
 

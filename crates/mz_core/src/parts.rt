@@ -59,8 +59,9 @@ pub fn where_all(alloc: Global, ss: &Statements, s: Statement) -> Result<Stateme
     match ss.items.as_slice() {
         [] => Ok(s),
         [t, others @ ..] => {
+            let s = Box::new(alloc, s)?;
             let t = conjunction_to(alloc, t, others)?;
-            implication(alloc, t, s)
+            implication(alloc, t, Box::into_inner(s))
         }
     }
 }

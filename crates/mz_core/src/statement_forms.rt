@@ -1,4 +1,5 @@
-//! Statements of compound forms. No double negation arises.
+//! Statements of compound forms. No double negation arises. A statement is boxed while others are made: a box is
+//! let go in one way, a statement in as many as it has forms.
 ghost use Rattle.std.specs.Prelude.{◌≡◌, IfOk};
 ghost use Rattle.mz_core.specs.StatementForms.{opposite, disjunction, implication, equivalence, for_some};
 
@@ -20,9 +21,12 @@ pub fn opposite(alloc: Global, s: Statement) -> Result<Statement, AllocError>
 pub fn disjunction(alloc: Global, s: Statement, t: Statement) -> Result<Statement, AllocError>
     ensures { IfOk result (λ u. u ≡ disjunction s t) }
 {
-    let s = opposite(alloc, s)?;
-    let t = opposite(alloc, t)?;
-    let u = Statement::and(alloc, s, t)?;
+    let t = Box::new(alloc, t)?;
+    let s = Box::new(alloc, opposite(alloc, s)?)?;
+    let t = Box::new(alloc, opposite(alloc, Box::into_inner(t))?)?;
+    let u = Statement {
+        node: StatementNode::And(s, t),
+    };
     Statement::not(alloc, u)
 }
 
@@ -35,15 +39,28 @@ pub fn implication(alloc: Global, s: Statement, t: Statement) -> Result<Statemen
     Statement::not(alloc, u)
 }
 
+fn implied(alloc: Global, s: &Statement, t: &Statement) -> Result<Statement, AllocError>
+    ensures { IfOk result (λ u. u ≡ implication s.now t.now) }
+{
+    let s = Box::new(alloc, s.copy(alloc)?)?;
+    let t = t.copy(alloc)?;
+    implication(alloc, Box::into_inner(s), t)
+}
+
 /// `s iff t`.
 pub fn equivalence(alloc: Global, s: Statement, t: Statement) -> Result<Statement, AllocError>
     ensures { IfOk result (λ u. u ≡ equivalence s t) }
 {
-    let s_again = s.copy(alloc)?;
-    let t_again = t.copy(alloc)?;
-    let left = implication(alloc, s, t)?;
-    let right = implication(alloc, t_again, s_again)?;
-    Statement::and(alloc, left, right)
+    let t = Box::new(alloc, t)?;
+    let s = Box::new(alloc, s)?;
+    let left = Box::new(alloc, implied(alloc, &s, &t)?)?;
+    let right = Box::new(
+        alloc,
+        implication(alloc, Box::into_inner(t), Box::into_inner(s))?,
+    )?;
+    Ok(Statement {
+        node: StatementNode::And(left, right),
+    })
 }
 
 /// `ex x being T st s`.
