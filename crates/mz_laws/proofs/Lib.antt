@@ -1,0 +1,2 @@
+pub mod StatementProofs
+pub mod DerivationProofs
