@@ -14,7 +14,7 @@ use Rattle.mz_core.specs.declared.notation.Notation.{Notation}
 use Rattle.mz_items.specs.Items.{owes}
 use Rattle.mz_items.specs.Exports.{HasNotationsOfItems}
 use Rattle.mz_axioms.specs.Names.{hidden_name, tarski_0_name, tarski_a_name}
-use Rattle.mz_axioms.specs.Axioms.{objects_are_sets, extensionality, pairs, unions, regularity, replacement, universes}
+use Rattle.mz_axioms.specs.Axioms.{objects_are_sets, extensionality, pairs, unions, regularity, at_most_one, image, replacement, is_part, is_pair, is_singleton, pair_in, covers_first, covers_second, one_to_one, equinumerous, has_parts, has_sets_of_parts, has_small_parts, universes}
 use Rattle.mz_axioms.specs.BuiltIn.{hidden_notations, hidden, tarski_0_items, tarski_0, tarski_a, built_in_exports}
 use Rattle.mz_axioms.specs.Library.{IsNamedBefore, AreInOrder, HasName, DependsOn, directly, by_others, IsDerivable, OwesDerivable, HasPrimitivesOnlyIfBuiltIn, HasClosedItems, Sound}
 
@@ -118,6 +118,7 @@ abbrev HasNothingOwed : Export → Type 0
 HasNothingOwed e = All OwesNothing e.items
 
 nothing_owed : All HasNothingOwed built_in_exports
+unfolding owes
 nothing_owed =
     all_three HasNothingOwed
     (all_owe_nothing hidden.items (refl, (refl, (refl, (refl, (refl, tt))))))
@@ -131,11 +132,11 @@ derivable e within k item at =
     rw none (All-nil (IsDerivable built_in_exports e k))
 
 tarski_0_closed : HasClosedItems tarski_0
-unfolding objects_are_sets extensionality pairs unions regularity replacement
+unfolding objects_are_sets extensionality pairs unions regularity replacement at_most_one image
 tarski_0_closed = refl
 
 tarski_a_closed : HasClosedItems tarski_a
-unfolding universes
+unfolding universes is_part is_pair is_singleton pair_in covers_first covers_second one_to_one equinumerous has_parts has_sets_of_parts has_small_parts
 tarski_a_closed = refl
 
 pub built_in_sound : Sound built_in_exports

@@ -88,14 +88,14 @@ abbrev pub related : ℕ → ℕ → Statement
 related x y = Atom predicate_letter (Bound x ∷ Bound y ∷ [])
 
 -- for x,y,z being object st P[x,y] & P[x,z] holds y = z
-abbrev pub at_most_one : Statement
+unfoldable pub at_most_one : Statement
 at_most_one =
     each_object
     (each_object (each_object (implication (And (related 2 1) (related 2 0)) (equal 1 0))))
 
 -- ex X being set st
 -- for x being object holds x in X iff ex y being object st y in A() & P[y,x]
-abbrev pub image : Statement
+unfoldable pub image : Statement
 image =
     some_set
     (each_object (equivalence (belongs 0 1) (some_object (And (belongs_to_letter 0) (related 0 1)))))
@@ -110,23 +110,23 @@ replacement =
     }
 
 -- for x being object st x in X holds x in Y
-abbrev pub is_part : ℕ → ℕ → Statement
+unfoldable pub is_part : ℕ → ℕ → Statement
 is_part x y = each_object (implication (belongs 0 (x + 1)) (belongs 0 (y + 1)))
 
 -- for b being object holds b in a iff b = x or b = y
-abbrev pub is_pair : ℕ → ℕ → ℕ → Statement
+unfoldable pub is_pair : ℕ → ℕ → ℕ → Statement
 is_pair a x y =
     each_object
     (equivalence (belongs 0 (a + 1)) (disjunction (equal 0 (x + 1)) (equal 0 (y + 1))))
 
 -- for b being object holds b in a iff b = x
-abbrev pub is_singleton : ℕ → ℕ → Statement
+unfoldable pub is_singleton : ℕ → ℕ → Statement
 is_singleton a x = each_object (equivalence (belongs 0 (a + 1)) (equal 0 (x + 1)))
 
 -- the ordered pair of x and y is in Z: ex p being set st p in Z & for a being object holds
 -- a in p iff (for b being object holds b in a iff b = x or b = y)
 -- or (for b being object holds b in a iff b = x)
-abbrev pub pair_in : ℕ → ℕ → ℕ → Statement
+unfoldable pub pair_in : ℕ → ℕ → ℕ → Statement
 pair_in x y z =
     some_set
     (And (belongs 0 (z + 1))
@@ -134,17 +134,17 @@ pair_in x y z =
 
 -- X and M are equinumerous by Z: X, M and Z have the indices x + 1, m + 1 and 0
 -- for x being object st x in X ex y being object st y in M & pr(x,y,Z)
-abbrev pub covers_first : ℕ → ℕ → Statement
+unfoldable pub covers_first : ℕ → ℕ → Statement
 covers_first x m =
     each_object (implication (belongs 0 (x + 2)) (some_object (And (belongs 0 (m + 3)) (pair_in 1 0 2))))
 
 -- for y being object st y in M ex x being object st x in X & pr(x,y,Z)
-abbrev pub covers_second : ℕ → ℕ → Statement
+unfoldable pub covers_second : ℕ → ℕ → Statement
 covers_second x m =
     each_object (implication (belongs 0 (m + 2)) (some_object (And (belongs 0 (x + 3)) (pair_in 0 1 2))))
 
 -- for x,y,z,u being object st pr(x,y,Z) & pr(z,u,Z) holds x = z iff y = u
-abbrev pub one_to_one : Statement
+unfoldable pub one_to_one : Statement
 one_to_one =
     each_object
     (each_object
@@ -153,22 +153,22 @@ one_to_one =
     (implication (And (pair_in 3 2 4) (pair_in 1 0 4)) (equivalence (equal 3 1) (equal 2 0))))))
 
 -- ex Z being set st these three
-abbrev pub equinumerous : ℕ → ℕ → Statement
+unfoldable pub equinumerous : ℕ → ℕ → Statement
 equinumerous x m = some_set (And (And (covers_first x m) (covers_second x m)) one_to_one)
 
 -- for X,Y being set st X in M & sub(Y,X) holds Y in M
-abbrev pub has_parts : Statement
+unfoldable pub has_parts : Statement
 has_parts = each_set (each_set (implication (And (belongs 1 2) (is_part 0 1)) (belongs 0 2)))
 
 -- for X being set st X in M ex Z being set st Z in M & for Y being set st sub(Y,X) holds Y in Z
-abbrev pub has_sets_of_parts : Statement
+unfoldable pub has_sets_of_parts : Statement
 has_sets_of_parts =
     each_set
     (implication (belongs 0 1)
     (some_set (And (belongs 0 2) (each_set (implication (is_part 0 2) (belongs 0 1))))))
 
 -- for X being set st sub(X,M) holds X in M or eq(X,M)
-abbrev pub has_small_parts : Statement
+unfoldable pub has_small_parts : Statement
 has_small_parts = each_set (implication (is_part 0 1) (disjunction (belongs 0 1) (equinumerous 0 1)))
 
 -- for N being object ex M being set st N in M & these three

@@ -1,6 +1,8 @@
 //! The axioms of TARSKI_0 but for the scheme, as statements. Numbers are indices of variables: 0 is the
-//! innermost.
+//! innermost. A statement is boxed while others are made: a box is let go in one way, a statement in as many as
+//! it has forms.
 ghost use Rattle.std.specs.Prelude.{◌≡◌, IfOk};
+ghost use Rattle.mz_core.specs.Statement.{And};
 ghost use Rattle.mz_axioms.specs.Axioms.{member, belongs, equal, each_object, each_set, some_object, some_set, objects_are_sets, extensionality, pairs, unions, regularity};
 
 use mz_core::hidden::{in_predicate, object_type, set_type};
@@ -74,9 +76,9 @@ pub fn objects_are_sets(alloc: Global) -> Result<Statement, AllocError>
 pub fn extensionality(alloc: Global) -> Result<Statement, AllocError>
     ensures { IfOk result (λ s. s ≡ extensionality) }
 {
-    let in_first = belongs(alloc, 0, 2)?;
+    let in_first = Box::new(alloc, belongs(alloc, 0, 2)?)?;
     let in_second = belongs(alloc, 0, 1)?;
-    let s = equivalence(alloc, in_first, in_second)?;
+    let s = equivalence(alloc, Box::into_inner(in_first), in_second)?;
     let s = each_object(alloc, s)?;
     let s = implication(alloc, s, equal(1, 0))?;
     let s = each_set(alloc, s)?;
@@ -88,9 +90,9 @@ pub fn extensionality(alloc: Global) -> Result<Statement, AllocError>
 pub fn pairs(alloc: Global) -> Result<Statement, AllocError>
     ensures { IfOk result (λ s. s ≡ pairs) }
 {
-    let member = belongs(alloc, 0, 1)?;
+    let member = Box::new(alloc, belongs(alloc, 0, 1)?)?;
     let either = disjunction(alloc, equal(0, 3), equal(0, 2))?;
-    let s = equivalence(alloc, member, either)?;
+    let s = equivalence(alloc, Box::into_inner(member), either)?;
     let s = each_object(alloc, s)?;
     let s = some_set(alloc, s)?;
     let s = each_object(alloc, s)?;
@@ -102,15 +104,24 @@ pub fn pairs(alloc: Global) -> Result<Statement, AllocError>
 pub fn unions(alloc: Global) -> Result<Statement, AllocError>
     ensures { IfOk result (λ s. s ≡ unions) }
 {
-    let inner = belongs(alloc, 1, 0)?;
+    let member = Box::new(alloc, belongs(alloc, 0, 1)?)?;
+    let inner = Box::new(alloc, belongs(alloc, 1, 0)?)?;
     let outer = belongs(alloc, 0, 3)?;
-    let s = Statement::and(alloc, inner, outer)?;
+    let s = Statement::and(alloc, Box::into_inner(inner), outer)?;
     let s = some_set(alloc, s)?;
-    let member = belongs(alloc, 0, 1)?;
-    let s = equivalence(alloc, member, s)?;
+    let s = equivalence(alloc, Box::into_inner(member), s)?;
     let s = each_object(alloc, s)?;
     let s = some_set(alloc, s)?;
     each_set(alloc, s)
+}
+
+fn in_common(alloc: Global) -> Result<Statement, AllocError>
+    ensures { IfOk result (λ s. s ≡ some_object (And (belongs 0 2) (belongs 0 1))) }
+{
+    let in_set = Box::new(alloc, belongs(alloc, 0, 2)?)?;
+    let in_member = belongs(alloc, 0, 1)?;
+    let common = Statement::and(alloc, Box::into_inner(in_set), in_member)?;
+    some_object(alloc, common)
 }
 
 /// A set with a member has one that has no member in common with it.
@@ -118,16 +129,13 @@ pub fn unions(alloc: Global) -> Result<Statement, AllocError>
 pub fn regularity(alloc: Global) -> Result<Statement, AllocError>
     ensures { IfOk result (λ s. s ≡ regularity) }
 {
-    let in_set = belongs(alloc, 0, 2)?;
-    let in_member = belongs(alloc, 0, 1)?;
-    let common = Statement::and(alloc, in_set, in_member)?;
-    let common = some_object(alloc, common)?;
+    let some = Box::new(alloc, belongs(alloc, 1, 0)?)?;
+    let member = Box::new(alloc, belongs(alloc, 0, 1)?)?;
+    let common = in_common(alloc)?;
     let none = opposite(alloc, common)?;
-    let member = belongs(alloc, 0, 1)?;
-    let s = Statement::and(alloc, member, none)?;
+    let s = Statement::and(alloc, Box::into_inner(member), none)?;
     let s = some_set(alloc, s)?;
-    let some = belongs(alloc, 1, 0)?;
-    let s = implication(alloc, some, s)?;
+    let s = implication(alloc, Box::into_inner(some), s)?;
     let s = each_set(alloc, s)?;
     each_object(alloc, s)
 }

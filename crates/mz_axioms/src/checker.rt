@@ -34,7 +34,7 @@ pub trait Semantics {
 
 /// What checks an article.
 pub trait Checker: Semantics + Send + Sync {
-    /// The outcome of the article. Threads that it starts are ended when it returns.
+    /// The outcome of the article. Threads that it starts are to be ended when it returns.
     ///
     /// # Errors
     /// `AllocError` where memory is wanting.

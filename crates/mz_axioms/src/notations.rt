@@ -48,6 +48,7 @@ fn two_objects(alloc: Global) -> Result<SoftTypes, AllocError>
 fn predicate_notation(alloc: Global, symbol: &[u8], l: Literal) -> Result<Notation, AllocError>
     ensures { IfOk result (λ n. n ≡ predicate_notation symbol.now l) }
 {
+    let l = Box::new(alloc, l)?;
     let pattern = Pattern {
         symbol: Text::from_slice(alloc, symbol)?,
         closing: Text::new(alloc),
@@ -58,7 +59,7 @@ fn predicate_notation(alloc: Global, symbol: &[u8], l: Literal) -> Result<Notati
     };
     Ok(Notation {
         pattern,
-        meaning: Meaning::OfLiteral(l),
+        meaning: Meaning::OfLiteral(Box::into_inner(l)),
     })
 }
 

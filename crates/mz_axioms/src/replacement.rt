@@ -54,12 +54,13 @@ fn related(alloc: Global, x: u32, y: u32) -> Result<Statement, AllocError>
 }
 
 /// The premise: an object is related to one other at most.
+#[tactic(auto, unfolding(crate::specs::Axioms::at_most_one))]
 pub fn at_most_one(alloc: Global) -> Result<Statement, AllocError>
     ensures { IfOk result (λ s. s ≡ at_most_one) }
 {
-    let first = related(alloc, 2, 1)?;
+    let first = Box::new(alloc, related(alloc, 2, 1)?)?;
     let second = related(alloc, 2, 0)?;
-    let both = Statement::and(alloc, first, second)?;
+    let both = Statement::and(alloc, Box::into_inner(first), second)?;
     let s = implication(alloc, both, equal(1, 0))?;
     let s = each_object(alloc, s)?;
     let s = each_object(alloc, s)?;
@@ -67,15 +68,16 @@ pub fn at_most_one(alloc: Global) -> Result<Statement, AllocError>
 }
 
 /// The conclusion: there is the set of what the members of a set are related to.
+#[tactic(auto, unfolding(crate::specs::Axioms::image))]
 pub fn image(alloc: Global) -> Result<Statement, AllocError>
     ensures { IfOk result (λ s. s ≡ image) }
 {
-    let from = belongs_to_letter(alloc, 0)?;
+    let member = Box::new(alloc, belongs(alloc, 0, 1)?)?;
+    let from = Box::new(alloc, belongs_to_letter(alloc, 0)?)?;
     let to = related(alloc, 0, 1)?;
-    let s = Statement::and(alloc, from, to)?;
+    let s = Statement::and(alloc, Box::into_inner(from), to)?;
     let s = some_object(alloc, s)?;
-    let member = belongs(alloc, 0, 1)?;
-    let s = equivalence(alloc, member, s)?;
+    let s = equivalence(alloc, Box::into_inner(member), s)?;
     let s = each_object(alloc, s)?;
     some_set(alloc, s)
 }

@@ -571,7 +571,9 @@ owed_closed (item.Choice c) h =
     conditions_closed c.loci (item.Choice c) both.0 (choice_at (length c.loci) c both.1)
 
 pub closed_owed : ClosedOwed
+unfolding owes
 closed_owed i h = all-map typed_closed sequent_closed erased_sequent (owed_statements i) (λ s k. erased_closed s k) (owed_closed i h)
 
 pub closed_granted : ClosedGranted
+unfolding grants
 closed_granted i h = all-map (statement_under 0) (formula_under 0) erase (granted_statements i) (λ s k. erase_all term_under 0 s under_persists k) (granted_closed i h)

@@ -218,9 +218,9 @@ definitional_theorem (SetTerm s) = None
 definitional_theorem (Choice c) = None
 
 -- the sequents that an item owes are the erasures of these
-abbrev pub owes : Item → List Sequent
+unfoldable pub owes : Item → List Sequent
 owes item = map erased_sequent (owed_statements item)
 
 -- the formulas that an item grants are the erasures of these
-abbrev pub grants : Item → List Formula
+unfoldable pub grants : Item → List Formula
 grants item = map erase (granted_statements item)

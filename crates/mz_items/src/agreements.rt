@@ -9,12 +9,22 @@ use crate::quantified::for_each;
 use mz_core::formula_case::FormulaCase;
 use mz_core::formula_definiens::FormulaDefiniens;
 use mz_core::soft_type::SoftType;
-use mz_core::statement::Statement;
+use mz_core::statement::{Statement, StatementNode};
 use mz_core::statement_forms::implication;
 use mz_core::statements::Statements;
 use mz_core::term_case::TermCase;
 use mz_core::term_definiens::TermDefiniens;
 use std::alloc::{AllocError, Global};
+
+fn both(alloc: Global, c: &Statement, d: &Statement) -> Result<Statement, AllocError>
+    ensures { IfOk result (λ r. r ≡ And c.now d.now) }
+{
+    let c = Box::new(alloc, c.copy(alloc)?)?;
+    let d = Box::new(alloc, d.copy(alloc)?)?;
+    Ok(Statement {
+        node: StatementNode::And(c, d),
+    })
+}
 
 fn under_both(
     alloc: Global,
@@ -24,10 +34,9 @@ fn under_both(
 ) -> Result<Statement, AllocError>
     ensures { IfOk result (λ r. r ≡ implication (And c.now d.now) s) }
 {
-    let c = c.copy(alloc)?;
-    let d = d.copy(alloc)?;
-    let both = Statement::and(alloc, c, d)?;
-    implication(alloc, both, s)
+    let s = Box::new(alloc, s)?;
+    let both = both(alloc, c, d)?;
+    implication(alloc, both, Box::into_inner(s))
 }
 
 fn agree_in_type(

@@ -1,6 +1,6 @@
 //! Definientia by cases.
 ghost use Rattle.std.specs.Prelude.{◌≡◌, ◌++◌, ◌∷◌, [], IfOk, OnOk, map};
-ghost use Rattle.mz_core.specs.StatementForms.{opposite};
+ghost use Rattle.mz_core.specs.StatementForms.{implication, opposite};
 ghost use Rattle.mz_items.specs.Cases.{formula_case_condition, formula_case_definiens, term_case_condition, term_case_definiens, otherwise_of, formula_conditions, term_conditions, formula_definientia, term_definientia, implications, conditional, each_case};
 
 use mz_core::formula_cases::FormulaCases;
@@ -141,6 +141,14 @@ pub fn term_definientia(alloc: Global, d: &TermDefiniens) -> Result<Terms, Alloc
     }
 }
 
+fn implied(alloc: Global, c: &Statement, f: &Statement) -> Result<Statement, AllocError>
+    ensures { IfOk result (λ s. s ≡ implication c.now f.now) }
+{
+    let c = Box::new(alloc, c.copy(alloc)?)?;
+    let f = f.copy(alloc)?;
+    implication(alloc, Box::into_inner(c), f)
+}
+
 fn push_implications(
     alloc: Global,
     out: &mut Statements,
@@ -154,9 +162,7 @@ fn push_implications(
         [c, cs @ ..] => match fs {
             [] => Ok(()),
             [f, fs @ ..] => {
-                let c = c.copy(alloc)?;
-                let f = f.copy(alloc)?;
-                out.push(implication(alloc, c, f)?)?;
+                out.push(implied(alloc, c, f)?)?;
                 push_implications(alloc, out, cs, fs)
             }
         },

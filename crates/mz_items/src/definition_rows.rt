@@ -1,7 +1,8 @@
 //! What definitions owe and grant, under their loci.
 ghost use Rattle.std.specs.Prelude.{◌≡◌, IfOk, map};
-ghost use Rattle.mz_core.specs.Statement.{Eq};
+ghost use Rattle.mz_core.specs.Statement.{Eq, And, For};
 ghost use Rattle.mz_core.specs.StatementForms.{equivalence, for_some};
+ghost use Rattle.mz_core.specs.TypeShift.{shift_type, shift_statement};
 ghost use Rattle.mz_core.specs.TypeStatements.{is_of_type};
 ghost use Rattle.mz_items.specs.DefinitionRows.{existence, unique, uniqueness, coherence, defining_formula, functor_means, functor_equals, atom_means, mode_type, mode_defining_formula, mode_means};
 
@@ -12,7 +13,7 @@ use crate::forms::{equation, equivalent};
 use crate::quantified::{exists, for_each};
 use mz_core::formula_definiens::FormulaDefiniens;
 use mz_core::soft_type::SoftType;
-use mz_core::statement::Statement;
+use mz_core::statement::{Statement, StatementNode};
 use mz_core::statement_forms::{equivalence, implication};
 use mz_core::statements::Statements;
 use mz_core::term_definiens::TermDefiniens;
@@ -46,16 +47,33 @@ pub fn existence(
     each_case(alloc, &cs, fs)
 }
 
+fn both_have(alloc: Global, d: &Statement) -> Result<Statement, AllocError>
+    ensures { IfOk result (λ f. f ≡ And (shift_statement 0 1 d.now) (shift_statement 1 1 d.now)) }
+{
+    let first = Box::new(alloc, shift_statement(alloc, d, 0, 1)?)?;
+    let second = Box::new(alloc, shift_statement(alloc, d, 1, 1)?)?;
+    Ok(Statement {
+        node: StatementNode::And(first, second),
+    })
+}
+
+fn for_each_inside(alloc: Global, ty: &SoftType, s: Statement) -> Result<Statement, AllocError>
+    ensures { IfOk result (λ f. f ≡ For (shift_type 0 1 ty.now) s) }
+{
+    let s = Box::new(alloc, s)?;
+    let ty = shift_type(alloc, ty, 0, 1)?;
+    Ok(Statement {
+        node: StatementNode::For(ty, s),
+    })
+}
+
 fn unique(alloc: Global, ty: &SoftType, d: &Statement) -> Result<Statement, AllocError>
     ensures { IfOk result (λ f. f ≡ unique ty.now d.now) }
 {
-    let first = shift_statement(alloc, d, 0, 1)?;
-    let second = shift_statement(alloc, d, 1, 1)?;
-    let both = Statement::and(alloc, first, second)?;
+    let both = both_have(alloc, d)?;
     let equal = Statement::equation(Term::bound(1), Term::bound(0));
     let f = implication(alloc, both, equal)?;
-    let inner = shift_type(alloc, ty, 0, 1)?;
-    let f = Statement::each(alloc, inner, f)?;
+    let f = for_each_inside(alloc, ty, f)?;
     for_each(alloc, ty, f)
 }
 
@@ -211,9 +229,9 @@ fn mode_defining_formula(
 ) -> Result<Statement, AllocError>
     ensures { IfOk result (λ f. f ≡ mode_defining_formula mode.now ty.now d.now) }
 {
-    let m = is_of_type_inside(alloc, mode)?;
+    let m = Box::new(alloc, is_of_type_inside(alloc, mode)?)?;
     let d = d.copy(alloc)?;
-    let f = equivalence(alloc, m, d)?;
+    let f = equivalence(alloc, Box::into_inner(m), d)?;
     for_each(alloc, ty, f)
 }
 

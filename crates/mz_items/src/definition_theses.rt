@@ -116,8 +116,8 @@ pub fn atom_thesis(
 pub fn predicate_meaning(alloc: Global, d: &AtomDefinition) -> Result<Statement, AllocError>
     ensures { IfOk result (λ s. s ≡ predicate_meaning d.now) }
 {
-    let l = predicate_on(alloc, &d.pattern.loci, d.sym)?;
-    let s = literal_statement(alloc, &l)?;
+    let l = Box::new(alloc, predicate_on(alloc, &d.pattern.loci, d.sym)?)?;
+    let s = Box::new(alloc, literal_statement(alloc, &l)?)?;
     atom_means(alloc, &s, &d.definiens)
 }
 
@@ -125,8 +125,11 @@ pub fn predicate_meaning(alloc: Global, d: &AtomDefinition) -> Result<Statement,
 pub fn attribute_meaning(alloc: Global, d: &AttributeDefinition) -> Result<Statement, AllocError>
     ensures { IfOk result (λ s. s ≡ attribute_meaning d.now) }
 {
-    let l = attribute_on(alloc, &d.pattern.loci, d.subject, d.sym)?;
-    let s = literal_statement(alloc, &l)?;
+    let l = Box::new(
+        alloc,
+        attribute_on(alloc, &d.pattern.loci, d.subject, d.sym)?,
+    )?;
+    let s = Box::new(alloc, literal_statement(alloc, &l)?)?;
     atom_means(alloc, &s, &d.definiens)
 }
 

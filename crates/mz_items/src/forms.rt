@@ -1,4 +1,5 @@
-//! Statements made of parts that stay.
+//! Statements made of parts that stay. A statement is boxed while others are made: a box is let go in one way,
+//! a statement in as many as it has forms.
 ghost use Rattle.std.specs.Prelude.{◌≡◌, ◌∷◌, [], IfOk};
 ghost use Rattle.mz_core.specs.Statement.{Eq};
 ghost use Rattle.mz_core.specs.StatementForms.{equivalence};
@@ -22,9 +23,9 @@ pub fn equation(alloc: Global, t: &Term, u: &Term) -> Result<Statement, AllocErr
 pub fn equivalent(alloc: Global, s: &Statement, t: &Statement) -> Result<Statement, AllocError>
     ensures { IfOk result (λ r. r ≡ equivalence s.now t.now) }
 {
-    let s = s.copy(alloc)?;
+    let s = Box::new(alloc, s.copy(alloc)?)?;
     let t = t.copy(alloc)?;
-    equivalence(alloc, s, t)
+    equivalence(alloc, Box::into_inner(s), t)
 }
 
 /// One statement.

@@ -1,6 +1,7 @@
 //! What an item grants.
 ghost use Rattle.std.specs.Prelude.{◌≡◌, [], ◌∷◌, IfOk, map};
 ghost use Rattle.mz_items.specs.Loci.{over};
+ghost use Rattle.mz_items.specs.DefinitionRows.{functor_type, functor_meaning, equal_functor_type, equal_functor_meaning, mode_result_type, mode_meaning};
 ghost use Rattle.mz_items.specs.StructureRows.{structure_grants};
 ghost use Rattle.mz_items.specs.Items.{granted_statements, grants};
 
@@ -13,6 +14,7 @@ use crate::quantified::over;
 use crate::scheme_rows::axiom_scheme_grant;
 use crate::set_term_rows::{choice_grant, set_term_grant};
 use crate::structure_rows::structure_grants;
+use mz_core::definition::{EqualsDefinition, MeansDefinition};
 use mz_core::item::Item;
 use mz_core::soft_types::SoftTypes;
 use mz_core::statement::Statement;
@@ -29,19 +31,36 @@ fn one_over(alloc: Global, loci: &SoftTypes, s: Statement) -> Result<Statements,
     one(alloc, s)
 }
 
-fn two_over(
-    alloc: Global,
-    loci: &SoftTypes,
-    s: Statement,
-    t: Statement,
-) -> Result<Statements, AllocError>
-    ensures { IfOk result (λ ss. ss ≡ map (over loci.now) (s ∷ t ∷ [])) }
+fn functor_grants(alloc: Global, d: &MeansDefinition) -> Result<Statements, AllocError>
+    ensures { IfOk result (λ ss. ss ≡ map (over d.now.pattern.loci) (functor_type d.now ∷ functor_meaning d.now ∷ [])) }
 {
     let mut out = Statements::new(alloc);
-    let s = over(alloc, loci, s)?;
-    out.push(s)?;
-    let t = over(alloc, loci, t)?;
-    out.push(t)?;
+    let s = functor_type(alloc, d)?;
+    out.push(over(alloc, &d.pattern.loci, s)?)?;
+    let s = functor_meaning(alloc, d)?;
+    out.push(over(alloc, &d.pattern.loci, s)?)?;
+    Ok(out)
+}
+
+fn equal_functor_grants(alloc: Global, d: &EqualsDefinition) -> Result<Statements, AllocError>
+    ensures { IfOk result (λ ss. ss ≡ map (over d.now.pattern.loci) (equal_functor_type d.now ∷ equal_functor_meaning d.now ∷ [])) }
+{
+    let mut out = Statements::new(alloc);
+    let s = equal_functor_type(alloc, d)?;
+    out.push(over(alloc, &d.pattern.loci, s)?)?;
+    let s = equal_functor_meaning(alloc, d)?;
+    out.push(over(alloc, &d.pattern.loci, s)?)?;
+    Ok(out)
+}
+
+fn mode_grants(alloc: Global, d: &MeansDefinition) -> Result<Statements, AllocError>
+    ensures { IfOk result (λ ss. ss ≡ map (over d.now.pattern.loci) (mode_result_type d.now ∷ mode_meaning d.now ∷ [])) }
+{
+    let mut out = Statements::new(alloc);
+    let s = mode_result_type(alloc, d)?;
+    out.push(over(alloc, &d.pattern.loci, s)?)?;
+    let s = mode_meaning(alloc, d)?;
+    out.push(over(alloc, &d.pattern.loci, s)?)?;
     Ok(out)
 }
 
@@ -75,16 +94,8 @@ pub fn granted_statements(alloc: Global, item: &Item) -> Result<Statements, Allo
             let s = axiom_scheme_grant(alloc, s)?;
             one(alloc, s)
         }
-        Item::FunctorMeans(d) => {
-            let s = functor_type(alloc, d)?;
-            let t = functor_meaning(alloc, d)?;
-            two_over(alloc, &d.pattern.loci, s, t)
-        }
-        Item::FunctorEquals(d) => {
-            let s = equal_functor_type(alloc, d)?;
-            let t = equal_functor_meaning(alloc, d)?;
-            two_over(alloc, &d.pattern.loci, s, t)
-        }
+        Item::FunctorMeans(d) => functor_grants(alloc, d),
+        Item::FunctorEquals(d) => equal_functor_grants(alloc, d),
         Item::Predicate(d) => {
             let s = predicate_meaning(alloc, d)?;
             one_over(alloc, &d.pattern.loci, s)
@@ -93,11 +104,7 @@ pub fn granted_statements(alloc: Global, item: &Item) -> Result<Statements, Allo
             let s = attribute_meaning(alloc, d)?;
             one_over(alloc, &d.pattern.loci, s)
         }
-        Item::ModeMeans(d) => {
-            let s = mode_result_type(alloc, d)?;
-            let t = mode_meaning(alloc, d)?;
-            two_over(alloc, &d.pattern.loci, s, t)
-        }
+        Item::ModeMeans(d) => mode_grants(alloc, d),
         Item::Structure(s) => structure_grants_over(alloc, s),
         Item::SetTerm(s) => {
             let t = set_term_grant(alloc, s)?;
@@ -113,6 +120,7 @@ pub fn granted_statements(alloc: Global, item: &Item) -> Result<Statements, Allo
 
 /// The formulas that an item grants: the erasures of its statements, by the table in `docs/PROOFS.md`.
 /// Indices, depths or numbers of loci or fields above 4,294,967,295 are as no memory.
+#[tactic(auto, unfolding(crate::specs::Items::grants))]
 pub fn grants(alloc: Global, item: &Item) -> Result<Formulas, AllocError>
     ensures { IfOk result (λ fs. fs ≡ grants item.now) }
 {

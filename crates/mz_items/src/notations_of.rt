@@ -14,7 +14,9 @@ use std::alloc::{AllocError, Global};
 fn one(alloc: Global, p: &Pattern, meaning: Meaning) -> Result<Notations, AllocError>
     ensures { IfOk result (λ ns. ns ≡ notation_of p.now meaning ∷ []) }
 {
+    let meaning = Box::new(alloc, meaning)?;
     let pattern = p.copy(alloc)?;
+    let meaning = Box::into_inner(meaning);
     let mut out = Notations::new(alloc);
     out.push(Notation { pattern, meaning })?;
     Ok(out)

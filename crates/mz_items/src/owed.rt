@@ -150,6 +150,7 @@ pub fn owed_statements(alloc: Global, item: &Item) -> Result<TypedSequents, Allo
 
 /// The sequents that an item owes: the erasures of its statements, by the table in `docs/PROOFS.md`.
 /// Indices, depths or numbers of loci above 4,294,967,295 are as no memory.
+#[tactic(auto, unfolding(crate::specs::Items::owes))]
 pub fn owes(alloc: Global, item: &Item) -> Result<Sequents, AllocError>
     ensures { IfOk result (λ ss. ss ≡ owes item.now) }
 {

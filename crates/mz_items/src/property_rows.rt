@@ -1,6 +1,7 @@
 //! The statements of properties, under the loci.
 ghost use Rattle.std.specs.Prelude.{◌≡◌, IfOk};
 ghost use Rattle.mz_logic.specs.Term.{Bound};
+ghost use Rattle.mz_core.specs.TypeShift.{shift_type};
 ghost use Rattle.mz_items.specs.PropertyRows.{locus_value, locus_values, related, applied, applied_to, locus_type, for_one, for_both, reflexivity, irreflexivity, symmetry, asymmetry, connectedness, commutativity, idempotence, inner_guard, involutiveness, projectivity, property_statement};
 
 use crate::loci::{count_of, mode_on};
@@ -11,7 +12,7 @@ use mz_core::parts::where_all;
 use mz_core::property::{Operation, PropertyForm, Relation, UnaryOperation};
 use mz_core::soft_type::SoftType;
 use mz_core::soft_types::SoftTypes;
-use mz_core::statement::Statement;
+use mz_core::statement::{Statement, StatementNode};
 use mz_core::statement_forms::{disjunction, implication, opposite};
 use mz_core::statements::Statements;
 use mz_core::type_shift::shift_type;
@@ -54,6 +55,28 @@ fn locus_values(alloc: Global, by: u32, v: &Placed, count: u32) -> Result<Terms,
     Ok(out)
 }
 
+fn values_at(
+    alloc: Global,
+    count: u32,
+    by: u32,
+    left: u32,
+    t: u32,
+    right: u32,
+    u: u32,
+) -> Result<Terms, AllocError>
+    ensures { IfOk result (λ ts. ts ≡ locus_values by left (Bound t) right (Bound u) count) }
+{
+    let t = Term::bound(t);
+    let u = Term::bound(u);
+    let v = Placed {
+        left,
+        t: &t,
+        right,
+        u: &u,
+    };
+    locus_values(alloc, by, &v, count)
+}
+
 fn related(
     alloc: Global,
     count: u32,
@@ -64,16 +87,9 @@ fn related(
 ) -> Result<Statement, AllocError>
     ensures { IfOk result (λ f. f ≡ related count by r.now (Bound t) (Bound u)) }
 {
-    let t = Term::bound(t);
-    let u = Term::bound(u);
-    let v = Placed {
-        left: r.left,
-        t: &t,
-        right: r.right,
-        u: &u,
-    };
-    let values = locus_values(alloc, by, &v, count)?;
+    let values = values_at(alloc, count, by, r.left, t, r.right, u)?;
     let l = substitute_literal(alloc, &r.literal, 0, &values, Beyond::Lowered)?;
+    let l = Box::new(alloc, l)?;
     literal_statement(alloc, &l)
 }
 
@@ -87,15 +103,7 @@ fn applied(
 ) -> Result<Term, AllocError>
     ensures { IfOk result (λ f. f ≡ applied count by o.now (Bound t) (Bound u)) }
 {
-    let t = Term::bound(t);
-    let u = Term::bound(u);
-    let v = Placed {
-        left: o.left,
-        t: &t,
-        right: o.right,
-        u: &u,
-    };
-    let values = locus_values(alloc, by, &v, count)?;
+    let values = values_at(alloc, count, by, o.left, t, o.right, u)?;
     substitute(alloc, &o.term, 0, &values, Beyond::Lowered)
 }
 
@@ -133,8 +141,18 @@ fn for_one(
 ) -> Result<Statement, AllocError>
     ensures { IfOk result (λ g. g ≡ for_one loci.now place f) }
 {
+    let f = Box::new(alloc, f)?;
     let ty = locus_type(alloc, loci, place)?;
-    Statement::each(alloc, ty, f)
+    Ok(Statement {
+        node: StatementNode::For(ty, f),
+    })
+}
+
+fn inner_locus_type(alloc: Global, loci: &SoftTypes, index: u32) -> Result<SoftType, AllocError>
+    ensures { IfOk result (λ t. t ≡ shift_type 0 1 (locus_type loci.now index)) }
+{
+    let ty = locus_type(alloc, loci, index)?;
+    shift_type(alloc, &ty, 0, 1)
 }
 
 fn for_both(
@@ -146,9 +164,11 @@ fn for_both(
 ) -> Result<Statement, AllocError>
     ensures { IfOk result (λ g. g ≡ for_both loci.now left right f) }
 {
-    let inner = locus_type(alloc, loci, right)?;
-    let inner = shift_type(alloc, &inner, 0, 1)?;
-    let f = Statement::each(alloc, inner, f)?;
+    let f = Box::new(alloc, f)?;
+    let ty = inner_locus_type(alloc, loci, right)?;
+    let f = Statement {
+        node: StatementNode::For(ty, f),
+    };
     for_one(alloc, loci, left, f)
 }
 
@@ -173,9 +193,9 @@ fn symmetry(alloc: Global, loci: &SoftTypes, r: &Relation) -> Result<Statement, 
     ensures { IfOk result (λ f. f ≡ symmetry loci.now r.now) }
 {
     let count = count_of(loci.items.len())?;
-    let f = related(alloc, count, 2, r, 1, 0)?;
+    let f = Box::new(alloc, related(alloc, count, 2, r, 1, 0)?)?;
     let g = related(alloc, count, 2, r, 0, 1)?;
-    let f = implication(alloc, f, g)?;
+    let f = implication(alloc, Box::into_inner(f), g)?;
     for_both(alloc, loci, r.left, r.right, f)
 }
 
@@ -183,10 +203,10 @@ fn asymmetry(alloc: Global, loci: &SoftTypes, r: &Relation) -> Result<Statement,
     ensures { IfOk result (λ f. f ≡ asymmetry loci.now r.now) }
 {
     let count = count_of(loci.items.len())?;
-    let f = related(alloc, count, 2, r, 1, 0)?;
+    let f = Box::new(alloc, related(alloc, count, 2, r, 1, 0)?)?;
     let g = related(alloc, count, 2, r, 0, 1)?;
     let g = opposite(alloc, g)?;
-    let f = implication(alloc, f, g)?;
+    let f = implication(alloc, Box::into_inner(f), g)?;
     for_both(alloc, loci, r.left, r.right, f)
 }
 
@@ -194,9 +214,9 @@ fn connectedness(alloc: Global, loci: &SoftTypes, r: &Relation) -> Result<Statem
     ensures { IfOk result (λ f. f ≡ connectedness loci.now r.now) }
 {
     let count = count_of(loci.items.len())?;
-    let f = related(alloc, count, 2, r, 1, 0)?;
+    let f = Box::new(alloc, related(alloc, count, 2, r, 1, 0)?)?;
     let g = related(alloc, count, 2, r, 0, 1)?;
-    let f = disjunction(alloc, f, g)?;
+    let f = disjunction(alloc, Box::into_inner(f), g)?;
     for_both(alloc, loci, r.left, r.right, f)
 }
 
@@ -225,8 +245,7 @@ fn inner_guard(
     ensures { IfOk result (λ fs. fs ≡ inner_guard loci.now o.now) }
 {
     let count = count_of(loci.items.len())?;
-    let ty = locus_type(alloc, loci, o.place)?;
-    let ty = shift_type(alloc, &ty, 0, 1)?;
+    let ty = inner_locus_type(alloc, loci, o.place)?;
     let t = applied_to(alloc, count, o, &Term::bound(0))?;
     let ls = guard_literals(alloc, &ty, &t)?;
     literal_statements(alloc, &ls)

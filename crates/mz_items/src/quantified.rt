@@ -6,24 +6,28 @@ ghost use Rattle.mz_items.specs.Loci.{over};
 
 use mz_core::soft_type::SoftType;
 use mz_core::soft_types::SoftTypes;
-use mz_core::statement::Statement;
-use mz_core::statement_forms::for_some;
+use mz_core::statement::{Statement, StatementNode};
+use mz_core::statement_forms::opposite;
 use std::alloc::{AllocError, Global};
 
 /// `for x being T holds s`.
 pub fn for_each(alloc: Global, ty: &SoftType, s: Statement) -> Result<Statement, AllocError>
     ensures { IfOk result (λ r. r ≡ For ty.now s) }
 {
+    let s = Box::new(alloc, s)?;
     let ty = ty.copy(alloc)?;
-    Statement::each(alloc, ty, s)
+    Ok(Statement {
+        node: StatementNode::For(ty, s),
+    })
 }
 
 /// `ex x being T st s`.
 pub fn exists(alloc: Global, ty: &SoftType, s: Statement) -> Result<Statement, AllocError>
     ensures { IfOk result (λ r. r ≡ for_some ty.now s) }
 {
-    let ty = ty.copy(alloc)?;
-    for_some(alloc, ty, s)
+    let s = opposite(alloc, s)?;
+    let s = for_each(alloc, ty, s)?;
+    Statement::not(alloc, s)
 }
 
 /// `for L holds s`.

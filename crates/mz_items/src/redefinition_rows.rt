@@ -82,7 +82,7 @@ fn atom_compatibility(alloc: Global, d: &AtomRedefinition) -> Result<Option<Stat
     match &d.meaning {
         None => Ok(None),
         Some(m) => {
-            let s = literal_statement(alloc, &d.literal)?;
+            let s = Box::new(alloc, literal_statement(alloc, &d.literal)?)?;
             Ok(Some(atom_means(alloc, &s, m)?))
         }
     }

@@ -24,7 +24,7 @@ use std::alloc::{AllocError, Global};
 fn adjective_statement(alloc: Global, a: &Adjective, t: &Term) -> Result<Statement, AllocError>
     ensures { IfOk result (λ s. s ≡ adjective_statement t.now a.now) }
 {
-    let l = adjective_literal(alloc, a, t)?;
+    let l = Box::new(alloc, adjective_literal(alloc, a, t)?)?;
     literal_statement(alloc, &l)
 }
 
@@ -76,8 +76,9 @@ fn under_type(
     match ty {
         None => Ok(f),
         Some(ty) => {
+            let f = Box::new(alloc, f)?;
             let g = is_of_type(alloc, ty, t)?;
-            implication(alloc, g, f)
+            implication(alloc, g, Box::into_inner(f))
         }
     }
 }

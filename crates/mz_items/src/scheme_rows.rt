@@ -1,5 +1,7 @@
 //! What a scheme owes, and what a scheme that is an axiom grants.
 ghost use Rattle.std.specs.Prelude.{◌≡◌, ◌++◌, ◌∷◌, [], IfOk, OnOk};
+ghost use Rattle.mz_core.specs.TypeStatements.{is_of_type};
+ghost use Rattle.mz_items.specs.Loci.{over, term_on};
 ghost use Rattle.mz_items.specs.SchemeRows.{letter_types, scheme_sequent, axiom_scheme_grant};
 
 use crate::loci::term_on;
@@ -7,12 +9,28 @@ use crate::quantified::over;
 use mz_core::parts::conjunction;
 use mz_core::scheme::Scheme;
 use mz_core::scheme_letter::SchemeLetter;
+use mz_core::soft_type::SoftType;
+use mz_core::soft_types::SoftTypes;
 use mz_core::statement::Statement;
 use mz_core::statement_forms::implication;
 use mz_core::statements::Statements;
 use mz_core::type_statements::is_of_type;
 use mz_core::typed_sequent::TypedSequent;
+use mz_logic::sym::Sym;
 use std::alloc::{AllocError, Global};
+
+fn letter_type(
+    alloc: Global,
+    s: Sym,
+    places: &SoftTypes,
+    ty: &SoftType,
+) -> Result<Statement, AllocError>
+    ensures { IfOk result (λ f. f ≡ over places.now (is_of_type ty.now (term_on places.now s))) }
+{
+    let t = Box::new(alloc, term_on(alloc, places, s)?)?;
+    let f = is_of_type(alloc, ty, &t)?;
+    over(alloc, places, f)
+}
 
 fn push_letter_types(
     alloc: Global,
@@ -24,9 +42,7 @@ fn push_letter_types(
     match letters {
         [] => Ok(()),
         [SchemeLetter::OfFunctor(s, places, ty), others @ ..] => {
-            let t = term_on(alloc, places, *s)?;
-            let f = is_of_type(alloc, ty, &t)?;
-            out.push(over(alloc, places, f)?)?;
+            out.push(letter_type(alloc, *s, places, ty)?)?;
             push_letter_types(alloc, out, others)
         }
         [SchemeLetter::OfPredicate(_, _), others @ ..] => push_letter_types(alloc, out, others),
@@ -60,7 +76,7 @@ pub fn scheme_sequent(alloc: Global, s: &Scheme) -> Result<TypedSequent, AllocEr
 pub fn axiom_scheme_grant(alloc: Global, s: &Scheme) -> Result<Statement, AllocError>
     ensures { IfOk result (λ f. f ≡ axiom_scheme_grant s.now) }
 {
-    let premises = conjunction(alloc, &s.premises)?;
+    let premises = Box::new(alloc, conjunction(alloc, &s.premises)?)?;
     let conclusion = s.conclusion.copy(alloc)?;
-    implication(alloc, premises, conclusion)
+    implication(alloc, Box::into_inner(premises), conclusion)
 }

@@ -1,5 +1,10 @@
 //! What set terms, choices and the sethood of a mode owe and grant, under their loci.
 ghost use Rattle.std.specs.Prelude.{◌≡◌, IfOk};
+ghost use Rattle.mz_logic.specs.Term.{Bound};
+ghost use Rattle.mz_logic.specs.Substitution.{shift};
+ghost use Rattle.mz_core.specs.Statement.{Eq, And};
+ghost use Rattle.mz_core.specs.StatementForms.{for_some};
+ghost use Rattle.mz_core.specs.TypeShift.{shift_type, shift_statement};
 ghost use Rattle.mz_items.specs.SetTermRows.{comprehension, set_term_existence, set_term_grant, choice_existence, choice_grant, sethood, set_term_thesis, choice_thesis};
 
 use crate::condition::Condition;
@@ -16,17 +21,24 @@ use mz_logic::shift::shift;
 use mz_logic::term::Term;
 use std::alloc::{AllocError, Global};
 
+fn some_value(alloc: Global, by: u32, s: &SetTerm) -> Result<Statement, AllocError>
+    ensures { IfOk result (λ f. f ≡ for_some (shift_type 0 by s.now.ty) (And (Eq (Bound 1) (shift 1 by s.now.term)) (shift_statement 1 by s.now.formula))) }
+{
+    let formula = Box::new(alloc, shift_statement(alloc, &s.formula, 1, by)?)?;
+    let ty = shift_type(alloc, &s.ty, 0, by)?;
+    let term = shift(alloc, &s.term, 1, by)?;
+    let equal = Statement::equation(Term::bound(1), term);
+    let f = Statement::and(alloc, equal, Box::into_inner(formula))?;
+    for_some(alloc, ty, f)
+}
+
 fn comprehension(alloc: Global, by: u32, set: Term, s: &SetTerm) -> Result<Statement, AllocError>
     ensures { IfOk result (λ f. f ≡ comprehension by set s.now) }
 {
+    let member = Box::new(alloc, is_in(alloc, Term::bound(0), set)?)?;
     let inner = by.checked_add(1).ok_or(AllocError)?;
-    let ty = shift_type(alloc, &s.ty, 0, inner)?;
-    let term = shift(alloc, &s.term, 1, inner)?;
-    let formula = shift_statement(alloc, &s.formula, 1, inner)?;
-    let f = Statement::and(alloc, Statement::equation(Term::bound(1), term), formula)?;
-    let f = for_some(alloc, ty, f)?;
-    let member = is_in(alloc, Term::bound(0), set)?;
-    let f = equivalence(alloc, member, f)?;
+    let f = some_value(alloc, inner, s)?;
+    let f = equivalence(alloc, Box::into_inner(member), f)?;
     Statement::each(alloc, object_type(alloc), f)
 }
 

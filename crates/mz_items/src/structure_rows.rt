@@ -1,6 +1,9 @@
 //! What structures grant, under their loci.
 ghost use Rattle.std.specs.Prelude.{◌≡◌, ◌++◌, ◌∷◌, [], IfOk, OnOk, map, reverse};
 ghost use Rattle.mz_logic.specs.Term.{Bound};
+ghost use Rattle.mz_core.specs.Parts.{conjunction};
+ghost use Rattle.mz_core.specs.Statement.{And};
+ghost use Rattle.mz_core.specs.StatementForms.{implication};
 ghost use Rattle.mz_core.specs.TypeStatements.{is_of_type_inside};
 ghost use Rattle.mz_items.specs.StructureRows.{structure_atom, strict_atom, aggregate, selected, field_values, selected_values, given_values, field_fits, for_object, grant_of_ancestors, grant_of_fields, fit_each, select_each, for_objects, fitting, aggregate_has, grant_of_aggregate, grant_of_strict, structure_grants};
 
@@ -11,7 +14,7 @@ use mz_core::guard::with_last;
 use mz_core::hidden::object_type;
 use mz_core::parts::conjunction;
 use mz_core::soft_types::SoftTypes;
-use mz_core::statement::Statement;
+use mz_core::statement::{Statement, StatementNode};
 use mz_core::statement_forms::implication;
 use mz_core::statements::Statements;
 use mz_core::structure::Structure;
@@ -133,15 +136,22 @@ fn each_ancestor(alloc: Global, xs: &SoftTypes) -> Result<Statements, AllocError
     Ok(Statements { items: out })
 }
 
+fn each_has(alloc: Global, s: &Structure, fs: &Statements) -> Result<Statement, AllocError>
+    ensures { IfOk result (λ f. f ≡ for_object (implication (structure_atom 1 s.now (Bound 0)) (conjunction fs.now))) }
+{
+    let f = structure_atom(alloc, 1, s, &Term::bound(0))?;
+    let f = Box::new(alloc, f)?;
+    let g = conjunction(alloc, fs)?;
+    let f = implication(alloc, Box::into_inner(f), g)?;
+    for_object(alloc, f)
+}
+
 /// An object of the structure is of each ancestor.
 pub fn grant_of_ancestors(alloc: Global, s: &Structure) -> Result<Statement, AllocError>
     ensures { IfOk result (λ f. f ≡ grant_of_ancestors s.now) }
 {
     let fs = each_ancestor(alloc, &s.ancestors)?;
-    let f = conjunction(alloc, &fs)?;
-    let g = structure_atom(alloc, 1, s, &Term::bound(0))?;
-    let f = implication(alloc, g, f)?;
-    for_object(alloc, f)
+    each_has(alloc, s, &fs)
 }
 
 /// Each field of an object of the structure is of its type.
@@ -150,10 +160,7 @@ pub fn grant_of_fields(alloc: Global, s: &Structure) -> Result<Statement, AllocE
 {
     let values = selected_values(alloc, s)?;
     let fs = each_field_fits(alloc, &values, &s.fields)?;
-    let f = conjunction(alloc, &fs)?;
-    let g = structure_atom(alloc, 1, s, &Term::bound(0))?;
-    let f = implication(alloc, g, f)?;
-    for_object(alloc, f)
+    each_has(alloc, s, &fs)
 }
 
 fn push_fits(
@@ -261,24 +268,40 @@ pub fn grant_of_aggregate(alloc: Global, s: &Structure) -> Result<Statement, All
 {
     let count = count_of(s.fields.items.len())?;
     let zs = variables(alloc, 0, s.fields.items.len())?;
-    let a = aggregate(alloc, count, s, &zs)?;
-    let f = fitting(alloc, s, count, &zs, &a)?;
+    let a = Box::new(alloc, aggregate(alloc, count, s, &zs)?)?;
+    let f = Box::new(alloc, fitting(alloc, s, count, &zs, &a)?)?;
     let g = aggregate_has(alloc, s, count, &zs, &a)?;
-    let f = implication(alloc, f, g)?;
+    let f = implication(alloc, Box::into_inner(f), g)?;
     for_objects(alloc, count, f)
+}
+
+fn strict_object(alloc: Global, s: &Structure) -> Result<Statement, AllocError>
+    ensures { IfOk result (λ f. f ≡ And (structure_atom 1 s.now (Bound 0)) (strict_atom 1 s.now (Bound 0))) }
+{
+    let f = structure_atom(alloc, 1, s, &Term::bound(0))?;
+    let f = Box::new(alloc, f)?;
+    let g = strict_atom(alloc, 1, s, &Term::bound(0))?;
+    let g = Box::new(alloc, g)?;
+    Ok(Statement {
+        node: StatementNode::And(f, g),
+    })
+}
+
+fn aggregate_of_selected(alloc: Global, s: &Structure) -> Result<Term, AllocError>
+    ensures { IfOk result (λ t. t ≡ aggregate 1 s.now (map (selected (Bound 0)) s.now.fields)) }
+{
+    let ts = each_selected(alloc, &Term::bound(0), &s.fields)?;
+    aggregate(alloc, 1, s, &ts)
 }
 
 /// A strict object of the structure is made of its fields.
 pub fn grant_of_strict(alloc: Global, s: &Structure) -> Result<Statement, AllocError>
     ensures { IfOk result (λ f. f ≡ grant_of_strict s.now) }
 {
-    let y = Term::bound(0);
-    let f = structure_atom(alloc, 1, s, &y)?;
-    let g = strict_atom(alloc, 1, s, &y)?;
-    let both = Statement::and(alloc, f, g)?;
-    let ts = each_selected(alloc, &y, &s.fields)?;
-    let a = aggregate(alloc, 1, s, &ts)?;
-    let f = implication(alloc, both, Statement::equation(y, a))?;
+    let f = Box::new(alloc, strict_object(alloc, s)?)?;
+    let a = aggregate_of_selected(alloc, s)?;
+    let g = Statement::equation(Term::bound(0), a);
+    let f = implication(alloc, Box::into_inner(f), g)?;
     for_object(alloc, f)
 }
 
