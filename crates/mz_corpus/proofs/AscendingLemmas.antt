@@ -18,17 +18,17 @@ use Rattle.mz_corpus.proofs.ContainsLemmas.{Contains-head, Contains-tail, Contai
 
 -- names by their numbers
 
-abbrev IsTrichotomy : Ordering → ℕ → ℕ → Type 0
+abbrev pub IsTrichotomy : Ordering → ℕ → ℕ → Type 0
 IsTrichotomy Less a b = a < b
 IsTrichotomy Equal a b = a ≡ b
 IsTrichotomy Greater a b = b < a
 
-record Compared (a b : ℕ) : Type 0 where
-  answer : Ordering
-  is : nat_cmp a b ≡ answer
-  holds : IsTrichotomy answer a b
+pub record Compared (a b : ℕ) : Type 0 where
+  pub answer : Ordering
+  pub is : nat_cmp a b ≡ answer
+  pub holds : IsTrichotomy answer a b
 
-compared : (a b : ℕ) → Compared a b
+pub compared : (a b : ℕ) → Compared a b
 compared a b =
     elim (cases_lt a b) [
       | inl lt ↦ record { answer = Less; is = sym (nat_cmp_is a b Less lt); holds = lt }

@@ -1,18 +1,14 @@
 -- Articles that are taken one after another.
-use Rattle.std.proofs.Common.{◌≡◌, ℕ, ◌+◌, ◌<◌, ◌≤◌, ◌⊎◌, Bool, true, false, not, ◌&&◌, ◌||◌, ◌==◌, cond, List, [], ◌∷◌, ◌++◌, Option, Some, None, refl, sym, ap, subst, ◌∙◌, arith, inl, inr, append_assoc, length, get_or, take}
-use Rattle.std.specs.Prelude.{Contains, map, filter, nat_le}
-use Rattle.std.specs.List.{list_all, list_any}
-use Rattle.std.proofs.lemmas.Bool.{eq-eqb, leb-true, false≢true}
-use Rattle.std.proofs.lemmas.Bool.Decides.{leb_tells}
-use Rattle.std.proofs.lemmas.List.{take_more, take_all}
-use Rattle.std.proofs.lemmas.List.Elements.{Contains-push_cases, Contains-append_left, Contains-push}
+use Rattle.std.proofs.Common.{◌≡◌, ℕ, ◌+◌, ◌<◌, ◌≤◌, ◌⊎◌, Bool, true, false, not, ◌&&◌, ◌||◌, ◌==◌, cond, List, [], ◌∷◌, ◌++◌, refl, sym, ap, subst, ◌∙◌, arith, inl, inr, append_assoc}
+use Rattle.std.specs.Prelude.{Contains, map, filter}
+use Rattle.std.specs.List.{list_all}
+use Rattle.std.proofs.lemmas.Bool.{eq-eqb, false≢true}
 use Rattle.mz_base.specs.declared.name.Name.{Name}
 use Rattle.mz_corpus.specs.Article.{Article}
 use Rattle.mz_corpus.specs.Ascending.{sorted_names}
 use Rattle.mz_corpus.specs.Corpus.{names_of}
-use Rattle.mz_corpus.specs.Names.{is_name_of, is_among, with_name}
-use Rattle.mz_corpus.specs.Order.{is_at_hand, is_ready, earlier, IsFirstReady, NoneReady, chosen, IsNext, Takes, end, take as take_first, IsOrder, left_names}
-use Rattle.mz_corpus.specs.declared.ordering.Ordering.{Ordering}
+use Rattle.mz_corpus.specs.Names.{is_among, with_name}
+use Rattle.mz_corpus.specs.Order.{is_at_hand, is_ready, IsFirstReady, Takes, take as take_first, IsOrder, left_names}
 use Rattle.mz_corpus.proofs.ContainsLemmas.{Contains-head, Contains-tail, Contains-none, Contains-cases}
 use Rattle.mz_corpus.proofs.AscendingLemmas.{IsAscending-sorted_names, Contains-from_sorted, Contains-to_sorted}
 
@@ -103,72 +99,6 @@ turn_takes c taken after n first e so_far ns takes =
     let more = taken_more c taken after n first e in
     subst (λ ms. Takes c [] (ms ++ ns)) (sym more)
     (subst (λ ms. Takes c [] ms) (sym (append_assoc taken (n ∷ []) ns)) (so_far (n ∷ ns) (take_first taken ns n first (subst (λ ms. Takes c ms ns) more takes))))
-
--- the first that is ready
-
-none_more : (c : List Article) (taken : List Name) (a : Article) → NoneReady c taken → is_ready taken a ≡ false → NoneReady (c ++ a ∷ []) taken
-none_more c taken a none unready b held ready =
-    elim (Contains-push_cases c a b held) [ inl k ↦ none b k ready | inr e ↦ (let yes : is_ready taken a ≡ true = subst (λ y. is_ready taken y ≡ true) (sym e) ready in absurd (false≢true (sym unready ∙ yes))) ]
-
-first_more : (c : List Article) (taken : List Name) (a : Article) (n : Name) → IsFirstReady c taken n → is_ready taken a ≡ false → IsFirstReady (c ++ a ∷ []) taken n
-first_more c taken a n first unready = record {
-  article = first.article;
-  held = Contains-append_left c (a ∷ []) first.article first.held;
-  named = first.named;
-  ready = first.ready;
-  first = λ b held ready. elim (Contains-push_cases c a b held) [ inl k ↦ first.first b k ready | inr e ↦ (let yes : is_ready taken a ≡ true = subst (λ y. is_ready taken y ≡ true) (sym e) ready in absurd (false≢true (sym unready ∙ yes))) ];
-}
-
-pub next_unready : (c : List Article) (taken : List Name) (a : Article) (f : Option Name) → IsNext c taken f → is_ready taken a ≡ false → IsNext (c ++ a ∷ []) taken f
-next_unready c taken a None h unready = none_more c taken a h unready
-next_unready c taken a (Some n) h unready = first_more c taken a n h unready
-
-alone : (c : List Article) (taken : List Name) (a : Article) → NoneReady c taken → is_ready taken a ≡ true → IsFirstReady (c ++ a ∷ []) taken a.name
-alone c taken a none ready = record {
-  article = a;
-  held = Contains-push c a;
-  named = refl;
-  ready = ready;
-  first = λ b held yes. elim (Contains-push_cases c a b held) [ inl k ↦ absurd (none b k yes) | inr e ↦ subst (λ y. a.name.number ≤ y.name.number) e (omega arith) ];
-}
-
-kept : (c : List Article) (taken : List Name) (a : Article) (n : Name) → IsFirstReady c taken n → n.number ≤ a.name.number → IsFirstReady (c ++ a ∷ []) taken n
-kept c taken a n first le = record {
-  article = first.article;
-  held = Contains-append_left c (a ∷ []) first.article first.held;
-  named = first.named;
-  ready = first.ready;
-  first = λ b held yes. elim (Contains-push_cases c a b held) [ inl k ↦ first.first b k yes | inr e ↦ subst (λ y. n.number ≤ y.name.number) e le ];
-}
-
-replaced : (c : List Article) (taken : List Name) (a : Article) (n : Name) → IsFirstReady c taken n → is_ready taken a ≡ true → a.name.number < n.number → IsFirstReady (c ++ a ∷ []) taken a.name
-replaced c taken a n first ready lt = record {
-  article = a;
-  held = Contains-push c a;
-  named = refl;
-  ready = ready;
-  first = λ b held yes. elim (Contains-push_cases c a b held) [ inl k ↦ (let le = first.first b k yes in omega arith) | inr e ↦ subst (λ y. a.name.number ≤ y.name.number) e (omega arith) ];
-}
-
-picked : (c : List Article) (taken : List Name) (a : Article) (n : Name) (b : Bool) → nat_le n.number a.name.number ≡ b → IsFirstReady c taken n → is_ready taken a ≡ true → IsFirstReady (c ++ a ∷ []) taken (cond b n a.name)
-picked c taken a n true e first ready = kept c taken a n first (leb-true n.number a.name.number e)
-picked c taken a n false e first ready = replaced c taken a n first ready (elim (leb_tells n.number a.name.number) [ inl t ↦ (let bad : true ≡ false = sym t.0 ∙ e in cc) | inr t ↦ t.1 ])
-
-pub next_ready : (c : List Article) (taken : List Name) (a : Article) (f : Option Name) → IsNext c taken f → is_ready taken a ≡ true → IsNext (c ++ a ∷ []) taken (Some (earlier f a.name))
-next_ready c taken a None h ready = alone c taken a h ready
-next_ready c taken a (Some n) h ready = picked c taken a n (nat_le n.number a.name.number) refl h ready
-
-next_by : (c : List Article) (taken : List Name) (a : Article) (f : Option Name) (b : Bool) → is_ready taken a ≡ b → IsNext c taken f → IsNext (c ++ a ∷ []) taken (cond b (Some (earlier f a.name)) f)
-next_by c taken a f true e h = next_ready c taken a f h e
-next_by c taken a f false e h = next_unready c taken a f h e
-
-pub next_turn : (c : List Article) (taken : List Name) (i : ℕ) (a : Article) (f g : Option Name) → i < length c → a ≡ get_or c i a → IsNext (take i c) taken f → g ≡ chosen taken f a → IsNext (take (i + 1) c) taken g
-next_turn c taken i a f g lt at h e =
-    let more : take (i + 1) c ≡ take i c ++ a ∷ [] = take_more c i a lt ∙ ap (λ b. take i c ++ b ∷ []) (sym at) in
-    rw (more, e) (next_by (take i c) taken a f (is_ready taken a) refl h)
-
-pub next_whole : (c : List Article) (taken : List Name) (i : ℕ) (f : Option Name) → length c ≤ i → IsNext (take i c) taken f → IsNext c taken f
-next_whole c taken i f past h = subst (λ all. IsNext all taken f) (take_all i c past) h
 
 -- names that pass a test
 

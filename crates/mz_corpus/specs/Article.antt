@@ -1,7 +1,8 @@
 -- What contracts see of an article of a corpus.
-use Rattle.std.specs.Prelude.{List, ℕ, Option}
+use Rattle.std.specs.Prelude.{List, ℕ, Bool, Option}
 use Rattle.mz_base.specs.declared.name.Name.{Name}
 use Rattle.mz_base.specs.NamedText.{NamedText}
+use Rattle.mz_corpus.specs.Names.{is_among}
 use Rattle.mz_corpus.specs.Source.{Source}
 
 -- what was fetched for the article, and, in the order of names, its direct dependencies and all of its dependencies,
@@ -18,3 +19,7 @@ pub record Article : Type 0 where
 -- what was fetched for the article
 abbrev pub source_of : Article → Source
 source_of a = record { name = a.name; text = a.text; dependencies = a.dependencies; vocabulary_names = a.vocabulary_names }
+
+-- whether the article is among its own dependencies
+abbrev pub is_cyclic : Article → Bool
+is_cyclic a = is_among a.reach a.name

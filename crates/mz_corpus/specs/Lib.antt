@@ -1,6 +1,7 @@
 pub mod Article
 pub mod Ascending
 pub mod Corpus
+pub mod Dependents
 pub mod Directives
 pub mod Fit
 pub mod Found
@@ -11,4 +12,6 @@ pub mod Names
 pub mod Order
 pub mod Orderly
 pub mod Reach
+pub mod Rise
 pub mod Source
+pub mod Taking

@@ -1,5 +1,5 @@
 -- The order of a corpus.
-use Rattle.std.specs.Prelude.{◌≡◌, ◌≤◌, ℕ, Bool, true, false, not, nat_le, if◌then◌else◌, ◌&&◌, ◌||◌, List, [], ◌∷◌, ◌++◌, Option, Some, None, Contains, filter}
+use Rattle.std.specs.Prelude.{◌≡◌, ◌≤◌, ℕ, Bool, true, false, not, ◌&&◌, ◌||◌, List, [], ◌∷◌, ◌++◌, Contains, filter}
 use Rattle.std.specs.List.{list_all, list_any}
 use Rattle.mz_base.specs.declared.name.Name.{Name}
 use Rattle.mz_base.specs.Name.{is_built_in}
@@ -27,11 +27,6 @@ pub record IsFirstReady (c : List Article) (taken : List Name) (n : Name) : Type
 abbrev pub NoneReady : List Article → List Name → Type 0
 NoneReady c taken = (a : Article) → Contains c a → is_ready taken a ≡ true → ⊥
 
--- the first ready name, if any is ready
-abbrev pub IsNext : List Article → List Name → Option Name → Type 0
-IsNext c taken None = NoneReady c taken
-IsNext c taken (Some n) = IsFirstReady c taken n
-
 -- the first ready name is taken, again and again, until none is ready: the names that are taken after those of the first list
 pub data Takes (c : List Article) : List Name → List Name → Type 0 where
   end : (taken : List Name) → NoneReady c taken → Takes c taken []
@@ -43,19 +38,6 @@ pub record IsOrder (c : List Article) (o : Ordering) : Type 0 where
   pub rest_ascending : IsAscending o.rest
   pub rest : (n : Name) → Contains o.rest n → Contains (names_of c) n × (is_among o.order n ≡ false)
   pub all : (n : Name) → Contains (names_of c) n → is_among o.order n ≡ false → Contains o.rest n
-
--- the name that comes first in the order of bytes
-abbrev pub lesser : Name → Name → Name
-lesser other name = if nat_le other.number name.number then other else name
-
--- the name that comes first in the order of bytes, of the one, if there is one, and of another
-abbrev pub earlier : Option Name → Name → Name
-earlier None name = name
-earlier (Some other) name = lesser other name
-
--- the first name, and that of the article where it is ready
-abbrev pub chosen : List Name → Option Name → Article → Option Name
-chosen taken first a = if is_ready taken a then Some (earlier first a.name) else first
 
 -- the names of the articles that aren't taken
 abbrev pub left_names : List Article → List Name → List Name

@@ -1,5 +1,5 @@
 //! Corpora.
-ghost use Rattle.std.specs.Prelude.{◌≡◌, ◌<◌, ◌≤◌, length, Some, slice_get, IsTrue};
+ghost use Rattle.std.specs.Prelude.{◌≡◌, ◌<◌, ◌≤◌, ◌↔◌, [], length, Some, slice_get, IsTrue};
 ghost use Rattle.mz_corpus.specs.Corpus.{IsCorpus};
 
 use crate::article::Article;
@@ -36,7 +36,9 @@ impl Corpus {
     }
 
     /// Whether there is no article.
-    pub fn is_empty(&self) -> bool {
+    pub fn is_empty(&self) -> bool
+        ensures { IsTrue result ↔ (self.now.articles ≡ []) }
+    {
         self.articles.is_empty()
     }
 

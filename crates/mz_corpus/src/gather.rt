@@ -1,9 +1,10 @@
 //! The gathering of texts.
-ghost use Rattle.std.specs.Prelude.{◌≡◌, ◌≤◌, ℕ, List, Some, Ok, IfOk};
+ghost use Rattle.std.specs.Prelude.{◌≡◌, ◌≤◌, ℕ, List, Some, Ok, IfOk, length};
 ghost use Rattle.mz_io.specs.Count.{Rose};
 ghost use Rattle.mz_io.specs.declared.file.File.{File};
 ghost use Rattle.mz_corpus.specs.Fit.{IsFit};
 ghost use Rattle.mz_corpus.specs.Gather.{Gathers, IsGatherAnswer, OnAnswer, OnRead};
+ghost use Rattle.mz_corpus.specs.Rise.{HasRisen, IsLarge, OnLimit, OnTooLong};
 
 use crate::corpus::Corpus;
 use crate::gather_fault::GatherFault;
@@ -19,6 +20,9 @@ fn gathered<S: Shelf>(alloc: Global, shelf: &mut S, names: &Names) -> Result<Gat
     ensures unchanged { S.contents shelf.new ≡ S.contents shelf.old }
     ensures never_fall { S.faults shelf.old ≤ S.faults shelf.new }
     ensures read { OnRead result (Rose (S.faults shelf.old) (S.faults shelf.new)) }
+    ensures rises { S.amount shelf.old ≤ S.amount shelf.new }
+    ensures limits { OnLimit result (IsLarge (length names.now) (S.amount shelf.old) (S.amount shelf.new)) }
+    ensures too_long { OnTooLong result (HasRisen (S.amount shelf.old) (S.amount shelf.new) 1048577) }
 {
     let mut gathering = match Gathering::begin(alloc, names) {
         Ok(gathering) => gathering,
@@ -45,11 +49,18 @@ fn gathered<S: Shelf>(alloc: Global, shelf: &mut S, names: &Names) -> Result<Gat
 /// `Read` only where a fetch failed. Else the first limit that is passed: the sum of bytes is compared with 16,777,216 after
 /// each fetch, the number of article names with 512 at the start and after those of an article are queued, and the number of
 /// vocabularies with 512 before each fetch of one. `Memory` where memory ran out.
+///
+/// Whatever the shelf is, a limit is passed only where the number of names and the rise of the shelf's amount are together
+/// more than 512, or the amount stands at its last value; a text is too long only where the amount rose by at least
+/// 1,048,577, or stands there.
 pub fn gather<S: Shelf>(alloc: Global, shelf: &mut S, names: &Names) -> Result<Corpus, GatherFault>
     ensures told { (files : List File) → S.contents shelf.old ≡ Some files → IsGatherAnswer files names.now result }
     ensures unchanged { S.contents shelf.new ≡ S.contents shelf.old }
     ensures never_fall { S.faults shelf.old ≤ S.faults shelf.new }
     ensures read { OnRead result (Rose (S.faults shelf.old) (S.faults shelf.new)) }
+    ensures rises { S.amount shelf.old ≤ S.amount shelf.new }
+    ensures limits { OnLimit result (IsLarge (length names.now) (S.amount shelf.old) (S.amount shelf.new)) }
+    ensures too_long { OnTooLong result (HasRisen (S.amount shelf.old) (S.amount shelf.new) 1048577) }
 {
     let gathering = match gathered(alloc, shelf, names) {
         Ok(gathering) => gathering,

@@ -8,6 +8,7 @@ ghost use Rattle.mz_io.specs.declared.file.File.{File};
 ghost use Rattle.mz_corpus.specs.Fit.{AreApart, IsFit};
 ghost use Rattle.mz_corpus.specs.Orderly.{IsOrderly};
 ghost use Rattle.mz_corpus.specs.declared.gather_fault.GatherFault.TheVariants.{Read};
+ghost use Rattle.mz_corpus.specs.Rise.{IsCharged, Raises, IsPaid, Pays};
 ghost use Rattle.mz_corpus.specs.Gather.{IsFetched, HasDirectives, TakesArticle, Tells, OnRead, is_fetched, next_name, IsCorpusOf, IsBegun, with_vocabulary, with_vocabularies, with_source, queued};
 
 use crate::corpus::Corpus;
@@ -66,6 +67,8 @@ fn fetched<S: Shelf>(
 ) -> Result<(Option<Text>, usize), GatherFault>
     requires { bytes ≤ 16777216 }
     ensures told { (files : List File) → S.contents shelf.old ≡ Some files → IsFetched (lookup files kind name.now) name.now bytes result }
+    ensures charged { IsCharged (S.amount shelf.old) (S.amount shelf.new) bytes result }
+    ensures amount { Raises (S.amount shelf.old) (S.amount shelf.new) result }
     ensures within { IfOk result (λ r. r.1 ≤ 16777216) }
     ensures unchanged { S.contents shelf.new ≡ S.contents shelf.old }
     ensures never_fall { S.faults shelf.old ≤ S.faults shelf.new }
@@ -191,6 +194,8 @@ impl Gathering {
         name: &Name,
     ) -> Result<(), GatherFault>
         ensures told { (files : List File) → S.contents shelf.old ≡ Some files → Tells (λ r. r ≡ with_vocabulary files self.old name.now) result self.new }
+        ensures paid { (names start spare : ℕ) → IsPaid names start (S.amount shelf.old) (spare + 1) self.old → Pays names start (S.amount shelf.new) spare self.new result }
+        ensures amount { Raises (S.amount shelf.old) (S.amount shelf.new) result }
         ensures sources { self.new.sources ≡ self.old.sources }
         ensures queue { self.new.queue ≡ self.old.queue }
         ensures apart { OnOk result (AreApart self.old.vocabularies → AreApart self.new.vocabularies) }
@@ -218,6 +223,8 @@ impl Gathering {
         names: &Names,
     ) -> Result<(), GatherFault>
         ensures told { (files : List File) → S.contents shelf.old ≡ Some files → Tells (λ r. r ≡ with_vocabularies files self.old names.now) result self.new }
+        ensures paid { (handed start spare : ℕ) → IsPaid handed start (S.amount shelf.old) (spare + length names.now) self.old → Pays handed start (S.amount shelf.new) spare self.new result }
+        ensures amount { Raises (S.amount shelf.old) (S.amount shelf.new) result }
         ensures sources { self.new.sources ≡ self.old.sources }
         ensures queue { self.new.queue ≡ self.old.queue }
         ensures apart { OnOk result (AreApart self.old.vocabularies → AreApart self.new.vocabularies) }
@@ -256,6 +263,8 @@ impl Gathering {
         name: Name,
     ) -> Result<(), GatherFault>
         ensures told { (files : List File) → S.contents shelf.old ≡ Some files → Tells (TakesArticle files self.old name) result self.new }
+        ensures paid { (names start : ℕ) → IsPaid names start (S.amount shelf.old) 0 self.old → Pays names start (S.amount shelf.new) 0 self.new result }
+        ensures amount { Raises (S.amount shelf.old) (S.amount shelf.new) result }
         ensures grows { OnOk result (length self.new.sources ≡ length self.old.sources + 1) }
         ensures few { OnOk result (length self.new.queue ≤ 512) }
         ensures kept { OnOk result (IsOrderly self.old → next_name self.old ≡ Some name → IsOrderly self.new) }

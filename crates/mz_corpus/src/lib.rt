@@ -4,6 +4,7 @@
 pub mod article;
 pub mod ascending;
 pub mod corpus;
+pub mod dependents;
 pub mod directives;
 pub mod fit;
 pub mod found;
@@ -16,6 +17,6 @@ pub mod made;
 pub mod name_set;
 pub mod order;
 pub mod ordering;
-pub mod ready;
 pub mod same;
 pub mod source;
+pub mod taking;

@@ -1,28 +1,17 @@
 //! The order in which articles are checked.
-ghost use Rattle.std.specs.Prelude.{◌≡◌, [], IfOk, filter, not};
+ghost use Rattle.std.specs.Prelude.{◌≡◌, IfOk, filter, not};
 ghost use Rattle.mz_corpus.specs.Corpus.{names_of};
 ghost use Rattle.mz_corpus.specs.Names.{is_among};
-ghost use Rattle.mz_corpus.specs.Order.{IsOrder, Takes, left_names};
+ghost use Rattle.mz_corpus.specs.Order.{IsOrder, left_names};
 
 use crate::article::Article;
 use crate::ascending::ascending;
 use crate::corpus::Corpus;
 use crate::name_set::NameSet;
 use crate::ordering::Ordering;
-use crate::ready::next;
+use crate::taking::taken_names;
 use mz_base::names::Names;
 use std::alloc::{AllocError, Global};
-
-/// The names that can be taken, in turn.
-fn taken_names(alloc: Global, articles: &[Article]) -> Result<NameSet, AllocError>
-    ensures { IfOk result (λ taken. Takes articles.now [] taken) }
-{
-    let mut taken = NameSet::new(alloc);
-    while let Some(name) = next(articles, &taken) {
-        taken.insert(name)?;
-    }
-    Ok(taken)
-}
 
 /// The names of the articles, in the order of gathering.
 fn names_of(alloc: Global, articles: &[Article]) -> Result<Names, AllocError>

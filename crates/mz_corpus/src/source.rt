@@ -14,9 +14,9 @@ pub struct Source {
     pub name: Name,
     /// The text, shared; none where there is no such text.
     pub text: Option<Arc<Text>>,
-    /// The names of its direct dependencies, each once, in the order of the text.
+    /// The names of its direct dependencies, in the order of the text.
     pub dependencies: Names,
-    /// The names of its vocabularies without built-in names, each once, in the order of the text.
+    /// The names of its vocabularies, in the order of the text.
     pub vocabulary_names: Names,
 }
 

@@ -2,8 +2,10 @@ use Rattle.std.proofs.Common.{◌≡◌, ◌≤◌, ◌∙◌, arith, Ok, Err, l
 use Rattle.mz_io.specs.Count.{Rose}
 use Rattle.mz_corpus.specs.Gather.{Gathered, Goes, Gathers, TakesArticle, whole, passed, goes_on}
 use Rattle.mz_corpus.specs.Orderly.{IsOrderly}
+use Rattle.mz_corpus.specs.Rise.{HasRisen, IsLarge}
 use Rattle.mz_corpus.proofs.GatherLemmas.{gathers_from, answer_passed, begin_refused, begin_unread, next_within}
 use Rattle.mz_corpus.proofs.OrderlyLemmas.{IsOrderly-begun, IsFit-gathered}
+use Rattle.mz_corpus.proofs.RiseLemmas.{Raises-none, Raises-on, begun_paid, begin_large, limit_same, long_same, risen_before}
 use Rattle.mz_corpus.proofs.gather.gathered.Goals as goal
 
 pub returns-in-Err-clause-told : goal.returns-in-Err-clause-told
@@ -18,6 +20,8 @@ loop-name-init g c = record {
   few = subst (λ x. length x.queue ≤ 512) (sym c.in-Ok.ensures.0) c.in-Ok.ensures.1;
   unchanged = refl;
   never_fall = omega arith;
+  amount = Raises-none {X = Unit {0}} (g.S.Shelf.amount c.args.shelf.now) tt;
+  paid = begun_paid c.args.names.now (g.S.Shelf.amount c.args.shelf.now) c.in-Ok.gathering c.in-Ok.ensures.0;
   told = λ files e r h. h;
 }
 
@@ -27,6 +31,8 @@ loop-name-preserved g c = record {
   few = c.in-Ok-take.ensures.few;
   unchanged = c.in-Ok-take.ensures.unchanged ∙ c.loop-name.invariant.unchanged;
   never_fall = omega (arith, c.in-Ok-take.ensures.never_fall, c.loop-name.invariant.never_fall);
+  amount = Raises-on {W = Unit {0}} {X = Unit {0}} {Y = Unit {0}} (g.S.Shelf.amount c.args.shelf.now) (g.S.Shelf.amount c.loop-name.shelf) (g.S.Shelf.amount c.take.new.shelf) tt tt tt c.loop-name.invariant.amount c.in-Ok-take.ensures.amount;
+  paid = c.in-Ok-take.ensures.paid (length c.args.names.now) (g.S.Shelf.amount c.args.shelf.now) c.loop-name.invariant.paid;
   told = λ files e r h. c.loop-name.invariant.told files e r (goes_on _ _ _ _ (sym c.in-Some.ensures) (c.in-Ok-take.ensures.told files (c.loop-name.invariant.unchanged ∙ e)) h);
 }
 
@@ -43,3 +49,21 @@ returns-clause-told g c = λ files e. gathers_from files c.args.names.now _ _ c.
 
 pub returns-clause-fit : goal.returns-clause-fit
 returns-clause-fit g c = IsFit-gathered _ c.loop-name.invariant.orderly c.loop-name.invariant.few (sym c.in_default.ensures)
+
+pub returns-in-Err-clause-limits : goal.returns-in-Err-clause-limits
+returns-in-Err-clause-limits g c = begin_large Gathered c.args.names.now (g.S.Shelf.amount c.args.shelf.now) c.in-Err.fault c.in-Err.ensures
+
+pub returns-in-Err-take-clause-rises : goal.returns-in-Err-take-clause-rises
+returns-in-Err-take-clause-rises g c = omega (arith, c.loop-name.invariant.amount.rises, c.in-Err-take.ensures.amount.rises)
+
+pub returns-in-Err-take-clause-limits : goal.returns-in-Err-take-clause-limits
+returns-in-Err-take-clause-limits g c =
+    limit_same (Unit {0}) Gathered c.in-Err-take.fault (IsLarge (length c.args.names.now) (g.S.Shelf.amount c.args.shelf.now) (g.S.Shelf.amount c.take.new.shelf)) (c.in-Err-take.ensures.paid (length c.args.names.now) (g.S.Shelf.amount c.args.shelf.now) c.loop-name.invariant.paid)
+
+pub returns-in-Err-take-clause-too_long : goal.returns-in-Err-take-clause-too_long
+returns-in-Err-take-clause-too_long g c =
+    long_same (Unit {0}) Gathered c.in-Err-take.fault (HasRisen (g.S.Shelf.amount c.loop-name.shelf) (g.S.Shelf.amount c.take.new.shelf) 1048577) (HasRisen (g.S.Shelf.amount c.args.shelf.now) (g.S.Shelf.amount c.take.new.shelf) 1048577)
+    (risen_before (g.S.Shelf.amount c.args.shelf.now) (g.S.Shelf.amount c.loop-name.shelf) (g.S.Shelf.amount c.take.new.shelf) 1048577 c.loop-name.invariant.amount.rises) c.in-Err-take.ensures.amount.too_long
+
+pub returns-clause-rises : goal.returns-clause-rises
+returns-clause-rises g c = c.loop-name.invariant.amount.rises

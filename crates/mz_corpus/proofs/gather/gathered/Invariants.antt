@@ -2,6 +2,7 @@ use Rattle.std.proofs.Common.{◌≡◌, ◌≤◌, ◌-◌, List, Some, Ok, len
 use Rattle.mz_io.specs.declared.file.File.{File}
 use Rattle.mz_corpus.specs.Orderly.{IsOrderly}
 use Rattle.mz_corpus.specs.Gather.{GatherResult, Goes, begun}
+use Rattle.mz_corpus.specs.Rise.{Raises, IsPaid}
 use Rattle.mz_corpus.proofs.gather.gathered.Given as goal
 
 abbrev pub invariant-loop-name : goal.invariant-loop-name
@@ -10,6 +11,8 @@ invariant-loop-name g l = record {
   few : length l.gathering.queue ≤ 512;
   unchanged : g.S.Shelf.contents l.shelf ≡ g.S.Shelf.contents l.initial.shelf;
   never_fall : g.S.Shelf.faults l.initial.shelf ≤ g.S.Shelf.faults l.shelf;
+  amount : Raises {X = Unit {0}} (g.S.Shelf.amount l.initial.shelf) (g.S.Shelf.amount l.shelf) (Ok tt);
+  paid : IsPaid (length l.fn.names) (g.S.Shelf.amount l.initial.shelf) (g.S.Shelf.amount l.shelf) 0 l.gathering;
   told : (files : List File) → g.S.Shelf.contents l.initial.shelf ≡ Some files → (r : GatherResult) → Goes files l.gathering r → Goes files l.initial.gathering r;
 }
 
