@@ -1,1 +1,9 @@
-pub mod WordLemmas
+pub mod ByteLemmas
+pub mod RowLemmas
+pub mod ReadingLemmas
+pub mod StateLemmas
+pub mod StepLemmas
+pub mod OptionLemmas
+pub mod RunLemmas
+pub mod NameLemmas
+pub mod EndLemmas

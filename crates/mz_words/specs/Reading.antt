@@ -1,6 +1,6 @@
 -- What is read of a command line so far.
 use Rattle.std.specs.Prelude.{ℕ, Bool, List, Option}
-use Rattle.mz_words.specs.declared.expected.Expected.{Expected}
+use Rattle.mz_words.specs.Expected.{Expected}
 
 -- what may come next, the options that were met, and the numbers of the articles' names, each once
 pub record Reading : Type 0 where

@@ -1,16 +1,13 @@
 -- Which words are an order.
-use Rattle.std.specs.Prelude.{◌≡◌, ℕ, ◌+◌, ◌-◌, ◌*◌, ◌==◌, nat_le, Bool, true, false, not, ◌&&◌, ◌||◌, if◌then◌else◌, List, [], ◌∷◌, ◌++◌, length, map, fold, drop, Option, Some, None, is_some, is_none, unwrap_or, Result, Ok, Err}
+use Rattle.std.specs.Prelude.{◌≡◌, ℕ, ◌+◌, ◌-◌, ◌*◌, ◌==◌, nat_le, Bool, true, false, not, ◌&&◌, if◌then◌else◌, List, [], ◌∷◌, ◌++◌, length, map, fold, drop, Option, Some, None, is_some, is_none, unwrap_or, Result, Ok, Err}
 use Rattle.std.specs.List.{list_all, list_any}
 use Rattle.mz_base.specs.Bytes.{raised, is_digit}
 use Rattle.mz_base.specs.Name.{is_name, number_of, is_built_in}
-use Rattle.mz_words.specs.declared.expected.Expected.{Expected}
-use Rattle.mz_words.specs.declared.expected.Expected.TheVariants.{AnyWord, Workers, Generated, NamesAlone}
-use Rattle.mz_words.specs.declared.option_word.OptionWord.{OptionWord}
-use Rattle.mz_words.specs.declared.option_word.OptionWord.TheVariants as words
+use Rattle.mz_words.specs.Expected.{Expected, AnyWord, Workers, Generated, NamesAlone}
+use Rattle.mz_words.specs.OptionWord.{OptionWord, Separator, ListWord, WorkersWord, GenerateWord, WorkersValue, GenerateValue, Other, option_word}
 use Rattle.mz_words.specs.declared.order.Order.{Order}
 use Rattle.mz_words.specs.declared.word_fault.WordFault.{WordFault}
 use Rattle.mz_words.specs.declared.word_fault.WordFault.TheVariants.{Usage, Memory}
-use Rattle.mz_words.specs.OptionWord.{option_word}
 use Rattle.mz_words.specs.Reading.{Reading}
 
 -- an order: how many workers, whether the listing is wanted, how many articles are made, if any, and the numbers of the
@@ -58,13 +55,13 @@ with_named r w = if names_article w then Some (record r { names = with_number r.
 
 -- a word where any may come: `--` before names alone, an option with its value in the next word or behind `=`, or a name
 abbrev pub with_option : OptionWord → Reading → List ℕ → Option Reading
-with_option words.Separator r w = Some (record r { expected = NamesAlone })
-with_option words.List r w = with_list r
-with_option words.Workers r w = Some (record r { expected = Workers })
-with_option words.Generate r w = Some (record r { expected = Generated })
-with_option words.WorkersValue r w = with_workers r (value_of (drop 10 w))
-with_option words.GenerateValue r w = with_generated r (value_of (drop 11 w))
-with_option words.Other r w = with_named r w
+with_option Separator r w = Some (record r { expected = NamesAlone })
+with_option ListWord r w = with_list r
+with_option WorkersWord r w = Some (record r { expected = Workers })
+with_option GenerateWord r w = Some (record r { expected = Generated })
+with_option WorkersValue r w = with_workers r (value_of (drop 10 w))
+with_option GenerateValue r w = with_generated r (value_of (drop 11 w))
+with_option Other r w = with_named r w
 
 -- the next word
 abbrev pub with_word_at : Expected → Reading → List ℕ → Option Reading
@@ -103,12 +100,6 @@ asked (Some r) =
 -- the order that the words give; none where they give none
 abbrev pub order_of : List (List ℕ) → Option Asked
 order_of ws = asked (fold with_word (Some unread) ws)
-
--- what a call on words answers: what is read, or that the words are no order; want of memory says nothing of them
-abbrev pub Meets : Option Reading → Result Reading WordFault → Type 0
-Meets o (Ok r) = o ≡ Some r
-Meets o (Err Usage) = o ≡ None
-Meets o (Err (Memory a)) = Unit {0}
 
 -- an order as it is asked for
 abbrev pub asked_by : Order → Asked

@@ -1,10 +1,9 @@
 //! The words of the program.
 #![tactic(auto)]
 
-pub mod expected;
-pub mod option_word;
+pub mod given;
 pub mod order;
-pub mod reading;
+pub mod program;
 #[cfg(test)]
 mod tests;
 pub mod word_fault;

@@ -1,45 +1,12 @@
-//! The words of the program.
-ghost use Rattle.std.specs.Prelude.{◌≡◌, Some, is_some, map, string_bytes};
-ghost use Rattle.mz_words.specs.Words.{may_end, asks_for, asked, IsAsked, IsAnswer};
+//! The order of the program's words.
+ghost use Rattle.std.specs.Prelude.{map, string_bytes};
+ghost use Rattle.mz_words.specs.Words.{IsAnswer};
 
-use crate::expected::Expected;
+use crate::given::order_with;
 use crate::order::Order;
-use crate::reading::{Reading, unread, with_word};
+use crate::program::program;
 use crate::word_fault::WordFault;
 use std::alloc::Global;
-
-/// Whether no value is missing.
-fn may_end(expected: Expected) -> bool
-    ensures { result ≡ may_end expected }
-{
-    matches!(expected, Expected::AnyWord | Expected::NamesAlone)
-}
-
-/// Whether there is a name or a number of made articles, not both, and no listing of made ones.
-fn asks_for(reading: &Reading) -> bool
-    ensures { result ≡ asks_for reading.now.names (is_some reading.now.generate) reading.now.list }
-{
-    match reading.names.as_slice() {
-        [] => reading.generate.is_some() && !reading.list,
-        [_, ..] => reading.generate.is_none(),
-    }
-}
-
-/// The order, where the words may end here.
-fn order_read(reading: Reading) -> Result<Order, WordFault>
-    ensures { IsAsked (asked (Some reading)) result }
-{
-    if may_end(reading.expected) && asks_for(&reading) {
-        Ok(Order {
-            workers: reading.workers.unwrap_or(1),
-            list: reading.list,
-            generate: reading.generate,
-            names: reading.names,
-        })
-    } else {
-        Err(WordFault::Usage)
-    }
-}
 
 /// The order that the words after the program's own give.
 ///
@@ -54,12 +21,13 @@ fn order_read(reading: Reading) -> Result<Order, WordFault>
 pub fn read_words(alloc: Global, words: &[String]) -> Result<Order, WordFault>
     ensures { IsAnswer (map string_bytes words.now) result }
 {
-    let mut reading = unread(alloc);
-    for word in words {
-        match with_word(reading, word.as_bytes()) {
-            Ok(next) => reading = next,
-            Err(fault) => return Err(fault),
-        }
-    }
-    order_read(reading)
+    let program = program(alloc)?;
+    let matches = program.try_get_matches_from(words)?;
+    order_with(
+        alloc,
+        matches.get_str("workers"),
+        matches.get_str("generate"),
+        matches.get_flag("list"),
+        matches.get_raw("names"),
+    )
 }
