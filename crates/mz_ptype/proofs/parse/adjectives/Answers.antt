@@ -1,0 +1,10 @@
+use Rattle.std.proofs.Common.{true}
+use Rattle.mz_ptype.specs.Forms.{adjectives_form, adjectives_pair}
+use Rattle.mz_pterm.proofs.Parsed.{parsed, not_parsed}
+use Rattle.mz_ptype.proofs.parse.adjectives.Goals as goal
+
+pub returns-in-Ok : goal.returns-in-Ok
+returns-in-Ok c = parsed (adjectives_form c.args.field) (λ _ _. true) adjectives_pair _ c.args.end _ c.requires c.in-Ok.tree _ c.in-Ok.ensures
+
+pub returns-in-Err : goal.returns-in-Err
+returns-in-Err c = rw c.fault.ensures (not_parsed (adjectives_form c.args.field) (λ _ _. true) adjectives_pair _ c.args.end _ c.requires _ _ c.in-Err.ensures)
