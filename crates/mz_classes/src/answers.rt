@@ -1,10 +1,11 @@
 //! What class facts answer.
-ghost use Rattle.std.specs.Prelude.{◌<◌, length};
+ghost use Rattle.std.specs.Prelude.{◌≡◌, ◌<◌, length, slice_index};
 ghost use Rattle.mz_classes.specs.Classes.{DecidesClass, DecidesMembers, DecidesSigned};
 ghost use Rattle.mz_classes.specs.ClassFacts.{class_view};
 ghost use Rattle.mz_classes.specs.Indexed.{AreSignedLists};
 
 use crate::class_facts::ClassFacts;
+use crate::labels::label_of;
 use crate::numbers::Numbers;
 use crate::sym_lists::SymLists;
 use mz_ground::fact_set::FactSet;
@@ -50,9 +51,9 @@ impl ClassFacts {
     #[tactic(auto, using(crate::proofs::ClassLemmas::class_rules))]
     pub fn class_of(&self, term: u32) -> u32
         requires { term < length (class_view self.now).part.terms }
-        ensures { DecidesClass (class_view self.now) term result }
+        ensures { DecidesClass (class_view self.now) self.now.numbering.terms.items term result }
     {
-        match self.members.get(self.table.class_at(term as usize)) {
+        match self.members.get(self.table.class_at(self.term_place(term))) {
             Some(numbers) => match numbers.first() {
                 Some(number) => number,
                 None => term,
@@ -63,12 +64,15 @@ impl ClassFacts {
 
     /// The numbers of the terms whose class this number is, ascending; none where it is no class.
     pub fn members(&self, class: u32) -> &Numbers
-        ensures { DecidesMembers (class_view self.now) class result.now }
+        ensures { DecidesMembers (class_view self.now) self.now.numbering.terms.items class result.now }
     {
         if class as usize >= self.table.ground.terms.len() || self.class_of(class) != class {
             return &self.none;
         }
-        match self.members.get(self.table.class_at(class as usize)) {
+        match self
+            .members
+            .get(self.table.class_at(self.term_place(class)))
+        {
             Some(numbers) => numbers,
             None => &self.none,
         }
@@ -76,7 +80,7 @@ impl ClassFacts {
 
     /// The numbers of the ground atoms with the symbol that are facts with the sign, ascending.
     pub fn signed(&self, sym: Sym, positive: bool) -> &Numbers
-        ensures { DecidesSigned (class_view self.now) sym positive result.now }
+        ensures { DecidesSigned (class_view self.now) self.now.numbering.atoms.items sym positive result.now }
     {
         match self.lists_of(positive).get(sym) {
             Some(numbers) => numbers,
@@ -84,8 +88,17 @@ impl ClassFacts {
         }
     }
 
+    /// The place of the term with this number in the list of ground terms.
+    pub fn term_place(&self, number: u32) -> usize
+        requires { number < length (class_view self.now).part.terms }
+        ensures place { result ≡ slice_index self.now.numbering.terms.items number }
+        ensures within { result < length (class_view self.now).part.terms }
+    {
+        label_of(self.numbering.terms.as_slice(), number as usize)
+    }
+
     fn lists_of(&self, positive: bool) -> &SymLists
-        ensures { AreSignedLists (class_view self.now) positive result.now }
+        ensures { AreSignedLists (class_view self.now) self.now.numbering.atoms.items positive result.now }
     {
         if positive {
             &self.positive

@@ -182,11 +182,11 @@ fn atoms_by_sign(rt: HostRuntime) {
         ],
         &[],
     );
-    // P[1], Q[2], P[2], P[3] and Q[1] have the numbers 0 to 4
-    assert!(&rt; are(f.signed(predicate(b'P'), true), &[0, 2]), "P true");
+    // P[1], P[2], P[3], Q[1] and Q[2] have the numbers 0 to 4
+    assert!(&rt; are(f.signed(predicate(b'P'), true), &[0, 1]), "P true");
     assert!(&rt; are(f.signed(predicate(b'P'), false), &[]), "P false");
     assert!(&rt; are(f.signed(predicate(b'Q'), true), &[]), "Q true");
-    assert!(&rt; are(f.signed(predicate(b'Q'), false), &[1, 4]), "Q false");
+    assert!(&rt; are(f.signed(predicate(b'Q'), false), &[3, 4]), "Q false");
     assert!(&rt; are(f.signed(predicate(b'R'), true), &[]), "R true");
 }
 

@@ -5,4 +5,4 @@ use Rattle.mz_classes.specs.Indexed.{has_label}
 use Rattle.mz_classes.proofs.member_lists.member_lists.Given as goal
 
 abbrev pub invariant-loop-k : goal.invariant-loop-k
-invariant-loop-k l = (length l.lists ≡ l.count) × ((label : ℕ) → list_at l.lists label ≡ numbers_where (has_label (table_view l.f) label) l.k)
+invariant-loop-k l = (length l.lists ≡ l.count) × ((label : ℕ) → list_at l.lists label ≡ numbers_where (has_label (table_view l.f) l.places label) l.k)
