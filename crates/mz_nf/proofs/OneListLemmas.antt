@@ -16,7 +16,8 @@ use Rattle.mz_nf.specs.Disjunct.{pairs}
 use Rattle.mz_nf.specs.Constants.{IsLeastUnused}
 use Rattle.mz_nf.specs.Splits as splits
 use Rattle.mz_nf.specs.Splits.{Splits, SplitsAll, AreDisjuncts}
-use Rattle.mz_nf.specs.Count.{count, count_all, held, count_of}
+use Rattle.mz_logic.specs.Capped.{capped}
+use Rattle.mz_nf.specs.Count.{count, count_all, count_of}
 use Rattle.mz_nf.proofs.CountLemmas.{count-substitute_formula}
 use Rattle.mz_nf.proofs.PairLemmas.{length-pairs}
 use Rattle.mz_nf.proofs.TakesLemmas.{IsBounded, not_both, all_splits_exist}
@@ -110,14 +111,14 @@ one_list p =
 pub length-disjuncts : (p : Problem) (ds : List Disjunct) → AreDisjuncts p ds → length ds ≡ count_all (parts_of p)
 length-disjuncts p ds h = all_splits_count (has_constant p) (parts_of p) 1 h.0 ds h.1
 
-pub count_law : (p : Problem) (ds : List Disjunct) → AreDisjuncts p ds → count_of p ≡ held (length ds)
-count_law p ds h = ap held (sym (length-disjuncts p ds h))
+pub count_law : (p : Problem) (ds : List Disjunct) → AreDisjuncts p ds → count_of p ≡ capped (length ds)
+count_law p ds h = ap capped (sym (length-disjuncts p ds h))
 
--- a count that isn't held is the length
+-- a count that isn't capped is the length
 pub told_few : (p : Problem) (ds : List Disjunct) (x : ℕ) → AreDisjuncts p ds → x ≡ count_of p → x ≤ 1024 → length ds ≡ count_of p
-unfolding held
+unfolding capped
 told_few p ds x h e le =
-    let c : count_of p ≡ held (length ds) = count_law p ds h in
+    let c : count_of p ≡ capped (length ds) = count_law p ds h in
     omega arith
 
 pub told_small : (p : Problem) (ds : List Disjunct) (x : ℕ) → AreDisjuncts p ds → x ≡ count_of p → x ≤ 1024 → length ds ≤ 1024
@@ -131,10 +132,10 @@ no_disjuncts [] e = refl
 no_disjuncts (d ∷ ds) e = absurd (omega arith)
 
 pub told_none : (p : Problem) (ds : List Disjunct) (x : ℕ) → ds ≡ [] → x ≡ count_of p → x ≡ 0 → AreDisjuncts p ds
-unfolding held
+unfolding capped
 told_none p ds x d e z =
     let r : (es : List Disjunct) × AreDisjuncts p es = disjuncts_exist p in
-    let c : count_of p ≡ held (length r.0) = count_law p r.0 r.1 in
+    let c : count_of p ≡ capped (length r.0) = count_law p r.0 r.1 in
     let n : length r.0 ≡ 0 = omega arith in
     subst (AreDisjuncts p) (no_disjuncts r.0 n ∙ sym d) r.1
 

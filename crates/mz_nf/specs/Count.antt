@@ -1,5 +1,6 @@
 -- How many disjuncts there are, counted without making any.
-use Rattle.std.specs.Prelude.{ℕ, ◌+◌, ◌*◌, Bool, true, false, List, [], ◌∷◌, min}
+use Rattle.std.specs.Prelude.{ℕ, ◌+◌, ◌*◌, Bool, true, false, List, [], ◌∷◌}
+use Rattle.mz_logic.specs.Capped.{capped}
 use Rattle.mz_logic.specs.Formula.{Formula, Truth, Eq, Atom, Not, And, All}
 use Rattle.mz_nf.specs.declared.problem.Problem.{Problem}
 use Rattle.mz_nf.specs.Problem.{parts_of}
@@ -24,10 +25,6 @@ abbrev pub count_all : List Formula → ℕ
 count_all [] = 1
 count_all (f ∷ fs) = count true f * count_all fs
 
--- a number, held at 1,000,000,000
-unfoldable pub held : ℕ → ℕ
-held n = min n 1000000000
-
--- the count of a problem
+-- the count of a problem, or 1,000,000,000 where it is greater
 abbrev pub count_of : Problem → ℕ
-count_of p = held (count_all (parts_of p))
+count_of p = capped (count_all (parts_of p))

@@ -10,7 +10,8 @@ use Rattle.mz_nf.specs.declared.problem.Problem.{Problem}
 use Rattle.mz_nf.specs.Problem.{has_constant}
 use Rattle.mz_nf.specs.Disjunct.{formulas_of}
 use Rattle.mz_nf.specs.Splits.{AreDisjuncts}
-use Rattle.mz_nf.specs.Count.{held, count_of}
+use Rattle.mz_logic.specs.Capped.{capped}
+use Rattle.mz_nf.specs.Count.{count_of}
 
 -- each problem has one list of disjuncts, and no other
 abbrev pub OneListLaw : Type 0
@@ -18,9 +19,9 @@ OneListLaw =
     (p : Problem) →
     (ds : List Disjunct) × AreDisjuncts p ds × ((es : List Disjunct) → AreDisjuncts p es → es ≡ ds)
 
--- the count of a problem is the length of its list, held at 1,000,000,000
+-- the count of a problem is the length of its list, or 1,000,000,000 where that is greater
 abbrev pub CountLaw : Type 0
-CountLaw = (p : Problem) (ds : List Disjunct) → AreDisjuncts p ds → count_of p ≡ held (length ds)
+CountLaw = (p : Problem) (ds : List Disjunct) → AreDisjuncts p ds → count_of p ≡ capped (length ds)
 
 -- no constant of the formulas is new to the problem
 abbrev pub HasConstantsOf : Problem → List Formula → Type 0

@@ -1,4 +1,4 @@
-// The constants of a problem, and new ones.
+//! The constants of a problem, and new ones.
 ghost use Rattle.std.specs.Prelude.{◌≡◌, ◌+◌, ℕ, IfOk, OnOk};
 ghost use Rattle.mz_nf.specs.Problem.{has_constant};
 ghost use Rattle.mz_nf.specs.Constants.{has, AddsTerm, AddsTerms, AddsFormula, AddsFormulas, IsLeastUnused};

@@ -1,38 +1,37 @@
-// How many disjuncts a problem has.
-ghost use Rattle.std.specs.Prelude.{◌≡◌, ◌↔◌, ◌+◌, ◌*◌, true, IsTrue};
-ghost use Rattle.mz_nf.specs.Count.{count, count_all, held, count_of};
+//! How many disjuncts a problem has.
+ghost use Rattle.std.specs.Prelude.{◌≡◌, ◌↔◌, ◌*◌, true, IsTrue};
+ghost use Rattle.mz_logic.specs.Capped.{capped};
+ghost use Rattle.mz_nf.specs.Count.{count, count_all, count_of};
 
 use crate::problem::Problem;
+use mz_logic::capped::{capped_product, capped_sum};
 use mz_logic::formula::{Formula, FormulaNode};
 use mz_logic::formulas::Formulas;
 
-/// The number at which a count is held.
-const MOST: u64 = 1_000_000_000;
-
-/// How many disjuncts a problem has, equal ones included, held at 1,000,000,000.
+/// How many disjuncts a problem has, equal ones included, or 1,000,000,000 where they are more.
 #[tactic(auto, using(crate::proofs::CountLemmas::problem_rules))]
 pub fn count_of(p: &Problem) -> u64
     ensures { result ≡ count_of p.now }
 {
-    product(count_all(&p.premises), count(false, &p.conclusion))
+    capped_product(count_all(&p.premises), count(false, &p.conclusion))
 }
 
-/// How many disjuncts the formulas have as one conjunction, held at 1,000,000,000.
+/// How many disjuncts the formulas have as one conjunction, or 1,000,000,000 where they are more.
 #[tactic(auto, using(crate::proofs::CountLemmas::list_rules))]
 fn count_all(fs: &Formulas) -> u64
-    ensures { result ≡ held (count_all fs.now) }
+    ensures { result ≡ capped (count_all fs.now) }
 {
     let mut total = 1;
     for f in &fs.items {
-        total = product(total, count(true, f));
+        total = capped_product(total, count(true, f));
     }
     total
 }
 
-/// How many disjuncts the formula has, or where `positive` is false its negation, held at 1,000,000,000.
+/// How many disjuncts the formula has, or where `positive` is false its negation, or 1,000,000,000 where they are more.
 #[tactic(auto, using(crate::proofs::CountLemmas::count_rules))]
 pub fn count(positive: bool, f: &Formula) -> u64
-    ensures { result ≡ held (count positive f.now) }
+    ensures { result ≡ capped (count positive f.now) }
 {
     match &f.node {
         FormulaNode::Truth => { if positive { 1 } else { 0 } }
@@ -47,9 +46,9 @@ pub fn count(positive: bool, f: &Formula) -> u64
         }
         FormulaNode::And(g, h) => {
             if positive {
-                product(count(true, g), count(true, h))
+                capped_product(count(true, g), count(true, h))
             } else {
-                sum(count(false, g), count(false, h))
+                capped_sum(count(false, g), count(false, h))
             }
         }
         FormulaNode::All(b) => { if positive { 1 } else { count(false, b) } }
@@ -61,21 +60,5 @@ pub fn count(positive: bool, f: &Formula) -> u64
 pub fn has_no_pair(g: &Formula, h: &Formula) -> bool
     ensures { IsTrue result ↔ (count true g.now * count true h.now ≡ 0) }
 {
-    product(count(true, g), count(true, h)) == 0
-}
-
-/// The sum of two counts, held at 1,000,000,000.
-#[tactic(auto, unfolding(crate::specs::Count::held))]
-fn sum(m: u64, n: u64) -> u64
-    ensures { result ≡ held (m + n) }
-{
-    m.saturating_add(n).min(MOST)
-}
-
-/// The product of two counts, held at 1,000,000,000.
-#[tactic(auto, unfolding(crate::specs::Count::held))]
-fn product(m: u64, n: u64) -> u64
-    ensures { result ≡ held (m * n) }
-{
-    m.saturating_mul(n).min(MOST)
+    capped_product(count(true, g), count(true, h)) == 0
 }

@@ -1,4 +1,4 @@
-// The disjuncts of a problem, or that they are too many.
+//! The disjuncts of a problem, or that they are too many.
 ghost use Rattle.std.specs.Prelude.{◌≡◌, ◌≤◌, length, IfOk, IfErr};
 ghost use Rattle.mz_nf.specs.Splits.{AreDisjuncts};
 ghost use Rattle.mz_nf.specs.Count.{count_of};

@@ -1,4 +1,4 @@
-// The disjuncts of a problem.
+//! The disjuncts of a problem.
 #![tactic(auto)]
 
 pub mod constants;

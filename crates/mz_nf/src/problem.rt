@@ -1,4 +1,4 @@
-// Problems.
+//! Problems.
 use mz_logic::formula::Formula;
 use mz_logic::formulas::Formulas;
 

@@ -1,4 +1,4 @@
-// Disjuncts of two parts.
+//! Disjuncts of two parts.
 ghost use Rattle.std.specs.Prelude.{◌≡◌, ◌++◌, map, IfOk, OnOk, if◌then◌else◌};
 ghost use Rattle.mz_nf.specs.Disjunct.{joined, pairs};
 

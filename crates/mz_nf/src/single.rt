@@ -1,4 +1,4 @@
-// The disjuncts of truth, of a literal and of a universal.
+//! The disjuncts of truth, of a literal and of a universal.
 ghost use Rattle.std.specs.Prelude.{◌≡◌, [], ◌∷◌, IfOk, if◌then◌else◌};
 ghost use Rattle.mz_logic.specs.declared.literal.Literal.TheVariants.{Eq, Atom};
 ghost use Rattle.mz_nf.specs.Disjunct.{empty, of_literal, of_universal};

@@ -1,4 +1,4 @@
-// The splitting of a formula and of a problem.
+//! The splitting of a formula and of a problem.
 ghost use Rattle.std.specs.Prelude.{◌≡◌, ℕ, IfOk};
 ghost use Rattle.mz_logic.specs.Term.{Const};
 ghost use Rattle.mz_logic.specs.Formula.{And};

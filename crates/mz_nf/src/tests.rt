@@ -1,4 +1,4 @@
-// Small problems with their disjuncts, worked out by hand.
+//! Small problems with their disjuncts, worked out by hand.
 use crate::disjuncts::disjuncts;
 use crate::nf_fault::NfFault;
 use crate::problem::Problem;
