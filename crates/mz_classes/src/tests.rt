@@ -72,13 +72,22 @@ fn term(rt: &impl Abort, alloc: Global, t: T) -> Term {
     out
 }
 
+// The sides of an equation.
+fn sides(ts: &[T]) -> (T, T) {
+    match ts {
+        [left, right] => (*left, *right),
+        _ => (C0, C0),
+    }
+}
+
 fn literal(rt: &impl Abort, alloc: Global, l: L) -> Literal {
     let (positive, letter, ts) = l;
     if letter == b'=' {
+        let (left, right) = sides(ts);
         return Literal::Eq {
             positive,
-            left: term(rt, alloc, ts[0]),
-            right: term(rt, alloc, ts[1]),
+            left: term(rt, alloc, left),
+            right: term(rt, alloc, right),
         };
     }
     let mut args = Terms::new(alloc);

@@ -13,4 +13,5 @@ pub mod PairLemmas
 pub mod ValueLemmas
 pub mod MatchingLemmas
 pub mod RuleLemmas
+pub mod PlaceLemmas
 pub mod GraphLemmas

@@ -59,7 +59,7 @@ push_split xs y r c =
           inr (sym (one_get y r q.0 (sym (get_right xs (y ∷ []) p.0 q.0 q.1) ∙ p.2)))
     ]
 
-adds_none : (P : Rule → Type 0) (xs : List Rule) → ((r : Rule) → P r → ⊥) → Adds P xs xs
+pub adds_none : (P : Rule → Type 0) (xs : List Rule) → ((r : Rule) → P r → ⊥) → Adds P xs xs
 adds_none P xs n = record { kept = λ r c. c; added = λ r p. absurd (n r p); only = λ r c. inl c }
 
 adds_one : (P : Rule → Type 0) (xs : List Rule) (y : Rule) → P y → ((r : Rule) → P r → r ≡ y) → Adds P xs (xs ++ y ∷ [])
@@ -70,7 +70,7 @@ adds_one P xs y h u =
       only = λ r c. elim (push_split xs y r c) [ inl a ↦ inl a | inr e ↦ inr (subst P (sym e) h) ];
     }
 
-adds_iff : (P Q : Rule → Type 0) (xs ys : List Rule) → ((r : Rule) → P r → Q r) → ((r : Rule) → Q r → P r) → Adds P xs ys → Adds Q xs ys
+pub adds_iff : (P Q : Rule → Type 0) (xs ys : List Rule) → ((r : Rule) → P r → Q r) → ((r : Rule) → Q r → P r) → Adds P xs ys → Adds Q xs ys
 adds_iff P Q xs ys to from a =
     record {
       kept = a.kept;

@@ -6,12 +6,15 @@ use Rattle.mz_logic.specs.declared.disjunct.Disjunct.{Disjunct}
 use Rattle.mz_ground.specs.Piece.{Piece, TermPiece}
 use Rattle.mz_ground.specs.Ground.{term_at, ground_terms, atom_piece, IsGround}
 use Rattle.mz_ground.specs.Instance.{literal_filled, trigger_filled, premises_at, conclusion_at}
+use Rattle.mz_ground.specs.Heads.{AreTriggerPlaces}
+use Rattle.mz_ground.specs.Making.{no_layer, whole_end}
 use Rattle.mz_ground.specs.declared.clause.Clause.{Clause}
 use Rattle.mz_ground.specs.declared.trigger.Trigger.{Trigger}
 use Rattle.mz_ground.specs.declared.trigger.Trigger.TheVariants as trigger
 use Rattle.mz_ground.specs.declared.ground.Ground.{Ground}
 use Rattle.mz_ground.specs.declared.ground_atom.GroundAtom.{GroundAtom}
 use Rattle.mz_ground.specs.declared.ground_equation.GroundEquation.{GroundEquation}
+use Rattle.mz_ground.specs.declared.trigger_places.TriggerPlaces.{TriggerPlaces}
 use Rattle.mz_congruence.specs.declared.pair.Pair.{Pair}
 use Rattle.mz_congruence.specs.declared.rule.Rule.{Rule}
 use Rattle.mz_congruence.specs.Nodes.{disequal_place}
@@ -49,6 +52,16 @@ pub record Adds (P : Rule → Type 0) (old new : List Rule) : Type 0 where
 -- the rule meets Q at some number below n
 abbrev pub Below : (ℕ → Rule → Type 0) → ℕ → Rule → Type 0
 Below Q n r = (k : ℕ) × (k < n) × Q k r
+
+-- the rule meets Q at one of the numbers
+abbrev pub Among : (ℕ → Rule → Type 0) → List ℕ → Rule → Type 0
+Among Q ks r = (k : ℕ) × Contains ks k × Q k r
+
+-- the places are those of all terms and atoms of the ground part, by their heads
+pub record AreWholePlaces (g : Ground) (x : TriggerPlaces) : Type 0 where
+  pub places : AreTriggerPlaces g x
+  pub start : x.start ≡ no_layer
+  pub end : x.end ≡ whole_end g
 
 -- the rule by which the literal k holds
 abbrev pub IsLiteralRule : Ground → List Literal → ℕ → Rule → Type 0

@@ -5,7 +5,7 @@ ghost use Rattle.mz_ground.specs.declared.ground_equation.GroundEquation.{Ground
 ghost use Rattle.mz_congruence.specs.declared.rule.Rule.{Rule};
 ghost use Rattle.mz_congruence.specs.Codes.{IsRule};
 ghost use Rattle.mz_congruence.specs.Layout.{IsLayout};
-ghost use Rattle.mz_congruence.specs.Pairing.{AddsRules, AddsInstance, Below, IsLiteralRule, IsExchangeRule, IsPlaceRule, IsClauseRule, places_for};
+ghost use Rattle.mz_congruence.specs.Pairing.{AddsRules, AddsInstance, AreWholePlaces, Among, Below, IsLiteralRule, IsExchangeRule, IsPlaceRule, IsClauseRule, places_for};
 
 use crate::layout::Layout;
 use crate::matching::matched;
@@ -18,7 +18,8 @@ use mz_ground::clause::Clause;
 use mz_ground::clauses::Clauses;
 use mz_ground::ground::Ground;
 use mz_ground::ground_equation::GroundEquation;
-use mz_ground::trigger::Trigger;
+use mz_ground::layer_end::LayerEnd;
+use mz_ground::trigger_places::TriggerPlaces;
 use mz_logic::disjunct::Disjunct;
 use mz_logic::literals::Literals;
 use std::alloc::{AllocError, Global};
@@ -166,29 +167,40 @@ fn push_place(
     }
 }
 
-fn places_for(g: &Ground, trigger: &Trigger) -> usize
-    ensures { result ≡ places_for g.now trigger.now }
-{
-    match trigger {
-        Trigger::Term(_) => g.terms.len(),
-        Trigger::Atom(_, _) => g.atoms.len(),
-    }
-}
-
-#[tactic(auto, using(crate::proofs::RuleLemmas::adds_rules))]
-fn push_clause(
+#[tactic(auto, using(crate::proofs::PlaceLemmas::places_rules))]
+fn push_places(
     alloc: Global,
     g: &Ground,
     layout: Layout,
     c: &Clause,
+    places: &[usize],
     rules: &mut Rules,
 ) -> Result<(), AllocError>
-    requires { IsLayout g.now layout }
+    requires layout { IsLayout g.now layout }
+    requires within { (k : ℕ) → Contains places.now k → k < places_for g.now c.now.trigger }
+    ensures { OnOk result (AddsRules g.now (Among (IsPlaceRule g.now c.now) places.now) rules.old rules.new) }
+{
+    for k in places {
+        push_place(alloc, g, layout, c, *k, rules)?;
+    }
+    Ok(())
+}
+
+// The rules of a clause: its trigger is sought where its head stands.
+#[tactic(auto, using(crate::proofs::PlaceLemmas::clause_rules))]
+fn push_clause(
+    alloc: Global,
+    g: &Ground,
+    layout: Layout,
+    places: &TriggerPlaces,
+    c: &Clause,
+    rules: &mut Rules,
+) -> Result<(), AllocError>
+    requires layout { IsLayout g.now layout }
+    requires places { AreWholePlaces g.now places.now }
     ensures { OnOk result (AddsRules g.now (Below (IsPlaceRule g.now c.now) (places_for g.now c.now.trigger)) rules.old rules.new) }
 {
-    for k in 0..places_for(g, &c.trigger) {
-        push_place(alloc, g, layout, c, k, rules)?;
-    }
+    push_places(alloc, g, layout, c, places.candidates(&c.trigger), rules)?;
     Ok(())
 }
 
@@ -197,15 +209,30 @@ fn push_clause_at(
     alloc: Global,
     g: &Ground,
     layout: Layout,
+    places: &TriggerPlaces,
     clauses: &Clauses,
     k: usize,
     rules: &mut Rules,
 ) -> Result<(), AllocError>
     requires layout { IsLayout g.now layout }
+    requires places { AreWholePlaces g.now places.now }
     requires number { k < length clauses.now }
     ensures { OnOk result (AddsRules g.now (IsClauseRule g.now clauses.now k) rules.old rules.new) }
 {
-    push_clause(alloc, g, layout, clauses.get(k), rules)
+    push_clause(alloc, g, layout, places, clauses.get(k), rules)
+}
+
+#[tactic(auto, using(crate::proofs::PlaceLemmas::whole_rules))]
+fn whole_places(alloc: Global, g: &Ground) -> Result<TriggerPlaces, AllocError>
+    ensures { IfOk result (AreWholePlaces g.now) }
+{
+    let start = LayerEnd {
+        terms: 0,
+        atoms: 0,
+        equations: 0,
+    };
+    let places = TriggerPlaces::of(alloc, g, start, g.end())?;
+    Ok(places)
 }
 
 #[tactic(auto, using(crate::proofs::RuleLemmas::adds_rules))]
@@ -216,11 +243,12 @@ fn push_clauses(
     clauses: &Clauses,
     rules: &mut Rules,
 ) -> Result<(), AllocError>
-    requires { IsLayout g.now layout }
+    requires layout { IsLayout g.now layout }
     ensures { OnOk result (AddsRules g.now (Below (IsClauseRule g.now clauses.now) (length clauses.now)) rules.old rules.new) }
 {
+    let places = whole_places(alloc, g)?;
     for k in 0..clauses.len() {
-        push_clause_at(alloc, g, layout, clauses, k, rules)?;
+        push_clause_at(alloc, g, layout, &places, clauses, k, rules)?;
     }
     Ok(())
 }

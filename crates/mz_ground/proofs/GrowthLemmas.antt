@@ -7,10 +7,10 @@ use Rattle.std.proofs.lemmas.List.Elements.{Contains-append_left, Contains-push,
 use Rattle.std.proofs.lemmas.List.Quantifiers.{all_pairs_push}
 use Rattle.mz_logic.specs.declared.sym.Sym.{Sym}
 use Rattle.mz_logic.specs.Term.{Term}
-use Rattle.mz_ground.specs.Piece.{Piece, TermPiece, AtomPiece, EquationPiece}
-use Rattle.mz_ground.specs.Ground.{term_at, ground_terms, ground_atoms, ground_equations, atom_piece, equation_piece, IsDistinct, most_terms}
+use Rattle.mz_ground.specs.Piece.{Piece, TermPiece, AtomPiece, EquationPiece, IsAtomPiece}
+use Rattle.mz_ground.specs.Ground.{term_at, ground_terms, ground_atoms, ground_equations, atom_piece, equation_piece, IsDistinct, most_terms, most_atoms}
 use Rattle.mz_ground.specs.Table.{Extends, IsPlaced, entry_terms, IsTable, Reads, IsPart, AddedTerms}
-use Rattle.mz_ground.specs.Growth.{IsMember, IsNumbered, ReadsIn, Grows}
+use Rattle.mz_ground.specs.Growth.{IsMember, IsStored, IsNumbered, ReadsIn, Grows}
 use Rattle.mz_ground.specs.declared.ground.Ground.{Ground}
 use Rattle.mz_ground.specs.declared.ground_term.GroundTerm.{GroundTerm}
 use Rattle.mz_ground.specs.declared.ground_atom.GroundAtom.{GroundAtom}
@@ -70,6 +70,13 @@ member_grown g h n a b c (TermPiece t) w = contains_grown g.terms h.terms a t w
 member_grown g h n a b c (AtomPiece s ts) w = contains_extended (ground_atoms g) (ground_atoms h) (AtomPiece s ts) (atoms_extend g h n a b) w
 member_grown g h n a b c (EquationPiece t u) w = contains_extended (ground_equations g) (ground_equations h) (EquationPiece t u) (equations_extend g h n a c) w
 
+pub stored_grown : (g h : Ground) → IsNumbered g → Extends g.terms h.terms → Extends g.atoms h.atoms → Extends g.equations h.equations → (p : Piece) → IsStored g p → IsStored h p
+stored_grown g h n a b c p s =
+    elim s [
+      | inl w ↦ inl (member_grown g h n a b c p w)
+      | inr q ↦ inr (q.0, extends-length g.atoms h.atoms most_atoms b q.1)
+    ]
+
 -- nothing, one thing after another, and the same in other words
 pub grows_nothing : (g : Ground) (Q : Piece → Type 0) → IsNumbered g → ((p : Piece) → Q p → ⊥) → Grows g Q g
 grows_nothing g Q n h =
@@ -85,7 +92,7 @@ grows_both g h k Q R a b =
       equations = extends_further g.equations h.equations k.equations a.equations b.equations;
       ends = b.ends ∙ a.ends;
       sound = λ p w. elim (b.sound p w) [ inl v ↦ elim (a.sound p v) [ inl u ↦ inl u | inr q ↦ inr (inl q) ] | inr r ↦ inr (inr r) ];
-      complete = λ le p q. elim q [ inl s ↦ member_grown h k a.numbered b.terms b.atoms b.equations p (a.complete (fits le) p s) | inr r ↦ b.complete le p r ];
+      complete = λ le p q. elim q [ inl s ↦ stored_grown h k a.numbered b.terms b.atoms b.equations p (a.complete (fits le) p s) | inr r ↦ b.complete le p r ];
     }
 
 pub grows_as : (g h : Ground) (Q R : Piece → Type 0) → Grows g Q h → ((p : Piece) → Q p → R p) → ((p : Piece) → R p → Q p) → Grows g R h
@@ -154,7 +161,7 @@ grows_terms g h us n a ea ee en =
       equations = as_extends g.equations h.equations ee;
       ends = en;
       sound = terms_sound g h us a same_a same_e;
-      complete = λ le. terms_complete g h us a;
+      complete = λ le p q. inl (terms_complete g h us a p q);
     }
 
 -- an item placed in a list of pieces
@@ -236,8 +243,13 @@ grows_atom g h a k n within p et ee en =
       equations = as_extends g.equations h.equations ee;
       ends = en;
       sound = atom_sound g h a ts equations' q atoms';
-      complete = λ le r e. subst (λ (z : Piece). IsMember h z) e (contained_as (atom_piece (ground_terms g) a) (map (atom_piece (ground_terms g)) h.atoms) (ground_atoms h) (inverse atoms') q.complete);
+      complete = λ le r e. inl (subst (λ (z : Piece). IsMember h z) e (contained_as (atom_piece (ground_terms g) a) (map (atom_piece (ground_terms g)) h.atoms) (ground_atoms h) (inverse atoms') q.complete));
     }
+
+-- past the limit of atoms no atom is owed
+pub grows_past : (g : Ground) (Q : Piece → Type 0) → IsNumbered g → most_atoms < length g.atoms → ((p : Piece) → Q p → IsAtomPiece p) → Grows g Q g
+grows_past g Q n lt h =
+    record { numbered = n; terms = extends_itself g.terms; atoms = extends_itself g.atoms; equations = extends_itself g.equations; ends = refl; sound = λ p w. inl w; complete = λ le p q. inr (h p q, lt) }
 
 -- an equation
 one_equation : (g : Ground) → IsNumbered g → (a : GroundEquation) → (a.left < length g.terms) × (a.right < length g.terms) → (b : GroundEquation) → Contains g.equations b → equation_piece (ground_terms g) b ≡ equation_piece (ground_terms g) a → b ≡ a
@@ -278,7 +290,7 @@ grows_equation g h e k n within p et ea en =
       equations = q.grown;
       ends = en;
       sound = equation_sound g h e ts atoms' q equations';
-      complete = λ le r s. subst (λ (z : Piece). IsMember h z) s (contained_as (equation_piece (ground_terms g) e) (map (equation_piece (ground_terms g)) h.equations) (ground_equations h) (inverse equations') q.complete);
+      complete = λ le r s. inl (subst (λ (z : Piece). IsMember h z) s (contained_as (equation_piece (ground_terms g) e) (map (equation_piece (ground_terms g)) h.equations) (ground_equations h) (inverse equations') q.complete));
     }
 
 pub reads_in_grown : (g h : Ground) (Q : Piece → Type 0) (places : List ℕ) (ts : List Term) → ReadsIn g places ts → Grows g Q h → ReadsIn h places ts

@@ -2,7 +2,7 @@
 use Rattle.std.proofs.Common.{◌≡◌, ◌<◌, ◌≤◌, ◌+◌, ℕ, zero, suc, List, [], ◌∷◌, ◌++◌, length, map, take, get_or, refl, sym as inverse, ap, ◌∙◌, subst, arith, ◌⊎◌, inl, inr, Option, Some, None}
 use Rattle.std.specs.Prelude.{Contains, slice_get}
 use Rattle.std.proofs.lemmas.List.{take_all, take-append-le, length-take-le, take-map, take_more, get_or-take, length-append, length-map}
-use Rattle.std.proofs.lemmas.List.Elements.{Contains-append_left, Contains-append_right, Contains-push_cases}
+use Rattle.std.proofs.lemmas.List.Elements.{Contains-append_left, Contains-append_right, Contains-push, Contains-push_cases, Contains-get_or}
 use Rattle.std.proofs.lemmas.Option.{slice_get-get_or, none-some, same_Some}
 use Rattle.std.proofs.lemmas.Bool.{cases_lt}
 use Rattle.mz_logic.specs.declared.sym.Sym.{Sym}
@@ -15,19 +15,22 @@ use Rattle.mz_ground.specs.Ground.{term_at, term_or_zero, ground_terms, ground_a
 use Rattle.mz_ground.specs.Layers.{most_nodes}
 use Rattle.mz_ground.specs.Table.{Extends, entry_terms}
 use Rattle.mz_ground.specs.Growth.{IsMember, IsNumbered, ReadsIn, Grows, IsPieceOf, IsPieceOfLiterals}
-use Rattle.mz_ground.specs.Instances.{piece_or_zero, piece_at, IsPiecePlace, IsMatchAt, IsMatch, IsInstancePiece, IsAddedBy, IsBefore, IsEndIn, IsPieceAt, IsTermBelow, IsAtomBelow}
+use Rattle.mz_ground.specs.Instances.{piece_or_zero, piece_at, place_like, IsPiecePlace, IsMatchAt, IsMatch, IsInstancePiece, IsAddedBy, IsBefore, IsEndIn, IsPieceAt, IsAmong, IsBetween, IsNew}
+use Rattle.mz_ground.specs.Heads.{AreTriggerPlaces, candidates}
 use Rattle.mz_ground.specs.declared.clause.Clause.{Clause}
 use Rattle.mz_ground.specs.declared.trigger.Trigger.{Trigger}
 use Rattle.mz_ground.specs.declared.trigger.Trigger.TheVariants as trigger
 use Rattle.mz_ground.specs.declared.ground.Ground.{Ground}
 use Rattle.mz_ground.specs.declared.ground_atom.GroundAtom.{GroundAtom}
 use Rattle.mz_ground.specs.declared.layer_end.LayerEnd.{LayerEnd}
+use Rattle.mz_ground.specs.declared.trigger_places.TriggerPlaces.{TriggerPlaces}
 use Rattle.mz_ground.specs.declared.piece_place.PiecePlace.{PiecePlace}
 use Rattle.mz_ground.specs.declared.piece_place.PiecePlace.TheVariants as place
-use Rattle.mz_ground.proofs.ListLemmas.{contains_none, contains_first, contains_later, contains_cases}
+use Rattle.mz_ground.proofs.ListLemmas.{contains_none, contains_first, contains_later, contains_cases, contains_get, extends-length, get_extended, get_some, get_map}
 use Rattle.mz_ground.proofs.TableLemmas.{entry_terms-length, term_at_grown, get-term_at}
 use Rattle.mz_ground.proofs.GrowthLemmas.{grows_nothing, grows_both, grows_as, terms_grown, atoms_extend, equations_extend, reads_in_grown}
 use Rattle.mz_ground.proofs.PieceLemmas.{literals_more}
+use Rattle.mz_ground.proofs.HeadLemmas.{candidates_only, candidates_listed, trigger_places_kept}
 
 -- an instance
 pub told_instance : (g h k : Ground) (args : List ℕ) (c : Clause) → ((ts : List Term) → ReadsIn g args ts → Grows g (IsPieceOfLiterals (map (literal_filled ts) c.premises)) h) → ((ts : List Term) → ReadsIn h args ts → Grows h (IsPieceOf (literal_formula (literal_filled ts c.conclusion))) k) → (ts : List Term) → ReadsIn g args ts → Grows g (IsPieceOfLiterals (premises_at c ts ++ conclusion_at c ts ∷ [])) k
@@ -72,107 +75,8 @@ too_large_as_read g c at r places xs q e n m small = told_too_large g c at place
 
 pub ruleset match_rules = (told_added, told_too_large, told_unmatched, matched_places)
 
--- pieces of a ground part stay at their places
-pub term_kept : (g h : Ground) → Extends g.terms h.terms → (k : ℕ) → k < length g.terms → piece_at h (place.Term k) ≡ piece_at g (place.Term k)
-term_kept g h p k lt = ap TermPiece (term_at_grown g.terms h.terms p k lt)
-
-pub get_left : {A : Type 0} (xs ys : List A) (k : ℕ) → k < length xs → slice_get (xs ++ ys) k ≡ slice_get xs k
-get_left [] ys k lt = absurd (omega arith)
-get_left (x ∷ xs) ys zero lt = refl
-get_left (x ∷ xs) ys (suc k) lt = get_left xs ys k (omega arith)
-
-get_extended : {A : Type 0} (xs ys : List A) (k : ℕ) → Extends xs ys → k < length xs → slice_get ys k ≡ slice_get xs k
-get_extended xs ys k p lt = ap (λ z. slice_get z k) p.1 ∙ get_left xs p.0 k lt
-
-pub atom_kept : (g h : Ground) → IsNumbered g → Extends g.terms h.terms → Extends g.atoms h.atoms → (k : ℕ) → k < length g.atoms → piece_at h (place.Atom k) ≡ piece_at g (place.Atom k)
-atom_kept g h n p q k lt = ap piece_or_zero (get_extended (ground_atoms g) (ground_atoms h) k (atoms_extend g h n p q) (omega (arith, length-map g.atoms (atom_piece (ground_terms g)))))
-
-pub instance_as : (c : Clause) (P Q : Piece → Type 0) (p : Piece) → ((q : Piece) → P q → Q q) → IsInstancePiece c P p → IsInstancePiece c Q p
-instance_as c P Q p h i = record { terms = i.terms; arity = i.arity; trigger = h (trigger_filled i.terms c.trigger) i.trigger; nodes = i.nodes; piece = i.piece }
-
--- one place after another
-pub terms_none : (g : Ground) (c : Clause) → IsNumbered g → Grows g (IsInstancePiece c (IsTermBelow g 0)) g
-terms_none g c n = grows_nothing g (IsInstancePiece c (IsTermBelow g 0)) n (λ p q. omega (arith, q.trigger.below))
-
-pub atoms_none : (g : Ground) (c : Clause) → IsNumbered g → Grows g (IsInstancePiece c (IsAtomBelow g 0)) g
-atoms_none g c n = grows_nothing g (IsInstancePiece c (IsAtomBelow g 0)) n (λ p q. omega (arith, q.trigger.below))
-
-term_below_cases : (g : Ground) (i : ℕ) (p : Piece) → IsTermBelow g (i + 1) p → IsTermBelow g i p ⊎ IsPieceAt g (place.Term i) p
-term_below_cases g i p q =
-    elim (cases_lt q.place i) [
-      | inl l ↦ inl (record { place = q.place; below = l; is = q.is })
-      | inr l ↦ let e : q.place ≡ i = omega (arith, q.below) in inr (record { is = q.is ∙ ap (λ k. piece_at g (place.Term k)) e })
-    ]
-
-atom_below_cases : (g : Ground) (i : ℕ) (p : Piece) → IsAtomBelow g (i + 1) p → IsAtomBelow g i p ⊎ IsPieceAt g (place.Atom i) p
-atom_below_cases g i p q =
-    elim (cases_lt q.place i) [
-      | inl l ↦ inl (record { place = q.place; below = l; is = q.is })
-      | inr l ↦ let e : q.place ≡ i = omega (arith, q.below) in inr (record { is = q.is ∙ ap (λ k. piece_at g (place.Atom k)) e })
-    ]
-
-pub terms_more : (g h k : Ground) (c : Clause) (i : ℕ) → i < length g.terms → Grows g (IsInstancePiece c (IsTermBelow g i)) h → Grows h (IsInstancePiece c (IsPieceAt h (place.Term i))) k → Grows g (IsInstancePiece c (IsTermBelow g (i + 1))) k
-terms_more g h k c i lt a b =
-    let same : piece_at h (place.Term i) ≡ piece_at g (place.Term i) = term_kept g h a.terms i lt in
-    grows_as g k (λ p. IsInstancePiece c (IsTermBelow g i) p ⊎ IsInstancePiece c (IsPieceAt h (place.Term i)) p) (IsInstancePiece c (IsTermBelow g (i + 1))) (grows_both g h k (IsInstancePiece c (IsTermBelow g i)) (IsInstancePiece c (IsPieceAt h (place.Term i))) a b)
-    (λ p q. elim q [
-      | inl x ↦ instance_as c (IsTermBelow g i) (IsTermBelow g (i + 1)) p (λ r s. record { place = s.place; below = let l : s.place < i = s.below in omega arith; is = s.is }) x
-      | inr y ↦ instance_as c (IsPieceAt h (place.Term i)) (IsTermBelow g (i + 1)) p (λ r s. record { place = i; below = omega arith; is = s.is ∙ same }) y
-    ])
-    (λ p q. elim (term_below_cases g i (trigger_filled q.terms c.trigger) q.trigger) [
-      | inl x ↦ inl (record { terms = q.terms; arity = q.arity; trigger = x; nodes = q.nodes; piece = q.piece })
-      | inr y ↦ inr (record { terms = q.terms; arity = q.arity; trigger = record { is = y.is ∙ inverse same }; nodes = q.nodes; piece = q.piece })
-    ])
-
-pub atoms_more : (g h k : Ground) (c : Clause) (i : ℕ) → IsNumbered g → i < length g.atoms → Grows g (IsInstancePiece c (IsAtomBelow g i)) h → Grows h (IsInstancePiece c (IsPieceAt h (place.Atom i))) k → Grows g (IsInstancePiece c (IsAtomBelow g (i + 1))) k
-atoms_more g h k c i n lt a b =
-    let same : piece_at h (place.Atom i) ≡ piece_at g (place.Atom i) = atom_kept g h n a.terms a.atoms i lt in
-    grows_as g k (λ p. IsInstancePiece c (IsAtomBelow g i) p ⊎ IsInstancePiece c (IsPieceAt h (place.Atom i)) p) (IsInstancePiece c (IsAtomBelow g (i + 1))) (grows_both g h k (IsInstancePiece c (IsAtomBelow g i)) (IsInstancePiece c (IsPieceAt h (place.Atom i))) a b)
-    (λ p q. elim q [
-      | inl x ↦ instance_as c (IsAtomBelow g i) (IsAtomBelow g (i + 1)) p (λ r s. record { place = s.place; below = let l : s.place < i = s.below in omega arith; is = s.is }) x
-      | inr y ↦ instance_as c (IsPieceAt h (place.Atom i)) (IsAtomBelow g (i + 1)) p (λ r s. record { place = i; below = omega arith; is = s.is ∙ same }) y
-    ])
-    (λ p q. elim (atom_below_cases g i (trigger_filled q.terms c.trigger) q.trigger) [
-      | inl x ↦ inl (record { terms = q.terms; arity = q.arity; trigger = x; nodes = q.nodes; piece = q.piece })
-      | inr y ↦ inr (record { terms = q.terms; arity = q.arity; trigger = record { is = y.is ∙ inverse same }; nodes = q.nodes; piece = q.piece })
-    ])
-
--- where there are more terms than the limit nothing is owed
-grows_full : (g h : Ground) (Q R : Piece → Type 0) → Grows g Q h → most_terms < length h.terms → ((p : Piece) → Q p → R p) → Grows g R h
-grows_full g h Q R a lt to =
-    record {
-      numbered = a.numbered;
-      terms = a.terms;
-      atoms = a.atoms;
-      equations = a.equations;
-      ends = a.ends;
-      sound = λ p w. elim (a.sound p w) [ inl v ↦ inl v | inr q ↦ inr (to p q) ];
-      complete = λ le p r. absurd (omega (arith, lt, le));
-    }
-
-pub terms_full : (g h : Ground) (c : Clause) (i n : ℕ) → i < n → most_terms < length h.terms → Grows g (IsInstancePiece c (IsTermBelow g i)) h → Grows g (IsInstancePiece c (IsTermBelow g n)) h
-terms_full g h c i n lt full a =
-    grows_full g h (IsInstancePiece c (IsTermBelow g i)) (IsInstancePiece c (IsTermBelow g n)) a full
-    (λ p q. instance_as c (IsTermBelow g i) (IsTermBelow g n) p (λ r s. record { place = s.place; below = let l : s.place < i = s.below in omega arith; is = s.is }) q)
-
-pub atoms_full : (g h : Ground) (c : Clause) (i n : ℕ) → i < n → most_terms < length h.terms → Grows g (IsInstancePiece c (IsAtomBelow g i)) h → Grows g (IsInstancePiece c (IsAtomBelow g n)) h
-atoms_full g h c i n lt full a =
-    grows_full g h (IsInstancePiece c (IsAtomBelow g i)) (IsInstancePiece c (IsAtomBelow g n)) a full
-    (λ p q. instance_as c (IsAtomBelow g i) (IsAtomBelow g n) p (λ r s. record { place = s.place; below = let l : s.place < i = s.below in omega arith; is = s.is }) q)
-
-pub term_place : (g h : Ground) (Q : Piece → Type 0) (i n : ℕ) → i < n → n ≤ length g.terms → Grows g Q h → IsPiecePlace h (place.Term i)
-term_place g h Q i n lt le a = omega (arith, ap length a.terms.1, length-append g.terms a.terms.0)
-
-pub atom_place : (g h : Ground) (Q : Piece → Type 0) (i n : ℕ) → i < n → n ≤ length g.atoms → Grows g Q h → IsPiecePlace h (place.Atom i)
-atom_place g h Q i n lt le a = omega (arith, ap length a.atoms.1, length-append g.atoms a.atoms.0)
-
-pub numbered_after : (g h : Ground) (Q : Piece → Type 0) → Grows g Q h → IsNumbered h
-numbered_after g h Q a = a.numbered
-
-pub ruleset places_rules = (terms_none, atoms_none, terms_more, atoms_more, terms_full, atoms_full, term_place, atom_place, numbered_after)
-
--- a place below an end, and a piece before it
-contains_take : {A : Type 0} (xs : List A) (n k : ℕ) (x : A) → k < n → slice_get xs k ≡ Some x → Contains (take n xs) x
+-- the first members of a list
+pub contains_take : {A : Type 0} (xs : List A) (n k : ℕ) (x : A) → k < n → slice_get xs k ≡ Some x → Contains (take n xs) x
 contains_take [] n k x lt e = absurd (none-some x e)
 contains_take (y ∷ ys) zero k x lt e = absurd (omega arith)
 contains_take {A} (y ∷ ys) (suc n) zero x lt e = subst (λ (z : A). Contains (y ∷ take n ys) z) (same_Some y x e) (contains_first y (take n ys))
@@ -187,74 +91,142 @@ take_contains (y ∷ ys) (suc n) x w =
       | inr v ↦ let r = take_contains ys n x v in (suc r.0, omega (arith, r.1), r.2)
     ]
 
-trigger_term_before : (g : Ground) (e : LayerEnd) (t : Term) → IsEndIn g e → IsTermBelow g e.terms (TermPiece t) → Contains (take e.terms (ground_terms g)) t
-trigger_term_before g e t h q =
-    let lt : q.place < length (ground_terms g) = omega (arith, q.below, h.terms, entry_terms-length g.terms) in
-    let same : t ≡ term_at (ground_terms g) q.place = let s : TermPiece t ≡ TermPiece (term_at (ground_terms g) q.place) = q.is in cc in
-    contains_take (ground_terms g) e.terms q.place t q.below (get-term_at (ground_terms g) q.place lt ∙ ap Some (inverse same))
+-- pieces of a ground part stay at their places
+pub term_kept : (g h : Ground) → Extends g.terms h.terms → (k : ℕ) → k < length g.terms → piece_at h (place.Term k) ≡ piece_at g (place.Term k)
+term_kept g h p k lt = ap TermPiece (term_at_grown g.terms h.terms p k lt)
 
-trigger_term_below : (g : Ground) (e : LayerEnd) (t : Term) → Contains (take e.terms (ground_terms g)) t → IsTermBelow g e.terms (TermPiece t)
-trigger_term_below g e t w =
-    let r = take_contains (ground_terms g) e.terms t w in
-    record { place = r.0; below = r.1; is = ap TermPiece (inverse (ap term_or_zero r.2)) }
+pub atom_kept : (g h : Ground) → IsNumbered g → Extends g.terms h.terms → Extends g.atoms h.atoms → (k : ℕ) → k < length g.atoms → piece_at h (place.Atom k) ≡ piece_at g (place.Atom k)
+atom_kept g h n p q k lt = ap piece_or_zero (get_extended (ground_atoms g) (ground_atoms h) k (atoms_extend g h n p q) (omega (arith, length-map g.atoms (atom_piece (ground_terms g)))))
 
-trigger_atom_before : (g : Ground) (e : LayerEnd) (s : Sym) (ts : List Term) → IsEndIn g e → IsAtomBelow g e.atoms (AtomPiece s ts) → Contains (take e.atoms (ground_atoms g)) (AtomPiece s ts)
-trigger_atom_before g e s ts h q =
-    let lt : q.place < length (ground_atoms g) = omega (arith, q.below, h.atoms, length-map g.atoms (atom_piece (ground_terms g))) in
-    let at : slice_get (ground_atoms g) q.place ≡ Some (get_or (ground_atoms g) q.place (AtomPiece s ts)) = slice_get-get_or (ground_atoms g) q.place (AtomPiece s ts) lt in
-    contains_take (ground_atoms g) e.atoms q.place (AtomPiece s ts) q.below (at ∙ ap Some (inverse (q.is ∙ ap piece_or_zero at)))
+pub instance_as : (c : Clause) (P Q : Piece → Type 0) (p : Piece) → ((q : Piece) → P q → Q q) → IsInstancePiece c P p → IsInstancePiece c Q p
+instance_as c P Q p h i = record { terms = i.terms; arity = i.arity; trigger = h (trigger_filled i.terms c.trigger) i.trigger; nodes = i.nodes; piece = i.piece }
 
-trigger_atom_below : (g : Ground) (e : LayerEnd) (s : Sym) (ts : List Term) → Contains (take e.atoms (ground_atoms g)) (AtomPiece s ts) → IsAtomBelow g e.atoms (AtomPiece s ts)
-trigger_atom_below g e s ts w =
-    let r = take_contains (ground_atoms g) e.atoms (AtomPiece s ts) w in
-    record { place = r.0; below = r.1; is = inverse (ap piece_or_zero r.2) }
+-- where there are more terms than the limit nothing is owed
+grows_full : (g h : Ground) (Q R : Piece → Type 0) → Grows g Q h → most_terms < length h.terms → ((p : Piece) → Q p → R p) → Grows g R h
+grows_full g h Q R a lt to =
+    record {
+      numbered = a.numbered;
+      terms = a.terms;
+      atoms = a.atoms;
+      equations = a.equations;
+      ends = a.ends;
+      sound = λ p w. elim (a.sound p w) [ inl v ↦ inl v | inr q ↦ inr (to p q) ];
+      complete = λ le p r. absurd (omega (arith, lt, le));
+    }
 
--- the trigger of an instance, by its form
-pub told_terms : (g h : Ground) (c : Clause) (e : LayerEnd) (t : Term) → c.trigger ≡ trigger.Term t → IsEndIn g e → Grows g (IsInstancePiece c (IsTermBelow g e.terms)) h → Grows g (IsInstancePiece c (IsBefore g e)) h
-told_terms g h c e t q w a =
-    let piece : (ts : List Term) → trigger_filled ts c.trigger ≡ TermPiece (filled ts t) = λ ts. ap (trigger_filled ts) q in
-    grows_as g h (IsInstancePiece c (IsTermBelow g e.terms)) (IsInstancePiece c (IsBefore g e)) a
-    (λ p i. record {
-      terms = i.terms;
-      arity = i.arity;
-      nodes = i.nodes;
-      piece = i.piece;
-      trigger = subst (λ (z : Piece). IsBefore g e z) (inverse (piece i.terms)) (trigger_term_before g e (filled i.terms t) w (subst (λ (z : Piece). IsTermBelow g e.terms z) (piece i.terms) i.trigger));
-    })
-    (λ p i. record {
-      terms = i.terms;
-      arity = i.arity;
-      nodes = i.nodes;
-      piece = i.piece;
-      trigger = subst (λ (z : Piece). IsTermBelow g e.terms z) (inverse (piece i.terms)) (trigger_term_below g e (filled i.terms t) (subst (λ (z : Piece). IsBefore g e z) (piece i.terms) i.trigger));
-    })
+pub numbered_after : (g h : Ground) (Q : Piece → Type 0) → Grows g Q h → IsNumbered h
+numbered_after g h Q a = a.numbered
 
-pub told_atoms : (g h : Ground) (c : Clause) (e : LayerEnd) (s : Sym) (us : List Term) → c.trigger ≡ trigger.Atom s us → IsEndIn g e → Grows g (IsInstancePiece c (IsAtomBelow g e.atoms)) h → Grows g (IsInstancePiece c (IsBefore g e)) h
-told_atoms g h c e s us q w a =
-    let piece : (ts : List Term) → trigger_filled ts c.trigger ≡ AtomPiece s (map (filled ts) us) = λ ts. ap (trigger_filled ts) q in
-    grows_as g h (IsInstancePiece c (IsAtomBelow g e.atoms)) (IsInstancePiece c (IsBefore g e)) a
-    (λ p i. record {
-      terms = i.terms;
-      arity = i.arity;
-      nodes = i.nodes;
-      piece = i.piece;
-      trigger = subst (λ (z : Piece). IsBefore g e z) (inverse (piece i.terms)) (trigger_atom_before g e s (map (filled i.terms) us) w (subst (λ (z : Piece). IsAtomBelow g e.atoms z) (piece i.terms) i.trigger));
-    })
-    (λ p i. record {
-      terms = i.terms;
-      arity = i.arity;
-      nodes = i.nodes;
-      piece = i.piece;
-      trigger = subst (λ (z : Piece). IsAtomBelow g e.atoms z) (inverse (piece i.terms)) (trigger_atom_below g e s (map (filled i.terms) us) (subst (λ (z : Piece). IsBefore g e z) (piece i.terms) i.trigger));
-    })
+pub piece_kept : (g h : Ground) → IsNumbered g → Extends g.terms h.terms → Extends g.atoms h.atoms → (at : PiecePlace) → IsPiecePlace g at → piece_at h at ≡ piece_at g at
+piece_kept g h n p q (place.Term k) lt = term_kept g h p k lt
+piece_kept g h n p q (place.Atom k) lt = atom_kept g h n p q k lt
 
-pub end_terms : (g : Ground) (e : LayerEnd) → IsEndIn g e → e.terms ≤ length g.terms
-end_terms g e h = h.terms
+pub place_kept : (g h : Ground) (Q : Piece → Type 0) → Grows g Q h → (at : PiecePlace) → IsPiecePlace g at → IsPiecePlace h at
+place_kept g h Q a (place.Term k) lt = extends-length g.terms h.terms k a.terms lt
+place_kept g h Q a (place.Atom k) lt = extends-length g.atoms h.atoms k a.atoms lt
 
-pub end_atoms : (g : Ground) (e : LayerEnd) → IsEndIn g e → e.atoms ≤ length g.atoms
-end_atoms g e h = h.atoms
+-- one place after another
+pub among_none : (g : Ground) (c : Clause) → IsNumbered g → Grows g (IsInstancePiece c (IsAmong g c.trigger [])) g
+among_none g c n = grows_nothing g (IsInstancePiece c (IsAmong g c.trigger [])) n (λ p q. contains_none q.trigger.place q.trigger.among)
 
-pub ruleset clause_rules = (told_terms, told_atoms, end_terms, end_atoms)
+among_wider : (g : Ground) (r : Trigger) (ks js : List ℕ) → ((k : ℕ) → Contains ks k → Contains js k) → (p : Piece) → IsAmong g r ks p → IsAmong g r js p
+among_wider g r ks js h p q = record { place = q.place; among = h q.place q.among; is = q.is }
+
+among_cases : (g : Ground) (r : Trigger) (ks : List ℕ) (j : ℕ) (p : Piece) → IsAmong g r (ks ++ j ∷ []) p → IsAmong g r ks p ⊎ (p ≡ piece_at g (place_like r j))
+among_cases g r ks j p q =
+    elim (Contains-push_cases ks j q.place q.among) [
+      | inl w ↦ inl (record { place = q.place; among = w; is = q.is })
+      | inr e ↦ inr (q.is ∙ ap (λ k. piece_at g (place_like r k)) (inverse e))
+    ]
+
+listed_place : (g : Ground) (r : Trigger) (ks : List ℕ) (i j : ℕ) (at : PiecePlace) → i < length ks → j ≡ get_or ks i 0 → at ≡ place_like r j → ((m : ℕ) → Contains ks m → IsPiecePlace g (place_like r m)) → IsPiecePlace g at
+listed_place g r ks i j at lt e here all =
+    subst (λ (z : PiecePlace). IsPiecePlace g z) (inverse here) (subst (λ (m : ℕ). IsPiecePlace g (place_like r m)) (inverse e) (all (get_or ks i 0) (Contains-get_or ks i 0 lt)))
+
+pub place_after : (g h : Ground) (Q : Piece → Type 0) (r : Trigger) (ks : List ℕ) (i : ℕ) (at : PiecePlace) → i < length ks → at ≡ place_like r (get_or ks i 0) → ((m : ℕ) → Contains ks m → IsPiecePlace g (place_like r m)) → Grows g Q h → IsPiecePlace h at
+place_after g h Q r ks i at lt here all a = place_kept g h Q a at (listed_place g r ks i (get_or ks i 0) at lt refl here all)
+
+pub among_more : (g h k : Ground) (c : Clause) (ks : List ℕ) (i j : ℕ) (at : PiecePlace) → IsNumbered g → i < length ks → j ≡ get_or ks i 0 → at ≡ place_like c.trigger j → ((m : ℕ) → Contains ks m → IsPiecePlace g (place_like c.trigger m)) → Grows g (IsInstancePiece c (IsAmong g c.trigger (take i ks))) h → Grows h (IsInstancePiece c (IsPieceAt h at)) k → Grows g (IsInstancePiece c (IsAmong g c.trigger (take (i + 1) ks))) k
+among_more g h k c ks i j at n lt e here all a b =
+    let w : IsPiecePlace g at = listed_place g c.trigger ks i j at lt e here all in
+    let r : Trigger = c.trigger in
+    let js : List ℕ = take i ks in
+    let more : take (i + 1) ks ≡ js ++ j ∷ [] = take_more ks i 0 lt ∙ ap (λ z. js ++ z ∷ []) (inverse e) in
+    let same : piece_at h at ≡ piece_at g at = piece_kept g h n a.terms a.atoms at w in
+    let there : piece_at h at ≡ piece_at g (place_like r j) = same ∙ ap (piece_at g) here in
+    let to : (p : Piece) → IsInstancePiece c (IsAmong g r js) p ⊎ IsInstancePiece c (IsPieceAt h at) p → IsInstancePiece c (IsAmong g r (js ++ j ∷ [])) p = λ p q. elim q [
+      | inl x ↦ instance_as c (IsAmong g r js) (IsAmong g r (js ++ j ∷ [])) p (among_wider g r js (js ++ j ∷ []) (λ m v. Contains-append_left js (j ∷ []) m v)) x
+      | inr y ↦ instance_as c (IsPieceAt h at) (IsAmong g r (js ++ j ∷ [])) p (λ z s. record { place = j; among = Contains-push js j; is = s.is ∙ there }) y
+    ] in
+    let from : (p : Piece) → IsInstancePiece c (IsAmong g r (js ++ j ∷ [])) p → IsInstancePiece c (IsAmong g r js) p ⊎ IsInstancePiece c (IsPieceAt h at) p = λ p q. elim (among_cases g r js j (trigger_filled q.terms r) q.trigger) [
+      | inl x ↦ inl (record { terms = q.terms; arity = q.arity; trigger = x; nodes = q.nodes; piece = q.piece })
+      | inr y ↦ inr (record { terms = q.terms; arity = q.arity; trigger = record { is = y ∙ inverse there }; nodes = q.nodes; piece = q.piece })
+    ] in
+    subst (λ (z : List ℕ). Grows g (IsInstancePiece c (IsAmong g r z)) k) (inverse more)
+    (grows_as g k (λ p. IsInstancePiece c (IsAmong g r js) p ⊎ IsInstancePiece c (IsPieceAt h at) p) (IsInstancePiece c (IsAmong g r (js ++ j ∷ []))) (grows_both g h k (IsInstancePiece c (IsAmong g r js)) (IsInstancePiece c (IsPieceAt h at)) a b) to from)
+
+take_within : {A : Type 0} (xs : List A) (i : ℕ) (x : A) → Contains (take i xs) x → Contains xs x
+take_within xs i x w = let r = take_contains xs i x w in contains_get xs r.0 x r.2
+
+pub among_full : (g h : Ground) (c : Clause) (ks : List ℕ) (i : ℕ) → most_terms < length h.terms → Grows g (IsInstancePiece c (IsAmong g c.trigger (take i ks))) h → Grows g (IsInstancePiece c (IsAmong g c.trigger ks)) h
+among_full g h c ks i full a =
+    grows_full g h (IsInstancePiece c (IsAmong g c.trigger (take i ks))) (IsInstancePiece c (IsAmong g c.trigger ks)) a full
+    (λ p q. instance_as c (IsAmong g c.trigger (take i ks)) (IsAmong g c.trigger ks) p (among_wider g c.trigger (take i ks) ks (λ k w. take_within ks i k w)) q)
+
+pub among_all : (g h : Ground) (c : Clause) (ks : List ℕ) (i : ℕ) → length ks ≤ i → Grows g (IsInstancePiece c (IsAmong g c.trigger (take i ks))) h → Grows g (IsInstancePiece c (IsAmong g c.trigger ks)) h
+among_all g h c ks i le a = subst (λ (z : List ℕ). Grows g (IsInstancePiece c (IsAmong g c.trigger z)) h) (take_all i ks le) a
+
+pub ruleset places_rules = (among_none, among_full, among_all, place_after, numbered_after)
+
+-- what is new, and where a trigger may stand
+pub between_place : (g : Ground) (s e : LayerEnd) → IsEndIn g e → (at : PiecePlace) → IsBetween s e at → IsPiecePlace g at
+between_place g s e w (place.Term k) b = omega (arith, b.1, w.terms)
+between_place g s e w (place.Atom k) b = omega (arith, b.1, w.atoms)
+
+-- the atom at a place
+pub atom_there : (g : Ground) (k : ℕ) → k < length g.atoms → (a : GroundAtom) × (slice_get g.atoms k ≡ Some a) × (piece_at g (place.Atom k) ≡ atom_piece (ground_terms g) a)
+atom_there g k lt =
+    let q = get_some g.atoms k lt in
+    (q.0, q.1, ap piece_or_zero (get_map (atom_piece (ground_terms g)) g.atoms k q.0 q.1))
+
+no_atom : (t : Term) (s : Sym) (ts : List Term) → TermPiece t ≡ AtomPiece s ts → ⊥
+no_atom t s ts e = cc
+
+no_term : (t : Term) (s : Sym) (ts : List Term) → AtomPiece s ts ≡ TermPiece t → ⊥
+no_term t s ts e = cc
+
+among_at : (g : Ground) (x : TriggerPlaces) → IsNumbered g → IsEndIn g x.end → AreTriggerPlaces g x → (ts : List Term) (r : Trigger) (at : PiecePlace) → IsBetween x.start x.end at → trigger_filled ts r ≡ piece_at g at → IsAmong g r (candidates x r) (trigger_filled ts r)
+among_at g x n w h ts (trigger.Term t) (place.Term k) b e = record { place = k; among = candidates_listed g x n w h ts (trigger.Term t) k b e; is = e }
+among_at g x n w h ts (trigger.Term t) (place.Atom k) b e =
+    let q = atom_there g k (between_place g x.start x.end w (place.Atom k) b) in
+    absurd (no_atom (filled ts t) q.0.sym (map (term_at (ground_terms g)) q.0.args) (e ∙ q.2))
+among_at g x n w h ts (trigger.Atom s us) (place.Term k) b e = absurd (no_term (term_at (ground_terms g) k) s (map (filled ts) us) e)
+among_at g x n w h ts (trigger.Atom s us) (place.Atom k) b e = record { place = k; among = candidates_listed g x n w h ts (trigger.Atom s us) k b e; is = e }
+
+pub told_clause : (g h : Ground) (c : Clause) (x : TriggerPlaces) (ks : List ℕ) → ks ≡ candidates x c.trigger → IsNumbered g → IsEndIn g x.end → AreTriggerPlaces g x → Grows g (IsInstancePiece c (IsAmong g c.trigger ks)) h → Grows g (IsInstancePiece c (IsNew g x.start x.end)) h
+told_clause g h c x ks same n w f a =
+    let r : Trigger = c.trigger in
+    let b : Grows g (IsInstancePiece c (IsAmong g r (candidates x r))) h = subst (λ (z : List ℕ). Grows g (IsInstancePiece c (IsAmong g r z)) h) same a in
+    grows_as g h (IsInstancePiece c (IsAmong g r (candidates x r))) (IsInstancePiece c (IsNew g x.start x.end)) b
+    (λ p i. instance_as c (IsAmong g r (candidates x r)) (IsNew g x.start x.end) p (λ q s. record { place = place_like r s.place; between = candidates_only g x f r s.place s.among; is = s.is }) i)
+    (λ p i. record { terms = i.terms; arity = i.arity; nodes = i.nodes; piece = i.piece; trigger = among_at g x n w f i.terms r i.trigger.place i.trigger.between i.trigger.is })
+
+pub candidate_place : (g : Ground) (x : TriggerPlaces) (r : Trigger) (ks : List ℕ) → ks ≡ candidates x r → IsEndIn g x.end → AreTriggerPlaces g x → (k : ℕ) → Contains ks k → IsPiecePlace g (place_like r k)
+candidate_place g x r ks same w f k c = between_place g x.start x.end w (place_like r k) (candidates_only g x f r k (subst (λ (z : List ℕ). Contains z k) same c))
+
+pub some_terms : (g : Ground) (x : TriggerPlaces) → AreTriggerPlaces g x → 0 < length x.terms
+some_terms g x f = f.terms.some
+
+pub some_atoms : (g : Ground) (x : TriggerPlaces) → AreTriggerPlaces g x → 0 < length x.atoms
+some_atoms g x f = f.atoms.some
+
+pub ruleset clause_rules = (told_clause, candidate_place, some_terms, some_atoms)
+
+pub new_kept : (g h : Ground) (s e : LayerEnd) → IsNumbered g → Extends g.terms h.terms → Extends g.atoms h.atoms → IsEndIn g e → (p : Piece) → IsNew g s e p → IsNew h s e p
+new_kept g h s e n a b w p q = record { place = q.place; between = q.between; is = q.is ∙ inverse (piece_kept g h n a b q.place (between_place g s e w q.place q.between)) }
+
+pub new_back : (g h : Ground) (s e : LayerEnd) → IsNumbered g → Extends g.terms h.terms → Extends g.atoms h.atoms → IsEndIn g e → (p : Piece) → IsNew h s e p → IsNew g s e p
+new_back g h s e n a b w p q = record { place = q.place; between = q.between; is = q.is ∙ piece_kept g h n a b q.place (between_place g s e w q.place q.between) }
 
 -- what stands before an end stays there
 take_extended : {A : Type 0} (xs ys : List A) (n : ℕ) → Extends xs ys → n ≤ length xs → take n ys ≡ take n xs
@@ -282,21 +254,26 @@ end_kept g h Q e w a =
 pub clauses_none : (g : Ground) (old : Piece → Type 0) → IsNumbered g → Grows g (IsAddedBy [] old) g
 clauses_none g old n = grows_nothing g (IsAddedBy [] old) n (λ p q. contains_none q.clause q.among)
 
-pub clauses_more : (g h k : Ground) (cs : List Clause) (i : ℕ) (c : Clause) (e : LayerEnd) → IsNumbered g → IsEndIn g e → i < length cs → c ≡ get_or cs i c → Grows g (IsAddedBy (take i cs) (IsBefore g e)) h → Grows h (IsInstancePiece c (IsBefore h e)) k → Grows g (IsAddedBy (take (i + 1) cs) (IsBefore g e)) k
-clauses_more g h k cs i c e n w lt same a b =
+pub clauses_more : (g h k : Ground) (cs : List Clause) (i : ℕ) (c : Clause) (x : TriggerPlaces) → IsNumbered g → IsEndIn g x.end → i < length cs → c ≡ get_or cs i c → Grows g (IsAddedBy (take i cs) (IsNew g x.start x.end)) h → Grows h (IsInstancePiece c (IsNew h x.start x.end)) k → Grows g (IsAddedBy (take (i + 1) cs) (IsNew g x.start x.end)) k
+clauses_more g h k cs i c x n w lt same a b =
+    let old : Piece → Type 0 = IsNew g x.start x.end in
+    let late : Piece → Type 0 = IsNew h x.start x.end in
     let more : take (i + 1) cs ≡ take i cs ++ c ∷ [] = take_more cs i c lt ∙ ap (λ z. take i cs ++ z ∷ []) (inverse same) in
-    let to : (p : Piece) → IsAddedBy (take i cs) (IsBefore g e) p ⊎ IsInstancePiece c (IsBefore h e) p → IsAddedBy (take i cs ++ c ∷ []) (IsBefore g e) p = λ p q. elim q [
-      | inl x ↦ record { clause = x.clause; among = Contains-append_left (take i cs) (c ∷ []) x.clause x.among; instance = x.instance }
-      | inr y ↦ record { clause = c; among = Contains-append_right (take i cs) (c ∷ []) c (contains_first c []); instance = instance_as c (IsBefore h e) (IsBefore g e) p (before_back g h e n a.terms a.atoms a.equations w) y }
+    let to : (p : Piece) → IsAddedBy (take i cs) old p ⊎ IsInstancePiece c late p → IsAddedBy (take i cs ++ c ∷ []) old p = λ p q. elim q [
+      | inl y ↦ record { clause = y.clause; among = Contains-append_left (take i cs) (c ∷ []) y.clause y.among; instance = y.instance }
+      | inr y ↦ record { clause = c; among = Contains-append_right (take i cs) (c ∷ []) c (contains_first c []); instance = instance_as c late old p (new_back g h x.start x.end n a.terms a.atoms w) y }
     ] in
-    let from : (p : Piece) → IsAddedBy (take i cs ++ c ∷ []) (IsBefore g e) p → IsAddedBy (take i cs) (IsBefore g e) p ⊎ IsInstancePiece c (IsBefore h e) p = λ p q. elim (Contains-push_cases (take i cs) c q.clause q.among) [
-      | inl x ↦ inl (record { clause = q.clause; among = x; instance = q.instance })
-      | inr r ↦ inr (subst (λ (z : Clause). IsInstancePiece z (IsBefore h e) p) (inverse r) (instance_as q.clause (IsBefore g e) (IsBefore h e) p (before_kept g h e n a.terms a.atoms a.equations w) q.instance))
+    let from : (p : Piece) → IsAddedBy (take i cs ++ c ∷ []) old p → IsAddedBy (take i cs) old p ⊎ IsInstancePiece c late p = λ p q. elim (Contains-push_cases (take i cs) c q.clause q.among) [
+      | inl y ↦ inl (record { clause = q.clause; among = y; instance = q.instance })
+      | inr r ↦ inr (subst (λ (z : Clause). IsInstancePiece z late p) (inverse r) (instance_as q.clause old late p (new_kept g h x.start x.end n a.terms a.atoms w) q.instance))
     ] in
-    subst (λ (z : List Clause). Grows g (IsAddedBy z (IsBefore g e)) k) (inverse more)
-    (grows_as g k (λ p. IsAddedBy (take i cs) (IsBefore g e) p ⊎ IsInstancePiece c (IsBefore h e) p) (IsAddedBy (take i cs ++ c ∷ []) (IsBefore g e)) (grows_both g h k (IsAddedBy (take i cs) (IsBefore g e)) (IsInstancePiece c (IsBefore h e)) a b) to from)
+    subst (λ (z : List Clause). Grows g (IsAddedBy z old) k) (inverse more)
+    (grows_as g k (λ p. IsAddedBy (take i cs) old p ⊎ IsInstancePiece c late p) (IsAddedBy (take i cs ++ c ∷ []) old) (grows_both g h k (IsAddedBy (take i cs) old) (IsInstancePiece c late) a b) to from)
 
 pub clauses_all : (g h : Ground) (cs items : List Clause) (i : ℕ) (old : Piece → Type 0) → items ≡ cs → length items ≤ i → Grows g (IsAddedBy (take i items) old) h → Grows g (IsAddedBy cs old) h
 clauses_all g h cs items i old e le a = subst (λ (z : List Clause). Grows g (IsAddedBy z old) h) (take_all i items le ∙ e) a
 
-pub ruleset clauses_rules = (clauses_none, clauses_more, end_kept, numbered_after)
+pub trigger_places_after : (g h : Ground) (Q : Piece → Type 0) (x : TriggerPlaces) → IsEndIn g x.end → AreTriggerPlaces g x → Grows g Q h → AreTriggerPlaces h x
+trigger_places_after g h Q x w f a = trigger_places_kept g h x a.terms a.atoms w f
+
+pub ruleset clauses_rules = (clauses_none, clauses_more, end_kept, trigger_places_after, numbered_after)

@@ -15,11 +15,11 @@ use Rattle.mz_logic.specs.declared.disjunct.Disjunct.{Disjunct}
 use Rattle.mz_ground.specs.Piece.{Piece, TermPiece, AtomPiece, EquationPiece, IsAtomPiece}
 use Rattle.mz_ground.specs.Instance.{filled, literal_filled, trigger_filled}
 use Rattle.mz_ground.specs.Layers.{InLayer, first_constant, of_literal, of_universal, earlier, added, further_layers}
-use Rattle.mz_ground.specs.Ground.{term_at, ground_terms, ground_atoms, ground_equations, atom_piece, equation_piece, end_of, end_or_none, IsDistinct, IsGround, most_terms, most_atoms, AreTermsOf, AreAtomsOf, IsWithinTerms, IsWithinAtoms, PassesTerms, PassesAtoms, AreWithinBefore, HasTooManyTerms, HasTooManyAtoms, GroundFails, IsGroundWithinLimits}
+use Rattle.mz_ground.specs.Ground.{term_at, term_or_zero, ground_terms, ground_atoms, ground_equations, atom_piece, equation_piece, end_of, end_or_none, IsDistinct, IsGround, most_terms, most_atoms, AreTermsOf, AreAtomsOf, IsWithinTerms, IsWithinAtoms, PassesTerms, PassesAtoms, AreWithinBefore, HasTooManyTerms, HasTooManyAtoms, GroundFails, IsGroundWithinLimits}
 use Rattle.mz_ground.specs.Table.{Extends, IsTable, entry_terms}
-use Rattle.mz_ground.specs.Growth.{IsMember, IsNumbered, ReadsIn, Grows, IsPieceOf, IsPieceOfLiterals, IsPieceOfFormulas}
-use Rattle.mz_ground.specs.Instances.{IsInstancePiece, IsAddedBy, IsBefore, IsEndIn}
-use Rattle.mz_ground.specs.Making.{whole_end, HasLayer, IsFirst, IsFilling, IsFilled, IsClosed, ClosingFails}
+use Rattle.mz_ground.specs.Growth.{IsMember, IsStored, IsNumbered, ReadsIn, Grows, IsPieceOf, IsPieceOfLiterals, IsPieceOfFormulas}
+use Rattle.mz_ground.specs.Instances.{piece_or_zero, piece_at, IsInstancePiece, IsAddedBy, IsBefore, IsEndIn, IsBetween, IsNew, IsSpan}
+use Rattle.mz_ground.specs.Making.{whole_end, no_layer, IsStart, HasLayer, IsFirst, IsFilling, IsFilled, IsClosed, ClosingFails}
 use Rattle.mz_ground.specs.declared.clause.Clause.{Clause}
 use Rattle.mz_ground.specs.declared.ground.Ground.{Ground}
 use Rattle.mz_ground.specs.declared.ground_term.GroundTerm.{GroundTerm}
@@ -27,13 +27,18 @@ use Rattle.mz_ground.specs.declared.ground_term.GroundTerm.TheVariants as entry
 use Rattle.mz_ground.specs.declared.ground_atom.GroundAtom.{GroundAtom}
 use Rattle.mz_ground.specs.declared.ground_equation.GroundEquation.{GroundEquation}
 use Rattle.mz_ground.specs.declared.layer_end.LayerEnd.{LayerEnd}
+use Rattle.mz_ground.specs.declared.trigger_places.TriggerPlaces.{TriggerPlaces}
+use Rattle.mz_ground.specs.declared.piece_place.PiecePlace.{PiecePlace}
+use Rattle.mz_ground.specs.declared.piece_place.PiecePlace.TheVariants as place
+use Rattle.mz_ground.specs.declared.trigger.Trigger.{Trigger}
+use Rattle.mz_ground.specs.declared.trigger.Trigger.TheVariants as trigger
 use Rattle.mz_ground.specs.declared.ground_fault.GroundFault.{GroundFault}
 use Rattle.mz_ground.specs.declared.ground_fault.GroundFault.TheVariants.{TooManyTerms, TooManyAtoms, Memory}
-use Rattle.mz_ground.proofs.ListLemmas.{contains_none, contains_first, contains_one, contains_get, contains_map, extends_itself}
-use Rattle.mz_ground.proofs.TableLemmas.{entry_terms-length}
+use Rattle.mz_ground.proofs.ListLemmas.{contains_none, contains_first, contains_one, contains_get, contains_map, extends_itself, get_left, get_map}
+use Rattle.mz_ground.proofs.TableLemmas.{entry_terms-length, get-term_at}
 use Rattle.mz_ground.proofs.GrowthLemmas.{grows_both, member_grown}
 use Rattle.mz_ground.proofs.PieceLemmas.{filled-none, all_filled-none}
-use Rattle.mz_ground.proofs.InstanceLemmas.{instance_as, before_kept, before_back, end_kept, get_left, take_contains}
+use Rattle.mz_ground.proofs.InstanceLemmas.{instance_as, before_kept, before_back, end_kept, contains_take, take_contains, atom_there}
 
 -- what stands in a layer
 abbrev LayerCases : Disjunct → List Clause → ℕ → Piece → Type 0
@@ -114,7 +119,7 @@ told_base d g h k f a b cs =
         ]
       ];
       complete = λ le p i. elim (layer_cases d cs i) [
-        | inl e ↦ subst (λ (z : Piece). IsMember k z) e (member_grown g k (first_numbered g f) both.terms both.atoms both.equations (TermPiece (term.Const 0)) (first_has g f))
+        | inl e ↦ inl (subst (λ (z : Piece). IsMember k z) e (member_grown g k (first_numbered g f) both.terms both.atoms both.equations (TermPiece (term.Const 0)) (first_has g f)))
         | inr q ↦ both.complete le p q
       ];
     }
@@ -165,25 +170,93 @@ added_as cs P Q p h a = record { clause = a.clause; among = a.among; instance = 
 last_layer : (d : Disjunct) (cs : List Clause) (g : Ground) (n : ℕ) → IsFilled d cs g n → HasLayer d cs g n (whole_end g)
 last_layer d cs g n f = subst (HasLayer d cs g n) f.last (f.layers n (omega arith))
 
-pub told_next : (d : Disjunct) (cs : List Clause) (g h : Ground) (n m : ℕ) → m ≡ n + 1 → IsFilled d cs g n → Grows g (IsAddedBy cs (IsBefore g (whole_end g))) h → IsFilling d cs h m
-told_next d cs g h n m q f a =
-    let l : HasLayer d cs g n (whole_end g) = last_layer d cs g n f in
+-- what stands before an end stands before the start or is new
+nothing_before : (g : Ground) (p : Piece) → IsBefore g no_layer p → ⊥
+nothing_before g (TermPiece t) w = contains_none t w
+nothing_before g (AtomPiece s ts) w = contains_none (AtomPiece s ts) w
+nothing_before g (EquationPiece t u) w = contains_none (EquationPiece t u) w
+
+trigger_cases : (g : Ground) (s e : LayerEnd) (ts : List Term) (r : Trigger) → IsBefore g e (trigger_filled ts r) → IsBefore g s (trigger_filled ts r) ⊎ IsNew g s e (trigger_filled ts r)
+trigger_cases g s e ts (trigger.Term t) w =
+    let q = take_contains (ground_terms g) e.terms (filled ts t) w in
+    elim (cases_lt q.0 s.terms) [
+      | inl l ↦ inl (contains_take (ground_terms g) s.terms q.0 (filled ts t) l q.2)
+      | inr l ↦ inr (record { place = place.Term q.0; between = (l, q.1); is = ap TermPiece (inverse (ap term_or_zero q.2)) })
+    ]
+trigger_cases g s e ts (trigger.Atom a us) w =
+    let p : Piece = AtomPiece a (map (filled ts) us) in
+    let q = take_contains (ground_atoms g) e.atoms p w in
+    elim (cases_lt q.0 s.atoms) [
+      | inl l ↦ inl (contains_take (ground_atoms g) s.atoms q.0 p l q.2)
+      | inr l ↦ inr (record { place = place.Atom q.0; between = (l, q.1); is = inverse (ap piece_or_zero q.2) })
+    ]
+
+before_at : (g : Ground) (s e : LayerEnd) → IsEndIn g e → (at : PiecePlace) → IsBetween s e at → IsBefore g e (piece_at g at)
+before_at g s e w (place.Term k) b = contains_take (ground_terms g) e.terms k (term_at (ground_terms g) k) b.1 (get-term_at (ground_terms g) k (omega (arith, b.1, w.terms, entry_terms-length g.terms)))
+before_at g s e w (place.Atom k) b =
+    let q = atom_there g k (omega (arith, b.1, w.atoms)) in
+    subst (λ (z : Piece). IsBefore g e z) (inverse q.2) (contains_take (ground_atoms g) e.atoms k (atom_piece (ground_terms g) q.0) b.1 (get_map (atom_piece (ground_terms g)) g.atoms k q.0 q.1))
+
+new_before : (g : Ground) (s e : LayerEnd) → IsEndIn g e → (p : Piece) → IsNew g s e p → IsBefore g e p
+new_before g s e w p q = subst (λ (z : Piece). IsBefore g e z) (inverse q.is) (before_at g s e w q.place q.between)
+
+-- what instances with a trigger before the start have is there
+before_done : (d : Disjunct) (cs : List Clause) (g : Ground) (n : ℕ) (s : LayerEnd) → IsFilled d cs g n → IsStart g n s → (p : Piece) → IsAddedBy cs (IsBefore g s) p → InLayer d cs n p
+before_done d cs g zero s f b p a = absurd (nothing_before g (trigger_filled a.instance.terms a.clause.trigger) (subst (λ (z : LayerEnd). IsBefore g z (trigger_filled a.instance.terms a.clause.trigger)) b a.instance.trigger))
+before_done d cs g (suc m) s f b p a =
+    let l : HasLayer d cs g m (end_of g m) = f.layers m (omega arith) in
+    layer_added d cs m p (added_as cs (IsBefore g s) (InLayer d cs m) p (λ q v. (l.members q).0 (subst (λ (z : LayerEnd). IsBefore g z q) b v)) a)
+
+pub told_next : (d : Disjunct) (cs : List Clause) (g h : Ground) (n : ℕ) (s : LayerEnd) → IsFilled d cs g n → IsStart g n s → Grows g (IsAddedBy cs (IsNew g s (whole_end g))) h → IsFilling d cs h (n + 1)
+told_next d cs g h n s f b a =
+    let e : LayerEnd = whole_end g in
+    let l : HasLayer d cs g n e = last_layer d cs g n f in
+    let there : (p : Piece) → InLayer d cs n p → IsMember h p = λ p j. member_grown g h f.numbered a.terms a.atoms a.equations p (before_member g p ((l.members p).1 j)) in
     let next : IsFilling d cs h (suc n) = record {
       numbered = a.numbered;
       count = ap length a.ends ∙ f.count;
-      layers = λ j lt. layer_kept d cs g h j (IsAddedBy cs (IsBefore g (whole_end g))) f.numbered a (f.layers j lt);
+      layers = λ j lt. layer_kept d cs g h j (IsAddedBy cs (IsNew g s e)) f.numbered a (f.layers j lt);
       sound = λ p w. elim (a.sound p w) [
         | inl v ↦ earlier n p ((l.members p).0 (member_before g p v))
-        | inr r ↦ layer_added d cs n p (added_as cs (IsBefore g (whole_end g)) (InLayer d cs n) p (λ s v. (l.members s).0 v) r)
+        | inr r ↦ layer_added d cs n p (added_as cs (IsNew g s e) (InLayer d cs n) p (λ q v. (l.members q).0 (new_before g s e (whole_in g) q v)) r)
       ];
       complete = λ le p i. elim (layer_cases d cs i) [
-        | inl j ↦ member_grown g h f.numbered a.terms a.atoms a.equations p (before_member g p ((l.members p).1 j))
-        | inr r ↦ a.complete le p (added_as cs (InLayer d cs n) (IsBefore g (whole_end g)) p (λ s v. (l.members s).1 v) r)
+        | inl j ↦ inl (there p j)
+        | inr r ↦ elim (trigger_cases g s e r.instance.terms r.clause.trigger ((l.members (trigger_filled r.instance.terms r.clause.trigger)).1 r.instance.trigger)) [
+          | inl v ↦ inl (there p (before_done d cs g n s f b p (record { clause = r.clause; among = r.among; instance = record { terms = r.instance.terms; arity = r.instance.arity; trigger = v; nodes = r.instance.nodes; piece = r.instance.piece } })))
+          | inr v ↦ a.complete le p (record { clause = r.clause; among = r.among; instance = record { terms = r.instance.terms; arity = r.instance.arity; trigger = v; nodes = r.instance.nodes; piece = r.instance.piece } })
+        ]
       ];
     } in
-    subst (IsFilling d cs h) (inverse (q ∙ add-one n)) next
+    subst (IsFilling d cs h) (inverse (add-one n)) next
+
+pub filled_span : (d : Disjunct) (cs : List Clause) (g : Ground) (n : ℕ) (s : LayerEnd) → IsFilled d cs g n → IsStart g n s → IsSpan g s (whole_end g)
+filled_span d cs g zero s f b = record { end = whole_in g; terms = omega (arith, ap (λ (z : LayerEnd). z.terms) b); atoms = omega (arith, ap (λ (z : LayerEnd). z.atoms) b) }
+filled_span d cs g (suc m) s f b =
+    let w : IsEndIn g (end_of g m) = (f.layers m (omega arith)).within in
+    record { end = whole_in g; terms = omega (arith, ap (λ (z : LayerEnd). z.terms) b, w.terms); atoms = omega (arith, ap (λ (z : LayerEnd). z.atoms) b, w.atoms) }
+
+-- a layer added, where the places were made
+pub told_layer : (g h : Ground) (cs : List Clause) (s e : LayerEnd) (x : TriggerPlaces) → e ≡ whole_end g → (x.start ≡ s) × (x.end ≡ e) → Grows g (IsAddedBy cs (IsNew g x.start x.end)) h → Grows g (IsAddedBy cs (IsNew g s (whole_end g))) h
+told_layer g h cs s e x q p a =
+    let to_start : Grows g (IsAddedBy cs (IsNew g s x.end)) h = subst (λ (z : LayerEnd). Grows g (IsAddedBy cs (IsNew g z x.end)) h) p.0 a in
+    subst (λ (z : LayerEnd). Grows g (IsAddedBy cs (IsNew g s z)) h) (p.1 ∙ q) to_start
+
+pub span_as_read : (g : Ground) (s e : LayerEnd) → e ≡ whole_end g → IsSpan g s (whole_end g) → IsSpan g s e
+span_as_read g s e q w = subst (λ (z : LayerEnd). IsSpan g s z) (inverse q) w
+
+pub end_as_read : (g : Ground) (s e last : LayerEnd) → last ≡ e → IsSpan g s e → IsEndIn g last
+end_as_read g s e last q w = subst (λ (z : LayerEnd). IsEndIn g z) (inverse q) w.end
+
+pub ruleset add_layer_rules = (span_as_read, end_as_read, told_layer)
 
 -- closing a layer
+stored_member : (g : Ground) (p : Piece) → length g.atoms ≤ most_atoms → IsStored g p → IsMember g p
+stored_member g p le s = elim s [ inl w ↦ w | inr q ↦ absurd (omega (arith, le, q.1)) ]
+
+stored_term : (g : Ground) (t : Term) → IsStored g (TermPiece t) → Contains (ground_terms g) t
+stored_term g t s = elim s [ inl w ↦ w | inr q ↦ absurd q.0 ]
+
 get_end : {A : Type 0} (xs : List A) (x : A) → slice_get (xs ++ x ∷ []) (length xs) ≡ Some x
 get_end [] x = refl
 get_end (y ∷ ys) x = get_end ys x
@@ -195,7 +268,7 @@ told_filled d cs g h n f c =
     let path : m ≡ h = λ i. record { terms = inverse c.terms i; atoms = inverse c.atoms i; equations = inverse c.equations i; ends = inverse c.ends i } in
     let here : end_of m n ≡ e = ap (λ k. end_or_none (slice_get (g.ends ++ e ∷ []) k)) (inverse f.count) ∙ ap end_or_none (get_end g.ends e) in
     let old : (j : ℕ) → j < n → end_of m j ≡ end_of g j = λ j lt. ap end_or_none (get_left g.ends (e ∷ []) j (omega (arith, lt, f.count))) in
-    let last : HasLayer d cs m n e = record { within = whole_in m; members = λ p. (λ w. f.sound p (before_member g p w), λ i. member_before g p (f.complete c.few_terms p i)); terms = c.few_terms; atoms = c.few_atoms } in
+    let last : HasLayer d cs m n e = record { within = whole_in m; members = λ p. (λ w. f.sound p (before_member g p w), λ i. member_before g p (stored_member g p c.few_atoms (f.complete c.few_terms p i))); terms = c.few_terms; atoms = c.few_atoms } in
     let before : (j : ℕ) → j < n → HasLayer d cs m j (end_of m j) = λ j lt.
     let l = f.layers j lt in
     let r : HasLayer d cs m j (end_of g j) = record { within = record { terms = l.within.terms; atoms = l.within.atoms; equations = l.within.equations }; members = l.members; terms = l.terms; atoms = l.atoms } in
@@ -266,7 +339,7 @@ told_fails d cs g n TooManyAtoms h le r = (
   record {
     layer = le;
     before = before_layers d cs g n h;
-    terms = (ground_terms g, record { members = λ t. (λ w. h.sound (TermPiece t) w, λ i. h.complete r.0 (TermPiece t) i); distinct = h.numbered.table.distinct }, omega (arith, r.0, entry_terms-length g.terms));
+    terms = (ground_terms g, record { members = λ t. (λ w. h.sound (TermPiece t) w, λ i. stored_term g t (h.complete r.0 (TermPiece t) i)); distinct = h.numbered.table.distinct }, omega (arith, r.0, entry_terms-length g.terms));
     passes = (
       ground_atoms g,
       h.numbered.distinct_atoms,
@@ -305,11 +378,15 @@ filled_numbered d cs g n f = f.numbered
 pub numbered_from_ground : (d : Disjunct) (cs : List Clause) (g : Ground) → IsGround d cs g → IsNumbered g
 numbered_from_ground d cs g h = record { table = record { earlier = h.earlier; distinct = h.distinct_terms }; atoms_within = h.atoms_within; equations_within = h.equations_within; distinct_atoms = h.distinct_atoms; distinct_equations = h.distinct_equations }
 
--- the same, where the end and the number of layers were read
-pub next_as_read : (d : Disjunct) (cs : List Clause) (g h : Ground) (n : ℕ) (e : LayerEnd) → e ≡ whole_end g → IsFilled d cs g n → Grows g (IsAddedBy cs (IsBefore g e)) h → IsFilling d cs h (n + 1)
-next_as_read d cs g h n e q f a = told_next d cs g h n (n + 1) refl f (subst (λ (z : LayerEnd). Grows g (IsAddedBy cs (IsBefore g z)) h) q a)
+pub start_next : (d : Disjunct) (cs : List Clause) (g h k : Ground) (Q : Piece → Type 0) (n : ℕ) (e : LayerEnd) → IsFilled d cs g n → Grows g Q h → IsClosed h k → e ≡ whole_end g → IsStart k (n + 1) e
+start_next d cs g h k Q n e f a c q =
+    let lt : n < length g.ends = omega (arith, f.count) in
+    let same : slice_get k.ends n ≡ slice_get g.ends n = ap (λ z. slice_get z n) (c.ends ∙ ap (λ z. z ++ whole_end h ∷ []) a.ends) ∙ get_left g.ends (whole_end h ∷ []) n lt in
+    let here : IsStart k (suc n) e = q ∙ inverse f.last ∙ inverse (ap end_or_none same) in
+    subst (λ (m : ℕ). IsStart k m e) (inverse (add-one n)) here
 
+-- the same, where the number of layers was read
 pub ground_as_read : (d : Disjunct) (cs : List Clause) (g : Ground) (n : ℕ) → n ≡ 4 → IsFilled d cs g n → IsGroundWithinLimits d cs g
 ground_as_read d cs g n q f = told_ground d cs g (subst (IsFilled d cs g) q f)
 
-pub ruleset ground_rules = (told_next, told_filled, told_fails, told_ground, whole_in, filled_numbered)
+pub ruleset ground_rules = (told_next, told_filled, told_fails, told_ground, whole_in, filled_numbered, filled_span)

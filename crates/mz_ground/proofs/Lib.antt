@@ -12,3 +12,4 @@ pub mod LayerLemmas
 pub mod ClauseInstance
 pub mod FactsSound
 pub mod HashLemmas
+pub mod HeadLemmas

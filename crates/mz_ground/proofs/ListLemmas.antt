@@ -62,3 +62,22 @@ extends_further xs ys zs p q = (p.0 ++ q.0, q.1 ∙ ap (λ l. l ++ q.0) p.1 ∙ 
 
 pub extends-length : {A : Type 0} (xs ys : List A) (k : ℕ) → Extends xs ys → k < length xs → k < length ys
 extends-length xs ys k p lt = omega (arith, ap length p.1, length-append xs p.0)
+
+-- items at places
+pub get_left : {A : Type 0} (xs ys : List A) (k : ℕ) → k < length xs → slice_get (xs ++ ys) k ≡ slice_get xs k
+get_left [] ys k lt = absurd (omega arith)
+get_left (x ∷ xs) ys zero lt = refl
+get_left (x ∷ xs) ys (suc k) lt = get_left xs ys k (omega arith)
+
+pub get_extended : {A : Type 0} (xs ys : List A) (k : ℕ) → Extends xs ys → k < length xs → slice_get ys k ≡ slice_get xs k
+get_extended xs ys k p lt = ap (λ z. slice_get z k) p.1 ∙ get_left xs p.0 k lt
+
+pub get_some : {A : Type 0} (xs : List A) (k : ℕ) → k < length xs → (x : A) × (slice_get xs k ≡ Some x)
+get_some [] k lt = absurd (omega arith)
+get_some (x ∷ xs) zero lt = (x, refl)
+get_some (x ∷ xs) (suc k) lt = get_some xs k (omega arith)
+
+pub get_map : {A B : Type 0} (f : A → B) (xs : List A) (k : ℕ) (x : A) → slice_get xs k ≡ Some x → slice_get (map f xs) k ≡ Some (f x)
+get_map f [] k x e = absurd (none-some x e)
+get_map f (y ∷ ys) zero x e = ap Some (ap f (same_Some y x e))
+get_map f (y ∷ ys) (suc k) x e = get_map f ys k x e

@@ -13,9 +13,9 @@ use Rattle.mz_logic.specs.Literal.{signed, literal_formula}
 use Rattle.mz_logic.specs.declared.literal.Literal as literal
 use Rattle.mz_logic.specs.declared.literal.Literal.TheVariants as literals
 use Rattle.mz_logic.specs.Indices.{closed}
-use Rattle.mz_ground.specs.Piece.{Piece, TermPiece, AtomPiece, EquationPiece, IsWithin, Has, the_atom, the_equation, in_atom, in_left, in_right, in_negation, in_first, in_second, in_body, piece_closed}
+use Rattle.mz_ground.specs.Piece.{Piece, TermPiece, AtomPiece, EquationPiece, IsAtomPiece, IsWithin, Has, the_atom, the_equation, in_atom, in_left, in_right, in_negation, in_first, in_second, in_body, piece_closed}
 use Rattle.mz_ground.specs.Instance.{filled, args_filled, literal_filled}
-use Rattle.mz_ground.specs.Ground.{term_at, ground_terms, atom_piece, equation_piece}
+use Rattle.mz_ground.specs.Ground.{term_at, ground_terms, atom_piece, equation_piece, most_atoms}
 use Rattle.mz_ground.specs.Table.{IsPlaced, entry_terms, Reads, IsPart, IsFound, AddedTerms, AddsTerm, AddsTerms}
 use Rattle.mz_ground.specs.Growth.{IsMember, IsNumbered, ReadsIn, Grows, IsPieceOf, IsPieceOfLiterals, IsPieceOfFormulas}
 use Rattle.mz_ground.specs.declared.ground.Ground.{Ground}
@@ -25,7 +25,7 @@ use Rattle.mz_ground.specs.declared.ground_equation.GroundEquation.{GroundEquati
 use Rattle.mz_ground.proofs.ListLemmas.{contains_none, contains_first, contains_later, contains_cases, contains_one, extends_itself}
 use Rattle.mz_ground.proofs.TableLemmas.{entry_terms-length, entry_terms_closed, term_at-contained, term_at_grown, reads_grown}
 use Rattle.mz_ground.proofs.AddLemmas.{part_left, part_right, part_cases, part_first, added_more, within_cases}
-use Rattle.mz_ground.proofs.GrowthLemmas.{reads_from, grows_nothing, grows_both, grows_as, IsTermOf, grows_terms, grows_atom, grows_equation, reads_in_grown}
+use Rattle.mz_ground.proofs.GrowthLemmas.{reads_from, grows_nothing, grows_both, grows_as, IsTermOf, grows_terms, grows_atom, grows_past, grows_equation, reads_in_grown}
 
 -- a term within one of the terms
 abbrev IsTermIn : List Term → Piece → Type 0
@@ -121,7 +121,23 @@ atom_none g h args s us a ea ee en ts r =
     grows_as g h (IsTermOf vs) (IsPieceOf (Atom s vs)) (grows_terms g h vs r.numbered b.added ea ee en)
     (λ q c. atom_from_terms s vs q c) (λ q c. atom_to_terms s vs q b.found c)
 
+pub atom_past : (g h : Ground) (args : List ℕ) (s : Sym) (us : List Term) (ks : List ℕ) → ((ts : List Term) → Reads g.terms args ts → AddsTerms g.terms ts us (Some ks) h.terms) → most_atoms < length h.atoms → h.atoms ≡ g.atoms → h.equations ≡ g.equations → h.ends ≡ g.ends → (ts : List Term) → ReadsIn g args ts → Grows g (IsPieceOf (Atom s (map (filled ts) us))) h
+atom_past g h args s us ks a lt ea ee en ts r =
+    let vs : List Term = map (filled ts) us in
+    let b : AddsTerms g.terms ts us (Some ks) h.terms = a ts (reads_from g args ts r) in
+    let first : Grows g (IsTermOf vs) h = grows_terms g h vs r.numbered b.added ea ee en in
+    let second : Grows h (λ q. AtomPiece s vs ≡ q) h = grows_past h (λ q. AtomPiece s vs ≡ q) first.numbered lt (λ q e. subst IsAtomPiece e tt) in
+    let those : map (term_at (entry_terms h.terms)) ks ≡ vs = b.found.1 in
+    let all : list_all closed vs ≡ true = ap (list_all closed) (inverse those) ∙ places_closed h.terms ks b.found.0 in
+    grows_as g h (λ q. IsTermOf vs q ⊎ (AtomPiece s vs ≡ q)) (IsPieceOf (Atom s vs)) (grows_both g h h (IsTermOf vs) (λ q. AtomPiece s vs ≡ q) first second)
+    (λ q c. elim c [ inl d ↦ atom_from_terms s vs q d | inr e ↦ atom_itself s vs q all e ])
+    (λ q c. atom_to s vs q c)
+
 -- the same, where the places were computed
+pub told_atom_past : (g h : Ground) (args : List ℕ) (s : Sym) (us : List Term) (o : Option (List ℕ)) (ks : List ℕ) → o ≡ Some ks → ((ts : List Term) → Reads g.terms args ts → AddsTerms g.terms ts us o h.terms) → most_atoms < length h.atoms → h.atoms ≡ g.atoms → h.equations ≡ g.equations → h.ends ≡ g.ends → (ts : List Term) → ReadsIn g args ts → Grows g (IsPieceOf (Atom s (map (filled ts) us))) h
+told_atom_past g h args s us o ks q a lt ea ee en =
+    atom_past g h args s us ks (subst (λ (z : Option (List ℕ)). (ts : List Term) → Reads g.terms args ts → AddsTerms g.terms ts us z h.terms) q a) lt ea ee en
+
 pub told_atom_some : (g h : Ground) (args : List ℕ) (s : Sym) (us : List Term) (o : Option (List ℕ)) (ks : List ℕ) (k : ℕ) → o ≡ Some ks → ((ts : List Term) → Reads g.terms args ts → AddsTerms g.terms ts us o h.terms) → IsPlaced g.atoms (record { sym = s; args = ks }) h.atoms k → h.equations ≡ g.equations → h.ends ≡ g.ends → (ts : List Term) → ReadsIn g args ts → Grows g (IsPieceOf (Atom s (map (filled ts) us))) h
 told_atom_some g h args s us o ks k q a p ee en =
     atom_some g h args s us ks k (subst (λ (z : Option (List ℕ)). (ts : List Term) → Reads g.terms args ts → AddsTerms g.terms ts us z h.terms) q a) p ee en
@@ -348,7 +364,7 @@ told_formula_step g h k fs i f a e lt b n =
 pub told_formulas : (g h : Ground) (fs es : List Formula) (i : ℕ) → (IsNumbered g → Grows g (IsPieceOfFormulas (take i fs)) h) → fs ≡ es → length fs ≤ i → IsNumbered g → Grows g (IsPieceOfFormulas es) h
 told_formulas g h fs es i a e le n = subst (λ (z : List Formula). Grows g (IsPieceOfFormulas z) h) (take_all i fs le ∙ e) (a n)
 
-pub ruleset atom_rules = (atom_some, atom_none)
+pub ruleset atom_rules = (atom_some, atom_past, atom_none)
 
 pub ruleset equation_rules = (equation_some, equation_left, equation_right)
 

@@ -4,8 +4,8 @@ use Rattle.mz_logic.specs.Term.{Term}
 use Rattle.mz_logic.specs.Formula.{Formula}
 use Rattle.mz_logic.specs.Literal.{literal_formula}
 use Rattle.mz_logic.specs.declared.literal.Literal.{Literal}
-use Rattle.mz_ground.specs.Piece.{Piece, TermPiece, AtomPiece, EquationPiece, Has, piece_closed}
-use Rattle.mz_ground.specs.Ground.{term_at, ground_terms, ground_atoms, ground_equations, IsDistinct, most_terms}
+use Rattle.mz_ground.specs.Piece.{Piece, TermPiece, AtomPiece, EquationPiece, IsAtomPiece, Has, piece_closed}
+use Rattle.mz_ground.specs.Ground.{term_at, ground_terms, ground_atoms, ground_equations, IsDistinct, most_terms, most_atoms}
 use Rattle.mz_ground.specs.Table.{Extends, IsTable}
 use Rattle.mz_ground.specs.declared.ground.Ground.{Ground}
 use Rattle.mz_ground.specs.declared.ground_atom.GroundAtom.{GroundAtom}
@@ -16,6 +16,10 @@ abbrev pub IsMember : Ground → Piece → Type 0
 IsMember g (TermPiece t) = Contains (ground_terms g) t
 IsMember g (AtomPiece s ts) = Contains (ground_atoms g) (AtomPiece s ts)
 IsMember g (EquationPiece t u) = Contains (ground_equations g) (EquationPiece t u)
+
+-- the piece stands in the lists, or it is an atom and they have more atoms than the limit
+abbrev pub IsStored : Ground → Piece → Type 0
+IsStored g p = IsMember g p ⊎ (IsAtomPiece p × (most_atoms < length g.atoms))
 
 -- arguments are places of terms, those of a term stand before it, and each piece stands once
 pub record IsNumbered (g : Ground) : Type 0 where
@@ -31,7 +35,8 @@ pub record ReadsIn (g : Ground) (places : List ℕ) (ts : List Term) : Type 0 wh
   pub within : (k : ℕ) → Contains places k → k < length g.terms
   pub terms : map (term_at (ground_terms g)) places ≡ ts
 
--- the pieces of which Q holds were put behind those of g; all of them, if there are no more terms than the limit
+-- the pieces of which Q holds were put behind those of g; all of them, if there are no more terms than the limit, except
+-- for atoms past theirs
 pub record Grows (g : Ground) (Q : Piece → Type 0) (h : Ground) : Type 0 where
   pub numbered : IsNumbered h
   pub terms : Extends g.terms h.terms
@@ -39,7 +44,7 @@ pub record Grows (g : Ground) (Q : Piece → Type 0) (h : Ground) : Type 0 where
   pub equations : Extends g.equations h.equations
   pub ends : h.ends ≡ g.ends
   pub sound : (p : Piece) → IsMember h p → IsMember g p ⊎ Q p
-  pub complete : length h.terms ≤ most_terms → (p : Piece) → Q p → IsMember h p
+  pub complete : length h.terms ≤ most_terms → (p : Piece) → Q p → IsStored h p
 
 -- the piece stands in the formula and has no index
 pub record IsPieceOf (f : Formula) (p : Piece) : Type 0 where

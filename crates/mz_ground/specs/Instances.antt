@@ -10,6 +10,7 @@ use Rattle.mz_ground.specs.Matches.{IsValue}
 use Rattle.mz_ground.specs.Growth.{IsPieceOfLiterals}
 use Rattle.mz_ground.specs.declared.clause.Clause.{Clause}
 use Rattle.mz_ground.specs.declared.trigger.Trigger.{Trigger}
+use Rattle.mz_ground.specs.declared.trigger.Trigger.TheVariants as trigger
 use Rattle.mz_ground.specs.declared.ground.Ground.{Ground}
 use Rattle.mz_ground.specs.declared.layer_end.LayerEnd.{LayerEnd}
 use Rattle.mz_ground.specs.declared.piece_place.PiecePlace.{PiecePlace}
@@ -74,16 +75,34 @@ pub record IsEndIn (g : Ground) (e : LayerEnd) : Type 0 where
   pub atoms : e.atoms ≤ length g.atoms
   pub equations : e.equations ≤ length g.equations
 
--- the piece at a place, and one at a place below n
+-- the one end stands in g, and not before the other
+pub record IsSpan (g : Ground) (s e : LayerEnd) : Type 0 where
+  pub end : IsEndIn g e
+  pub terms : s.terms ≤ e.terms
+  pub atoms : s.atoms ≤ e.atoms
+
+-- the piece at a place
 pub record IsPieceAt (g : Ground) (at : PiecePlace) (p : Piece) : Type 0 where
   pub is : p ≡ piece_at g at
 
-pub record IsTermBelow (g : Ground) (n : ℕ) (p : Piece) : Type 0 where
-  pub place : ℕ
-  pub below : place < n
-  pub is : p ≡ piece_at g (Term place)
+-- the place of a term or of an atom, as the trigger is one
+abbrev pub place_like : Trigger → ℕ → PiecePlace
+place_like (trigger.Term t) k = Term k
+place_like (trigger.Atom s us) k = Atom k
 
-pub record IsAtomBelow (g : Ground) (n : ℕ) (p : Piece) : Type 0 where
+-- the piece stands at one of the places
+pub record IsAmong (g : Ground) (r : Trigger) (places : List ℕ) (p : Piece) : Type 0 where
   pub place : ℕ
-  pub below : place < n
-  pub is : p ≡ piece_at g (Atom place)
+  pub among : Contains places place
+  pub is : p ≡ piece_at g (place_like r place)
+
+-- the place stands behind an end of layers and before another
+abbrev pub IsBetween : LayerEnd → LayerEnd → PiecePlace → Type 0
+IsBetween s e (Term k) = (s.terms ≤ k) × (k < e.terms)
+IsBetween s e (Atom k) = (s.atoms ≤ k) × (k < e.atoms)
+
+-- the term or atom does
+pub record IsNew (g : Ground) (s e : LayerEnd) (p : Piece) : Type 0 where
+  pub place : PiecePlace
+  pub between : IsBetween s e place
+  pub is : p ≡ piece_at g place

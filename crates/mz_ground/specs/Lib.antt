@@ -13,4 +13,5 @@ pub mod Nodes
 pub mod Instances
 pub mod Making
 pub mod Hash
+pub mod Heads
 pub mod FactSet

@@ -1,10 +1,10 @@
 -- The layers that a ground part has while it is made.
-use Rattle.std.specs.Prelude.{◌≡◌, ◌<◌, ◌≤◌, ◌↔◌, ℕ, suc, List, [], ◌∷◌, ◌++◌, length}
+use Rattle.std.specs.Prelude.{◌≡◌, ◌<◌, ◌≤◌, ◌↔◌, ℕ, zero, suc, List, [], ◌∷◌, ◌++◌, length}
 use Rattle.mz_logic.specs.declared.disjunct.Disjunct.{Disjunct}
 use Rattle.mz_ground.specs.Piece.{Piece, TermPiece}
 use Rattle.mz_ground.specs.Layers.{InLayer}
 use Rattle.mz_ground.specs.Ground.{end_of, most_terms, most_atoms}
-use Rattle.mz_ground.specs.Growth.{IsMember, IsNumbered}
+use Rattle.mz_ground.specs.Growth.{IsMember, IsStored, IsNumbered}
 use Rattle.mz_ground.specs.Instances.{IsBefore, IsEndIn}
 use Rattle.mz_ground.specs.declared.clause.Clause.{Clause}
 use Rattle.mz_ground.specs.declared.ground.Ground.{Ground}
@@ -31,13 +31,22 @@ pub record IsFirst (g : Ground) : Type 0 where
   pub equations : g.equations ≡ []
   pub ends : g.ends ≡ []
 
--- the layers before the layer n are there, and of the layer n as much as the limit of terms allows
+-- the layers before the layer n are there, and of the layer n as much as the limits allow
 pub record IsFilling (d : Disjunct) (cs : List Clause) (g : Ground) (n : ℕ) : Type 0 where
   pub numbered : IsNumbered g
   pub count : length g.ends ≡ n
   pub layers : (m : ℕ) → m < n → HasLayer d cs g m (end_of g m)
   pub sound : (p : Piece) → IsMember g p → InLayer d cs n p
-  pub complete : length g.terms ≤ most_terms → (p : Piece) → InLayer d cs n p → IsMember g p
+  pub complete : length g.terms ≤ most_terms → (p : Piece) → InLayer d cs n p → IsStored g p
+
+-- nothing
+abbrev pub no_layer : LayerEnd
+no_layer = record { terms = 0; atoms = 0; equations = 0 }
+
+-- the end of the layer before the layer n
+abbrev pub IsStart : Ground → ℕ → LayerEnd → Type 0
+IsStart g zero s = s ≡ no_layer
+IsStart g (suc n) s = s ≡ end_of g n
 
 -- the layers up to the layer n are there, and nothing else
 pub record IsFilled (d : Disjunct) (cs : List Clause) (g : Ground) (n : ℕ) : Type 0 where

@@ -17,10 +17,12 @@ use mz_logic::sym::Sym;
 use mz_logic::term::{Term, Terms};
 use std::alloc::{AllocError, Global};
 
+const MOST_ATOMS: usize = 16384;
+
 impl Ground {
     /// Puts what has no index in the formulas into the ground part.
     #[tactic(auto, using(crate::proofs::PieceLemmas::formulas_rules))]
-    pub fn add_formulas(&mut self, alloc: Global, fs: &Formulas) -> Result<(), AllocError>
+    pub(crate) fn add_formulas(&mut self, alloc: Global, fs: &Formulas) -> Result<(), AllocError>
         ensures { OnOk result (IsNumbered self.old → Grows self.old (IsPieceOfFormulas fs.now) self.new) }
     {
         for f in &fs.items {
@@ -31,7 +33,7 @@ impl Ground {
 
     /// Puts what has no index in the formula into the ground part.
     #[tactic(auto, using(crate::proofs::PieceLemmas::formula_rules))]
-    pub fn add_formula(&mut self, alloc: Global, f: &Formula) -> Result<(), AllocError>
+    pub(crate) fn add_formula(&mut self, alloc: Global, f: &Formula) -> Result<(), AllocError>
         ensures { OnOk result (IsNumbered self.old → Grows self.old (IsPieceOf f.now) self.new) }
     {
         match &f.node {
@@ -63,7 +65,7 @@ impl Ground {
     /// Puts what has no index in the literals into the ground part, where the terms at the places `args` stand
     /// for the indices from 0 on.
     #[tactic(auto, using(crate::proofs::PieceLemmas::literals_rules))]
-    pub fn add_literals(
+    pub(crate) fn add_literals(
         &mut self,
         alloc: Global,
         args: &[usize],
@@ -80,7 +82,7 @@ impl Ground {
     /// Puts what has no index in the literal into the ground part, where the terms at the places `args` stand for
     /// the indices from 0 on.
     #[tactic(auto, using(crate::proofs::PieceLemmas::literal_rules))]
-    pub fn add_literal(
+    pub(crate) fn add_literal(
         &mut self,
         alloc: Global,
         args: &[usize],
@@ -108,6 +110,7 @@ impl Ground {
         }
     }
 
+    // More atoms than the limit are refused, so that none is stored past it.
     #[tactic(auto, using(crate::proofs::PieceLemmas::atom_rules))]
     fn add_atom(
         &mut self,
@@ -120,6 +123,9 @@ impl Ground {
     {
         match self.terms.add_all(alloc, args, us)? {
             Some(places) => {
+                if self.atoms.len() > MOST_ATOMS {
+                    return Ok(());
+                }
                 self.atoms.place(GroundAtom { sym, args: places })?;
                 Ok(())
             }

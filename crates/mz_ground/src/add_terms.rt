@@ -14,7 +14,7 @@ impl GroundTerms {
     /// for the indices from 0 on. The place of `t`, if it has no index then.
     #[cycle(add)]
     #[tactic(auto, using(crate::proofs::AddLemmas::add_rules))]
-    pub fn add(
+    pub(crate) fn add(
         &mut self,
         alloc: Global,
         args: &[usize],
@@ -45,7 +45,7 @@ impl GroundTerms {
     /// for the indices from 0 on. The places of `us`, if none of them has an index then.
     #[cycle(add)]
     #[tactic(auto, using(crate::proofs::AddLemmas::all_rules))]
-    pub fn add_all(
+    pub(crate) fn add_all(
         &mut self,
         alloc: Global,
         args: &[usize],

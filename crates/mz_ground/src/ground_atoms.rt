@@ -62,7 +62,7 @@ impl GroundAtoms {
 
     /// Puts one at the end.
     #[tactic(auto, using(crate::proofs::HashLemmas::hashed_rules))]
-    pub fn push(&mut self, item: GroundAtom) -> Result<(), AllocError>
+    pub(crate) fn push(&mut self, item: GroundAtom) -> Result<(), AllocError>
         ensures ok { OnOk result (self.new ≡ self.old ++ item ∷ []) }
         ensures err { OnErr result (self.new ≡ self.old) }
     {
@@ -72,7 +72,7 @@ impl GroundAtoms {
     }
 
     /// The place of an item, which is put at the end where the list lacks it.
-    pub fn place(&mut self, item: GroundAtom) -> Result<usize, AllocError>
+    pub(crate) fn place(&mut self, item: GroundAtom) -> Result<usize, AllocError>
         ensures { IfOk result (λ k. IsPlaced self.old item self.new k) }
     {
         match self.find(&item) {

@@ -1,84 +1,80 @@
 // The pieces of instances of clauses put into a ground part.
-ghost use Rattle.std.specs.Prelude.{◌≡◌, ◌∷◌, ◌++◌, [], ◌≤◌, List, length, OnOk};
+ghost use Rattle.std.specs.Prelude.{◌≡◌, ◌∷◌, ◌++◌, [], ℕ, List, Contains, OnOk};
 ghost use Rattle.mz_logic.specs.Term.{Term};
+ghost use Rattle.mz_ground.specs.Heads.{AreTriggerPlaces};
 ghost use Rattle.mz_ground.specs.Instance.{premises_at, conclusion_at};
 ghost use Rattle.mz_ground.specs.Growth.{IsNumbered, ReadsIn, Grows, IsPieceOfLiterals};
-ghost use Rattle.mz_ground.specs.Instances.{IsPiecePlace, IsPieceAt, IsTermBelow, IsAtomBelow, IsInstancePiece, IsAddedBy, IsBefore, IsEndIn};
+ghost use Rattle.mz_ground.specs.Instances.{place_like, IsPiecePlace, IsPieceAt, IsAmong, IsNew, IsInstancePiece, IsAddedBy, IsEndIn};
 
 use crate::clause::Clause;
 use crate::clauses::Clauses;
 use crate::ground::Ground;
-use crate::layer_end::LayerEnd;
 use crate::piece_place::PiecePlace;
 use crate::trigger::Trigger;
+use crate::trigger_places::TriggerPlaces;
 use std::alloc::{AllocError, Global};
 
 const MOST_TERMS: usize = 4096;
 
+// The place of a term or of an atom, as the trigger is one.
+fn place_like(r: &Trigger, place: usize) -> PiecePlace
+    ensures { result ≡ place_like r.now place }
+{
+    match r {
+        Trigger::Term(_) => PiecePlace::Term(place),
+        Trigger::Atom(_, _) => PiecePlace::Atom(place),
+    }
+}
+
 impl Ground {
-    /// Puts the pieces of the instances whose triggers stand before the end of a layer into the ground part; no
-    /// more where there are more than 4,096 terms.
+    /// Puts the pieces of the instances whose triggers stand at the places into the ground part; no more where there
+    /// are more than 4,096 terms.
     #[tactic(auto, using(crate::proofs::InstanceLemmas::clauses_rules))]
-    pub fn add_clauses(
+    pub(crate) fn add_clauses(
         &mut self,
         alloc: Global,
         cs: &Clauses,
-        end: LayerEnd,
+        places: &TriggerPlaces,
     ) -> Result<(), AllocError>
         requires numbered { IsNumbered self.old }
-        requires end { IsEndIn self.old end }
-        ensures { OnOk result (Grows self.old (IsAddedBy cs.now (IsBefore self.old end)) self.new) }
+        requires end { IsEndIn self.old places.now.end }
+        requires places { AreTriggerPlaces self.old places.now }
+        ensures { OnOk result (Grows self.old (IsAddedBy cs.now (IsNew self.old places.now.start places.now.end)) self.new) }
     {
         for c in &cs.items {
-            self.add_clause(alloc, c, end)?;
+            self.add_clause(alloc, c, places)?;
         }
         Ok(())
     }
 
     #[tactic(auto, using(crate::proofs::InstanceLemmas::clause_rules))]
-    fn add_clause(&mut self, alloc: Global, c: &Clause, end: LayerEnd) -> Result<(), AllocError>
+    fn add_clause(
+        &mut self,
+        alloc: Global,
+        c: &Clause,
+        places: &TriggerPlaces,
+    ) -> Result<(), AllocError>
         requires numbered { IsNumbered self.old }
-        requires end { IsEndIn self.old end }
-        ensures { OnOk result (Grows self.old (IsInstancePiece c.now (IsBefore self.old end)) self.new) }
+        requires end { IsEndIn self.old places.now.end }
+        requires places { AreTriggerPlaces self.old places.now }
+        ensures { OnOk result (Grows self.old (IsInstancePiece c.now (IsNew self.old places.now.start places.now.end)) self.new) }
     {
-        match &c.trigger {
-            Trigger::Term(_) => {
-                self.add_at_terms(alloc, c, end.terms)?;
-                Ok(())
-            }
-            Trigger::Atom(_, _) => {
-                self.add_at_atoms(alloc, c, end.atoms)?;
-                Ok(())
-            }
-        }
-    }
-
-    #[tactic(auto, using(crate::proofs::InstanceLemmas::places_rules))]
-    fn add_at_terms(&mut self, alloc: Global, c: &Clause, count: usize) -> Result<(), AllocError>
-        requires numbered { IsNumbered self.old }
-        requires count { count ≤ length self.old.terms }
-        ensures { OnOk result (Grows self.old (IsInstancePiece c.now (IsTermBelow self.old count)) self.new) }
-    {
-        for place in 0..count {
-            if self.terms.len() > MOST_TERMS {
-                return Ok(());
-            }
-            self.add_match(alloc, c, PiecePlace::Term(place))?;
-        }
+        self.add_at(alloc, c, places.candidates(&c.trigger))?;
         Ok(())
     }
 
+    // The same for the instances whose trigger is one of the terms or atoms at the places.
     #[tactic(auto, using(crate::proofs::InstanceLemmas::places_rules))]
-    fn add_at_atoms(&mut self, alloc: Global, c: &Clause, count: usize) -> Result<(), AllocError>
+    fn add_at(&mut self, alloc: Global, c: &Clause, places: &[usize]) -> Result<(), AllocError>
         requires numbered { IsNumbered self.old }
-        requires count { count ≤ length self.old.atoms }
-        ensures { OnOk result (Grows self.old (IsInstancePiece c.now (IsAtomBelow self.old count)) self.new) }
+        requires within { (k : ℕ) → Contains places.now k → IsPiecePlace self.old (place_like c.now.trigger k) }
+        ensures { OnOk result (Grows self.old (IsInstancePiece c.now (IsAmong self.old c.now.trigger places.now)) self.new) }
     {
-        for place in 0..count {
+        for place in places {
             if self.terms.len() > MOST_TERMS {
                 return Ok(());
             }
-            self.add_match(alloc, c, PiecePlace::Atom(place))?;
+            self.add_match(alloc, c, place_like(&c.trigger, *place))?;
         }
         Ok(())
     }

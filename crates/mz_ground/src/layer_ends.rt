@@ -50,7 +50,7 @@ impl LayerEnds {
     }
 
     /// Puts one at the end.
-    pub fn push(&mut self, item: LayerEnd) -> Result<(), AllocError>
+    pub(crate) fn push(&mut self, item: LayerEnd) -> Result<(), AllocError>
         ensures ok { OnOk result (self.new ≡ self.old ++ item ∷ []) }
         ensures err { OnErr result (self.new ≡ self.old) }
     {

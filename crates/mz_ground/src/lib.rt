@@ -1,8 +1,8 @@
-// Clauses, the ground part of a disjunct, and the facts over it.
+//! Clauses, the ground part of a disjunct, and the facts over it.
 #![tactic(auto)]
 
-pub mod add_pieces;
-pub mod add_terms;
+mod add_pieces;
+mod add_terms;
 pub mod clause;
 pub mod clauses;
 pub mod fact_set;
@@ -15,16 +15,16 @@ pub mod ground_fault;
 pub mod ground_term;
 pub mod ground_terms;
 pub mod hash_places;
-pub mod instances;
+pub mod head_places;
+mod instances;
 pub mod laws;
 pub mod layer_end;
 pub mod layer_ends;
 pub mod making;
-pub mod matching;
-pub mod nodes;
+mod matching;
+mod nodes;
 pub mod piece_place;
 pub mod places;
-#[cfg(test)]
-mod tests;
 pub mod trigger;
 pub mod trigger_matching;
+pub mod trigger_places;

@@ -1,6 +1,8 @@
 // The ground part of a disjunct under clauses, layer by layer.
 ghost use Rattle.std.specs.Prelude.{◌≡◌, List, MatchResult, IfOk, OnOk, IfErr};
 ghost use Rattle.mz_ground.specs.Ground.{GroundFails, IsGroundWithinLimits};
+ghost use Rattle.mz_ground.specs.Growth.{IsNumbered, Grows};
+ghost use Rattle.mz_ground.specs.Instances.{IsAddedBy, IsNew, IsSpan};
 ghost use Rattle.mz_ground.specs.Making.{whole_end, IsFirst, IsFilling, IsClosed, ClosingFails};
 ghost use Rattle.mz_ground.specs.declared.clause.Clause.{Clause};
 
@@ -13,6 +15,7 @@ use crate::ground_term::GroundTerm;
 use crate::ground_terms::GroundTerms;
 use crate::layer_end::LayerEnd;
 use crate::layer_ends::LayerEnds;
+use crate::trigger_places::TriggerPlaces;
 use mz_logic::disjunct::Disjunct;
 use std::alloc::{AllocError, Global};
 
@@ -33,10 +36,15 @@ pub fn ground(alloc: Global, d: &Disjunct, clauses: &Clauses) -> Result<Ground, 
 {
     let mut g = base(alloc, d)?;
     g.close_layer()?;
+    let mut start = LayerEnd {
+        terms: 0,
+        atoms: 0,
+        equations: 0,
+    };
     for _layer in 0..FURTHER_LAYERS {
-        let end = g.end();
-        g.add_clauses(alloc, clauses, end)?;
+        let end = g.add_layer(alloc, clauses, start)?;
         g.close_layer()?;
+        start = end;
     }
     Ok(g)
 }
@@ -77,6 +85,24 @@ impl Ground {
             atoms: self.atoms.len(),
             equations: self.equations.len(),
         }
+    }
+
+    // Puts what the instances have whose triggers stand behind the start. The end of what was there before.
+    #[tactic(auto, using(crate::proofs::LayerLemmas::add_layer_rules))]
+    fn add_layer(
+        &mut self,
+        alloc: Global,
+        clauses: &Clauses,
+        start: LayerEnd,
+    ) -> Result<LayerEnd, AllocError>
+        requires numbered { IsNumbered self.old }
+        requires span { IsSpan self.old start (whole_end self.old) }
+        ensures { IfOk result (λ end. (end ≡ whole_end self.old) × Grows self.old (IsAddedBy clauses.now (IsNew self.old start (whole_end self.old))) self.new) }
+    {
+        let end = self.end();
+        let places = TriggerPlaces::of(alloc, self, start, end)?;
+        self.add_clauses(alloc, clauses, &places)?;
+        Ok(end)
     }
 
     // Notes the end of the layer, if it keeps the limits.

@@ -14,7 +14,7 @@ impl GroundTerms {
     /// The place of the term that stands for the index wherever `t` filled is the term at the place.
     #[cycle(value)]
     #[tactic(auto, using(crate::proofs::MatchLemmas::value_rules))]
-    pub fn value_in(&self, index: u32, t: &Term, place: usize) -> Option<usize>
+    pub(crate) fn value_in(&self, index: u32, t: &Term, place: usize) -> Option<usize>
         requires table { IsTable self.now }
         requires within { place < length self.now }
         ensures { IsTermValue self.now index t.now place result }
@@ -38,7 +38,7 @@ impl GroundTerms {
     /// The place of the term that stands for the index wherever `us` filled are the terms at the places.
     #[cycle(value)]
     #[tactic(auto, using(crate::proofs::MatchLemmas::value_rules))]
-    pub fn value_among(&self, index: u32, us: &Terms, places: &[usize]) -> Option<usize>
+    pub(crate) fn value_among(&self, index: u32, us: &Terms, places: &[usize]) -> Option<usize>
         requires table { IsTable self.now }
         requires within { (k : ℕ) → Contains places.now k → k < length self.now }
         ensures { AreTermsValue self.now index us.now places.now result }
@@ -57,7 +57,7 @@ impl GroundTerms {
     /// Whether `t`, filled by the terms at the places `args`, is the term at the place.
     #[cycle(filled)]
     #[tactic(auto, using(crate::proofs::MatchLemmas::filled_rules))]
-    pub fn is_filled(&self, args: &[usize], t: &Term, place: usize) -> bool
+    pub(crate) fn is_filled(&self, args: &[usize], t: &Term, place: usize) -> bool
         requires table { IsTable self.now }
         requires args { (k : ℕ) → Contains args.now k → k < length self.now }
         requires within { place < length self.now }
@@ -84,7 +84,7 @@ impl GroundTerms {
     /// Whether `us`, filled by the terms at the places `args`, are the terms at the places.
     #[cycle(filled)]
     #[tactic(auto, using(crate::proofs::MatchLemmas::filled_rules))]
-    pub fn are_filled(&self, args: &[usize], us: &Terms, places: &[usize]) -> bool
+    pub(crate) fn are_filled(&self, args: &[usize], us: &Terms, places: &[usize]) -> bool
         requires table { IsTable self.now }
         requires args { (k : ℕ) → Contains args.now k → k < length self.now }
         requires within { (k : ℕ) → Contains places.now k → k < length self.now }

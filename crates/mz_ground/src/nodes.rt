@@ -20,7 +20,7 @@ const MOST_NODES: usize = 4096;
 impl GroundTerms {
     /// Whether the instance of the clause at the terms at the places has at most 4,096 nodes.
     #[tactic(auto, using(crate::proofs::NodeLemmas::clause_rules))]
-    pub fn fits(&self, args: &[usize], c: &Clause) -> bool
+    pub(crate) fn fits(&self, args: &[usize], c: &Clause) -> bool
         requires table { IsTable self.now }
         requires args { (k : ℕ) → Contains args.now k → k < length self.now }
         ensures { IsTrue result ↔ (instance_nodes c.now (map (term_at (entry_terms self.now)) args.now) ≤ most_nodes) }

@@ -1,13 +1,13 @@
 // Ground parts worked out by hand.
-use crate::clause::Clause;
-use crate::clauses::Clauses;
-use crate::ground::Ground;
-use crate::ground_atom::GroundAtom;
-use crate::ground_fault::GroundFault;
-use crate::ground_term::GroundTerm;
-use crate::making::ground;
-use crate::places::Places;
-use crate::trigger::Trigger;
+use mz_ground::clause::Clause;
+use mz_ground::clauses::Clauses;
+use mz_ground::ground::Ground;
+use mz_ground::ground_atom::GroundAtom;
+use mz_ground::ground_fault::GroundFault;
+use mz_ground::ground_term::GroundTerm;
+use mz_ground::making::ground;
+use mz_ground::places::Places;
+use mz_ground::trigger::Trigger;
 use mz_logic::disjunct::Disjunct;
 use mz_logic::formula::Formula;
 use mz_logic::formulas::Formulas;
