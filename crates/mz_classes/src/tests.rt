@@ -162,8 +162,12 @@ fn classes_of_a_chain(rt: HostRuntime) {
         &[],
         &[],
     );
-    for (number, class) in [(0, 0), (1, 1), (2, 1), (3, 1), (4, 4)] {
-        assert_eq!(&rt; f.class_of(number), class, "{number}");
+    let count = f.ground().terms.len();
+    assert_eq!(&rt; count, 5);
+    for (number, class) in [(0u32, 0), (1, 1), (2, 1), (3, 1), (4, 4)] {
+        if (number as usize) < f.ground().terms.len() {
+            assert_eq!(&rt; f.class_of(number), class, "{number}");
+        }
     }
     let classes: [&[u32]; 6] = [&[0], &[1, 2, 3], &[], &[], &[4], &[]];
     for (class, wanted) in (0u32..6).zip(classes) {
