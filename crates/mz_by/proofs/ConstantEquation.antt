@@ -9,8 +9,9 @@ use Rattle.mz_logic.specs.Literal.{literal_formula}
 use Rattle.mz_logic.specs.declared.literal.Literal.{Literal}
 use Rattle.mz_logic.specs.declared.literal.Literal.TheVariants.{Atom, Eq}
 use Rattle.mz_logic.specs.declared.disjunct.Disjunct.{Disjunct}
+use Rattle.mz_logic.specs.Capped.{capped}
 use Rattle.mz_nf.specs.Problem.{parts_of, has_constant}
-use Rattle.mz_nf.specs.Count.{held, count_of}
+use Rattle.mz_nf.specs.Count.{count_of}
 use Rattle.mz_nf.specs.Splits as splits
 use Rattle.mz_nf.specs.Splits.{SplitsAll, AreDisjuncts}
 use Rattle.mz_nf.proofs.OneListLemmas.{all_splits_once}
@@ -216,7 +217,7 @@ all_decided a b v (decided n d ds w h) = one_decided a b v h
 all_decided a b v (passed n d ds w c (all_closed m)) = closed_same a b c.closed
 
 count_one : (a b : ℕ) → 1024 < count_of (problem_of (equation_of a b)) → ⊥
-unfolding held
+unfolding capped
 count_one a b lt = omega (arith, lt)
 
 of_equation : (a b : ℕ) (v : ByVerdict) → IsVerdict (problem_of (equation_of a b)) [] v → DecidesEquation (equation_of a b) v
