@@ -1,4 +1,4 @@
-//! A made library of valid articles, for trials of any size.
+//! A made library, for trials of any size.
 #![tactic(auto)]
 
 pub mod made;

@@ -163,7 +163,7 @@ fn made_files(alloc: Global, n: u32) -> Result<FileList, AllocError>
     Ok(files)
 }
 
-/// A shelf with n made articles, each of them valid.
+/// A shelf with n made articles.
 pub fn generate(alloc: Global, n: u32) -> Result<QuietShelf, AllocError>
     requires { (1 ≤ n) × (n ≤ 512) }
     ensures files { IfOk result (λ shelf. AreMadeFiles n shelf.files) }

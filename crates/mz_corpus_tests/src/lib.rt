@@ -1,0 +1,11 @@
+//! Tests of `mz_corpus`.
+#![tactic(auto)]
+
+#[cfg(test)]
+mod gathering;
+#[cfg(test)]
+mod limits;
+#[cfg(test)]
+mod orders;
+#[cfg(test)]
+mod reading;
