@@ -1,5 +1,4 @@
 //! Reports on a few articles.
-use crate::report::report;
 use mz_base::name::Name;
 use mz_base::names::Names;
 use mz_base::place::Place;
@@ -7,6 +6,7 @@ use mz_base::rule_code::RuleCode;
 use mz_core::fault::{Fault, Faults};
 use mz_core::verdict::{Counts, Entry, Verdict, Verdicts};
 use mz_corpus::ordering::Ordering;
+use mz_report::report::report;
 use std::alloc::Global;
 use std::process::Abort;
 
@@ -86,5 +86,41 @@ fn reports_faults(rt: HostRuntime) {
     assert_eq!(rt;
         text.as_slice(),
         b"A14 rejected 2 faults\n  2:41 61 open 1\n  3:42 61 open 1\nB14 blocked by A14\ntotal 0 accepted, 1 rejected, 1 blocked, 0 cyclic, 0 missing\n".as_slice()
+    );
+}
+
+/// An accepted article with all counts, a rejected one whose fault has no number, and a missing one.
+#[test]
+fn reports_counts_and_missing_articles(rt: HostRuntime) {
+    let mut accepted = entry(rt.alloc(), named(&rt, "SUBV"), Verdict::Accepted);
+    accepted.counts = Counts {
+        theorems: 2,
+        definitions: 1,
+        registrations: 4,
+        schemes: 3,
+    };
+    let mut rejected = entry(rt.alloc(), named(&rt, "X16"), Verdict::Rejected);
+    let fault = Fault {
+        place: Place {
+            line: 1,
+            column: 65,
+        },
+        code: RuleCode::EndsEarly,
+        number: Some(7),
+    };
+    rejected.faults.push(fault).expect(&rt, "memory");
+    let mut items = Vec::new(rt.alloc());
+    let missing = entry(rt.alloc(), named(&rt, "NOFILE"), Verdict::Missing);
+    items.push(rejected).expect(&rt, "memory");
+    items.push(missing).expect(&rt, "memory");
+    items.push(accepted).expect(&rt, "memory");
+    let order = names(&rt, rt.alloc(), &["NOFILE", "SUBV", "X16"]);
+    let rest = Names::new(rt.alloc());
+    let text = report(rt.alloc(), &Ordering { order, rest }, &Verdicts { items }).expect(
+        &rt, "memory",
+    );
+    assert_eq!(rt;
+        text.as_slice(),
+        b"NOFILE missing\nSUBV accepted 2 theorems, 1 definitions, 4 registrations, 3 schemes\nX16 rejected 1 faults\n  1:65 16 ends early\ntotal 1 accepted, 1 rejected, 0 blocked, 0 cyclic, 1 missing\n".as_slice()
     );
 }
