@@ -1,0 +1,2 @@
+pub mod FirstTheorem
+pub mod Rejecting
