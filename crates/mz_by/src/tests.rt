@@ -1,4 +1,4 @@
-// Small problems with their verdicts, worked out by hand from the rules.
+//! Small problems with their verdicts, worked out by hand from the rules.
 mod registrations;
 
 use crate::by::by;
@@ -14,8 +14,8 @@ use mz_nf::problem::Problem;
 use std::alloc::{AllocError, Global};
 use std::test::Fail;
 
-// Formulas are written in postfix notation. A digit is a constant; `x`, `y` and `z` are the indices 0 to 2; `f` is
-// a functor of one term. `P`, `Q` and `S` make an atom of one term, `E` one of two, `=` an equation; `T` is truth,
+// Formulas are written in postfix notation. A digit is a constant; `x`, `y`, `z` and `w` are the indices 0 to 3;
+// `f` is a functor of one term. `P`, `Q` and `S` make an atom of one term, `E` one of two, `=` an equation; `T` is truth,
 // `!` negation, `&` conjunction, `|` disjunction, `>` implication, `A` a quantifier. A problem is its premises and
 // then its conclusion, with blanks between.
 #[derive(Drop)]
@@ -100,6 +100,7 @@ impl Stack {
     fn put(&mut self, alloc: Global, c: u8) -> Result<(), AllocError> {
         match c {
             b'x'..=b'z' => self.terms.push(Term::bound(u32::from(c - b'x'))),
+            b'w' => self.terms.push(Term::bound(3)),
             b'0'..=b'9' => self.terms.push(Term::constant(u32::from(c - b'0'))),
             b'f' => self.apply(alloc),
             b'P' | b'Q' | b'S' | b'E' => self.atom(alloc, c),
@@ -135,7 +136,7 @@ fn verdict(alloc: Global, text: &str) -> Result<ByVerdict, AllocError> {
     by(alloc, &p, &Clauses::new(alloc))
 }
 
-const CLOSED: [&str; 25] = [
+const CLOSED: [&str; 26] = [
     // truth, and falsity among the premises
     "T",
     "T! 1P",
@@ -168,14 +169,17 @@ const CLOSED: [&str; 25] = [
     // both parts at one term; two values apart; one value
     "1P 2Q 12= xPxQ&!A T!",
     "12=! xy=AA T!",
+    // one constant for both variables of the premise, whose existential is refuted by the universal of the conclusion
+    "xyE xw=xz=|> xw=xz=| xyE> & A!A!AA xyE xz=xz=|> xz=xz=| xyE> & A!A!A",
 ];
 
-const OPEN: [(&str, u32); 14] = [
+const OPEN: [(&str, u32); 15] = [
     ("T!", 1),
     ("12=", 1),
     ("1P 2P", 1),
     ("1P2P| 2P", 1),
     ("2P1P| 2P", 2),
+    ("yy= yx= & AA", 2),
     // no instance is refuted by the facts
     ("xPA 1Q", 1),
     ("1P xPA", 1),

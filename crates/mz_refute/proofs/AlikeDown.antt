@@ -1,34 +1,25 @@
 -- Terms that are alike by rows are alike by the facts.
-use Rattle.std.proofs.Common.{◌≡◌, ◌<◌, ◌≤◌, ◌⊎◌, inl, inr, ℕ, zero, suc, List, [], ◌∷◌, length, map, refl, arith, ap, sym, ◌∙◌, subst, Bool, true, false, get_or, eqb-true}
-use Rattle.std.specs.Prelude.{◌-◌, ◌+◌, ◌&&◌, not, Contains, slice_get, Some, None}
-use Rattle.std.specs.List.{AllByRecursion, list_all}
-use Rattle.std.proofs.lemmas.Bool.Decides.{leb_tells}
+use Rattle.std.proofs.Common.{◌≡◌, inl, inr, ℕ, List, length, map, refl, arith, ap, sym, ◌∙◌, subst, Bool, true}
+use Rattle.std.specs.Prelude.{◌+◌, not}
 use Rattle.mz_logic.specs.declared.sym.Sym.{Sym}
-use Rattle.mz_logic.specs.Sym.{same_sym}
 use Rattle.mz_logic.specs.Term as term
 use Rattle.mz_logic.specs.Term.{Term, Terms, Bound, Const, App, list_of, terms_of}
-use Rattle.mz_logic.specs.TermStorage.{list_of-terms_of, terms_of-list_of, terms_of-inj}
-use Rattle.mz_logic.specs.Indices.{closed, args_below}
-use Rattle.mz_logic.specs.Negation.{negated}
+use Rattle.mz_logic.specs.TermStorage.{list_of-terms_of, terms_of-list_of}
+use Rattle.mz_logic.specs.Indices.{closed}
 use Rattle.mz_logic.specs.Formula as form
 use Rattle.mz_logic.specs.Formula.{Formula}
-use Rattle.mz_logic.specs.declared.literal.Literal.TheVariants.{Atom, Eq}
 use Rattle.mz_logic.specs.declared.disjunct.Disjunct.{Disjunct}
 use Rattle.mz_ground.specs.declared.clause.Clause.{Clause}
-use Rattle.mz_ground.specs.Piece.{Has, TermPiece, IsWithin, whole, in_atom, in_left, in_right, in_negation, in_first, in_second, in_body}
-use Rattle.mz_ground.specs.Layers.{IsGroundTerm}
-use Rattle.mz_ground.specs.Facts.{Fact, itself}
-use Rattle.mz_refute.specs.Valued.{IsValued, AreValued, as_ground, by_arguments, no_values, and_values}
-use Rattle.mz_refute.specs.Alike.{plain, AreAlike, as_written, in_value, one_index, one_symbol, AllAlike, no_terms, and_terms, AreAlikeFormulas, truths, equations, atoms, negations, conjunctions, universals}
-use Rattle.mz_refute.specs.declared.row.Head.{Head}
-use Rattle.mz_refute.specs.declared.row.Row.{Row}
-use Rattle.mz_refute.specs.Rows.{SomeOf, Val, Vals}
-use Rattle.mz_refute.specs.RowsAlike.{IsIndex, AlikeTerm, AlikeTerms, AlikeFormula}
-use Rattle.mz_refute.specs.Tabled.{IsTabled, StandsFor}
-use Rattle.mz_refute.proofs.AtTerms.{at_term, at_args, at_formula, at_list, at_map, at_inner, at_free, at_closed}
+use Rattle.mz_refute.specs.Valued.{IsValued}
+use Rattle.mz_refute.specs.Alike.{plain, AreAlike, in_value, one_index, one_symbol, AllAlike, no_terms, and_terms, AreAlikeFormulas, truths, equations, atoms, conjunctions, universals}
+use Rattle.mz_search.specs.declared.row.Head.{Head}
+use Rattle.mz_search.specs.declared.row.Row.{Row}
+use Rattle.mz_search.specs.RowsAlike.{IsIndex, AlikeTerm, AlikeTerms, AlikeFormula}
+use Rattle.mz_refute.specs.Tabled.{IsTabled}
+use Rattle.mz_refute.proofs.AtTerms.{at_term, at_args, at_formula, at_list, at_inner, at_free, at_closed}
 use Rattle.mz_refute.proofs.TableDown.{AllStand, stand_length, OneTermFor, one_down, constant_class, functor_class}
 use Rattle.mz_refute.proofs.Signs.{signed_plain, signed_not, are_alike_signed}
-use Rattle.mz_refute.proofs.SymbolLaws.{same_sym-true}
+use Rattle.mz_search.proofs.SymbolLaws.{same_sym-true}
 
 index_down : (d : Disjunct) (cs : List Clause) (class : Term → ℕ) (depth : ℕ) (a : List ℕ) (ts : List Term) → AllStand d cs class a ts → (t : Term) (j : ℕ) → IsIndex depth a t j → AreAlike d cs (at_term depth ts t) (Bound j)
 index_down d cs class depth a ts all (Bound i) j h =

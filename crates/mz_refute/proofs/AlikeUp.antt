@@ -1,36 +1,31 @@
 -- Terms that are alike by the facts are alike by rows.
-use Rattle.std.proofs.Common.{◌≡◌, ◌<◌, ◌≤◌, ◌⊎◌, inl, inr, ℕ, zero, suc, List, [], ◌∷◌, length, map, refl, arith, ap, sym, ◌∙◌, subst, Bool, true, false, get_or, eqb-true}
-use Rattle.std.specs.Prelude.{◌-◌, ◌+◌, ◌&&◌, not, Contains, slice_get, Some, None}
-use Rattle.std.specs.List.{AllByRecursion, list_all}
+use Rattle.std.proofs.Common.{◌≡◌, ◌⊎◌, inl, inr, ℕ, suc, List, [], ◌∷◌, length, map, refl, arith, ap, sym, ◌∙◌, subst, Bool, true, false, get_or}
+use Rattle.std.specs.Prelude.{◌-◌, ◌+◌, not}
 use Rattle.std.proofs.lemmas.Bool.Decides.{leb_tells}
 use Rattle.mz_logic.specs.declared.sym.Sym.{Sym}
-use Rattle.mz_logic.specs.Sym.{same_sym}
 use Rattle.mz_logic.specs.Term as term
 use Rattle.mz_logic.specs.Term.{Term, Terms, Bound, Const, App, list_of, terms_of}
 use Rattle.mz_logic.specs.TermStorage.{list_of-terms_of, terms_of-list_of, terms_of-inj}
 use Rattle.mz_logic.specs.Indices.{closed, args_below}
-use Rattle.mz_logic.specs.Negation.{negated}
 use Rattle.mz_logic.specs.Formula as form
 use Rattle.mz_logic.specs.Formula.{Formula}
-use Rattle.mz_logic.specs.declared.literal.Literal.TheVariants.{Atom, Eq}
 use Rattle.mz_logic.specs.declared.disjunct.Disjunct.{Disjunct}
 use Rattle.mz_ground.specs.declared.clause.Clause.{Clause}
-use Rattle.mz_ground.specs.Piece.{Has, TermPiece, IsWithin, whole, in_atom, in_left, in_right, in_negation, in_first, in_second, in_body}
+use Rattle.mz_ground.specs.Piece.{Has, TermPiece, whole, in_atom, in_left, in_right, in_negation, in_first, in_second, in_body}
 use Rattle.mz_ground.specs.Layers.{IsGroundTerm}
-use Rattle.mz_ground.specs.Facts.{Fact, itself}
-use Rattle.mz_refute.specs.Valued.{IsValued, AreValued, as_ground, by_arguments, no_values, and_values}
+use Rattle.mz_refute.specs.Valued.{IsValued}
 use Rattle.mz_refute.specs.Alike.{plain, AreAlike, as_written, in_value, one_index, one_symbol, AllAlike, no_terms, and_terms, AreAlikeFormulas, truths, equations, atoms, negations, conjunctions, universals}
-use Rattle.mz_refute.specs.declared.row.Head.{Head}
-use Rattle.mz_refute.specs.declared.row.Row.{Row}
-use Rattle.mz_refute.specs.Rows.{SomeOf, Val, Vals}
-use Rattle.mz_refute.specs.RowsAlike.{IsIndex, AlikeTerm, AlikeTerms, AlikeFormula}
-use Rattle.mz_refute.specs.Tabled.{IsTabled, StandsFor}
-use Rattle.mz_refute.proofs.GroundLaws.{AllGround, ground_closed, all_closed_args, all_closed}
-use Rattle.mz_refute.proofs.ValueLaws.{value_self, value_closed, alike_closed, all_alike_closed, alike_value, IsFilled, AreFilled, filled_args, filled_first, filled_rest}
-use Rattle.mz_refute.proofs.AtTerms.{at_term, at_args, at_formula, at_list, at_map, at_inner, at_outer, at_free, at_closed}
+use Rattle.mz_search.specs.declared.row.Head.{Head}
+use Rattle.mz_search.specs.declared.row.Row.{Row}
+use Rattle.mz_search.specs.Rows.{Val}
+use Rattle.mz_search.specs.RowsAlike.{IsIndex, AlikeTerm, AlikeTerms, AlikeFormula}
+use Rattle.mz_refute.specs.Tabled.{IsTabled}
+use Rattle.mz_refute.proofs.GroundLaws.{AllGround, ground_closed, all_closed}
+use Rattle.mz_refute.proofs.ValueLaws.{value_self, value_closed, alike_closed, alike_value, IsFilled, AreFilled, filled_args, filled_first, filled_rest}
+use Rattle.mz_refute.proofs.AtTerms.{at_term, at_args, at_formula, at_list, at_inner, at_outer, at_free, at_closed}
 use Rattle.mz_refute.proofs.TableUp.{val_up, map_length, ground_at}
 use Rattle.mz_refute.proofs.Signs.{signed_plain, signed_not, signed_parts}
-use Rattle.mz_refute.proofs.SymbolLaws.{sym-same}
+use Rattle.mz_search.proofs.SymbolLaws.{sym-same}
 
 bound_inj : (i j : ℕ) → Bound i ≡ Bound j → i ≡ j
 bound_inj i j e = cc

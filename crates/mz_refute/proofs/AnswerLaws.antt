@@ -1,17 +1,17 @@
 -- An answer by rows is an answer by the facts.
-use Rattle.std.proofs.Common.{◌≡◌, ◌<◌, ◌≤◌, ℕ, List, [], refl, true, subst, sym}
+use Rattle.std.proofs.Common.{ℕ, List, true, subst, sym}
 use Rattle.mz_logic.specs.Term.{Term}
 use Rattle.mz_logic.specs.Formula.{Formula}
 use Rattle.mz_logic.specs.declared.disjunct.Disjunct.{Disjunct}
 use Rattle.mz_ground.specs.declared.clause.Clause.{Clause}
 use Rattle.mz_refute.specs.declared.answer.Answer.{Answer}
 use Rattle.mz_refute.specs.declared.answer.Answer.TheVariants.{Yes, No, Over}
-use Rattle.mz_refute.specs.declared.row.Head.{Head}
-use Rattle.mz_refute.specs.declared.row.Row.{Row}
+use Rattle.mz_search.specs.declared.row.Head.{Head}
+use Rattle.mz_search.specs.declared.row.Row.{Row}
 use Rattle.mz_refute.specs.Answered.{IsAnswer}
 use Rattle.mz_refute.specs.RowsWork.{rows_work, RowsAnswer}
 use Rattle.mz_refute.specs.Tabled.{IsTabled, IsCounted}
-use Rattle.mz_refute.specs.Work.{IsWork, most_work}
+use Rattle.mz_refute.specs.Work.{IsWork}
 use Rattle.mz_refute.proofs.RefutedDown.{refuted_by_rows}
 use Rattle.mz_refute.proofs.RefutedUp.{rows_by_refuted}
 use Rattle.mz_refute.proofs.WorkLaws.{work_by_rows}

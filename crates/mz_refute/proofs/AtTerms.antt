@@ -1,6 +1,6 @@
 -- Ground terms for all variables at once, and one after the other.
 use Rattle.std.specs.Prelude.{◌-◌}
-use Rattle.std.proofs.Common.{◌≡◌, ◌<◌, ◌≤◌, ◌+◌, ℕ, List, [], ◌∷◌, map, length, refl, arith, ap, true, get_or}
+use Rattle.std.proofs.Common.{◌≡◌, ◌<◌, ◌≤◌, ◌+◌, ℕ, List, map, length, refl, arith, ap, true, get_or}
 use Rattle.std.specs.List.{list_all}
 use Rattle.mz_logic.specs.Term as term
 use Rattle.mz_logic.specs.Term.{Term, Terms, Bound, terms_of, list_of}

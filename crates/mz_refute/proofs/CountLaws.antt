@@ -1,7 +1,6 @@
 -- A table with the entries of facts counts them.
-use Rattle.std.proofs.Common.{◌≡◌, ◌<◌, ◌≤◌, ◌+◌, ◌⊎◌, inl, inr, ℕ, zero, suc, List, [], ◌∷◌, ◌++◌, map, length, refl, arith, ap, sym, ◌∙◌, subst, Bool, true, false}
-use Rattle.std.specs.Prelude.{slice_get, slice_index, slice_index_or, Some, None, Contains, AllPairs, ◌≢◌, ◌↔◌, ◌&&◌, if◌then◌else◌}
-use Rattle.std.proofs.lemmas.List.{length-append}
+use Rattle.std.proofs.Common.{◌≡◌, ◌<◌, ◌+◌, ◌⊎◌, inl, inr, ℕ, zero, suc, List, [], ◌∷◌, ◌++◌, map, length, refl, arith, ap, sym, ◌∙◌, subst, Bool, true, false}
+use Rattle.std.specs.Prelude.{slice_get, slice_index, slice_index_or, Some, Contains, AllPairs, ◌≢◌, ◌&&◌, if◌then◌else◌}
 use Rattle.mz_logic.specs.declared.sym.Sym.{Sym}
 use Rattle.mz_logic.specs.Sym.{same_sym}
 use Rattle.mz_logic.specs.Term.{Term}
@@ -13,28 +12,27 @@ use Rattle.mz_ground.specs.declared.ground_term.GroundTerm.{GroundTerm}
 use Rattle.mz_ground.specs.declared.ground_term.GroundTerm.TheVariants as node
 use Rattle.mz_ground.specs.declared.ground_atom.GroundAtom.{GroundAtom}
 use Rattle.mz_ground.specs.declared.ground_equation.GroundEquation.{GroundEquation}
-use Rattle.mz_ground.specs.Piece.{Piece, AtomPiece, EquationPiece}
-use Rattle.mz_ground.specs.Layers.{IsGroundTerm, IsGroundPiece}
-use Rattle.mz_ground.specs.Ground.{IsGround, ground_terms, term_at, atom_piece, equation_piece}
+use Rattle.mz_ground.specs.Piece.{AtomPiece, EquationPiece}
+use Rattle.mz_ground.specs.Ground.{ground_terms, term_at, atom_piece, equation_piece}
 use Rattle.mz_ground.specs.Facts.{Fact}
 use Rattle.mz_refute.specs.Counted.{IsCount}
 use Rattle.mz_refute.specs.Work.{IsSigned, IsApart}
 use Rattle.mz_refute.specs.Entries.{Entry, term_entry, term_entries, sign_entry, atom_entries, equation_entries, rows_for, row_pair, HasEntries}
 use Rattle.mz_refute.specs.Held.{AreHeld, entries_of}
-use Rattle.mz_refute.specs.Heads.{same_head}
-use Rattle.mz_refute.specs.Rows.{SomeOf}
-use Rattle.mz_refute.specs.Table.{rows_of}
+use Rattle.mz_search.specs.Heads.{same_head}
+use Rattle.mz_search.specs.Rows.{SomeOf}
+use Rattle.mz_search.specs.Table.{rows_of}
 use Rattle.mz_refute.specs.Tabled.{IsCounted}
-use Rattle.mz_refute.specs.declared.row.Head.{Head}
-use Rattle.mz_refute.specs.declared.row.Head.TheVariants.{Constant, Functor, Holds, Fails, Differ}
-use Rattle.mz_refute.specs.declared.table.Table.{Table}
-use Rattle.mz_refute.proofs.AlikeLemmas.{and_cases, and_true}
-use Rattle.mz_refute.proofs.SymbolLaws.{same_sym-true, sym-same}
+use Rattle.mz_search.specs.declared.row.Head.{Head}
+use Rattle.mz_search.specs.declared.row.Head.TheVariants.{Constant, Functor, Holds, Fails, Differ}
+use Rattle.mz_search.specs.declared.table.Table.{Table}
+use Rattle.mz_search.proofs.AlikeLemmas.{and_cases, and_true}
+use Rattle.mz_search.proofs.SymbolLaws.{same_sym-true, sym-same}
 use Rattle.mz_refute.proofs.TableDown.{some_in}
 use Rattle.mz_refute.proofs.RefutedUp.{some_of_member}
 use Rattle.mz_refute.proofs.ListLaws.{get_member, get_map, distinct_places, distinct_rest}
 use Rattle.mz_refute.proofs.PlaceLaws.{ground_length, ground_has, has_ground, has_equation}
-use Rattle.mz_refute.proofs.TabledLaws.{fact_atom, AtomPlace, atom_place, EquationPlace, equation_place}
+use Rattle.mz_refute.proofs.TabledLaws.{fact_atom, atom_place, equation_place}
 
 -- the images of the members with the flag that pass the test
 abbrev picked : {X Y : Type 0} → (X → Y) → (X → Bool) → List Bool → List X → List Y

@@ -1,8 +1,8 @@
 -- A row that stands among others.
-use Rattle.std.proofs.Common.{◌≡◌, ◌<◌, ◌⊎◌, inl, inr, ℕ, zero, suc, List, [], ◌∷◌, map, length, get_or, refl, ap, sym, ◌∙◌, arith}
-use Rattle.mz_refute.specs.Rows.{SomeOf}
+use Rattle.std.proofs.Common.{◌≡◌, ◌<◌, inl, inr, ℕ, zero, suc, List, [], ◌∷◌, map, length, get_or, ap, sym, ◌∙◌, arith}
+use Rattle.mz_search.specs.Rows.{SomeOf}
 use Rattle.mz_refute.specs.Entries.{row_pair}
-use Rattle.mz_refute.specs.declared.row.Row.{Row}
+use Rattle.mz_search.specs.declared.row.Row.{Row}
 
 some_at : (rs : List Row) (i : ℕ) (d : Row) (p : List ℕ × ℕ) → i < length rs → row_pair (get_or rs i d) ≡ p → SomeOf (λ x. x ≡ p) (map row_pair rs)
 some_at [] i d p lt e = absurd (omega arith)

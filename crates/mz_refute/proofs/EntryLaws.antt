@@ -1,19 +1,18 @@
 -- The entries of a table, and its rows.
-use Rattle.std.proofs.Common.{◌≡◌, ◌<◌, ◌⊎◌, inl, inr, ℕ, zero, suc, List, [], ◌∷◌, ◌++◌, map, length, refl, arith, ap, sym, ◌∙◌, subst, Bool, true, false}
-use Rattle.std.specs.Prelude.{slice_get, slice_index, Some, None, Contains, if◌then◌else◌}
+use Rattle.std.proofs.Common.{◌≡◌, ◌⊎◌, inl, inr, ℕ, zero, suc, List, [], ◌∷◌, ◌++◌, map, length, refl, arith, ap, sym, subst, Bool, true, false}
+use Rattle.std.specs.Prelude.{slice_get, slice_index, Some, if◌then◌else◌}
 use Rattle.mz_ground.specs.declared.ground_term.GroundTerm.{GroundTerm}
 use Rattle.mz_ground.specs.declared.ground_atom.GroundAtom.{GroundAtom}
 use Rattle.mz_ground.specs.declared.ground_equation.GroundEquation.{GroundEquation}
-use Rattle.mz_refute.specs.Heads.{same_head}
-use Rattle.mz_refute.specs.Table.{rows_of}
-use Rattle.mz_refute.specs.Rows.{SomeOf}
+use Rattle.mz_search.specs.Heads.{same_head}
+use Rattle.mz_search.specs.Table.{rows_of}
+use Rattle.mz_search.specs.Rows.{SomeOf}
 use Rattle.mz_refute.specs.Entries.{Entry, term_entry, term_entries, sign_entry, atom_entries, equation_entries, rows_for, row_pair, HasEntries}
-use Rattle.mz_refute.specs.declared.row.Head.{Head}
-use Rattle.mz_refute.specs.declared.row.Head.TheVariants.{Constant, Functor, Holds, Fails, Differ}
-use Rattle.mz_refute.specs.declared.row.Row.{Row}
-use Rattle.mz_refute.specs.declared.table.Table.{Table}
+use Rattle.mz_search.specs.declared.row.Head.{Head}
+use Rattle.mz_search.specs.declared.row.Head.TheVariants.{Holds, Fails, Differ}
+use Rattle.mz_search.specs.declared.table.Table.{Table}
 use Rattle.mz_refute.proofs.RowLists.{rows_to, rows_back}
-use Rattle.mz_refute.proofs.SomeLemmas.{some_map, some_left, some_right, some_cases, into_map, out_of_map}
+use Rattle.mz_search.proofs.SomeLemmas.{some_left, some_right, some_cases, into_map, out_of_map}
 
 -- what the rows with a head are, by the entries
 if_first : (P : List ℕ × ℕ → Type 0) (p : List ℕ × ℕ) (ps : List (List ℕ × ℕ)) (b : Bool) → SomeOf P (if b then p ∷ ps else ps) → ((b ≡ true) × P p) ⊎ SomeOf P ps

@@ -1,11 +1,10 @@
 -- What stands in the ground part has no index, and its parts stand there too.
-use Rattle.std.proofs.Common.{◌≡◌, ◌<◌, ◌≤◌, ◌+◌, ℕ, zero, suc, List, [], ◌∷◌, ◌++◌, length, refl, arith, ap, sym, ◌∙◌, Bool, true, false, subst}
+use Rattle.std.proofs.Common.{◌≡◌, ◌<◌, ℕ, zero, suc, List, [], ◌∷◌, length, refl, arith, ap, sym, ◌∙◌, Bool, true, false, subst}
 use Rattle.std.specs.Prelude.{◌&&◌, Contains, slice_index_or}
 use Rattle.std.specs.List.{list_all, AllByRecursion}
 use Rattle.mz_logic.specs.declared.sym.Sym.{Sym}
-use Rattle.mz_logic.specs.Term as term
-use Rattle.mz_logic.specs.Term.{Term, Terms, Bound, Const, App, terms_of}
-use Rattle.mz_logic.specs.Indices.{closed, is_below, args_below}
+use Rattle.mz_logic.specs.Term.{Term, App, terms_of}
+use Rattle.mz_logic.specs.Indices.{closed, args_below}
 use Rattle.mz_logic.specs.Formula as form
 use Rattle.mz_logic.specs.Formula.{Formula}
 use Rattle.mz_logic.specs.Literal.{literal_formula}
@@ -15,7 +14,7 @@ use Rattle.mz_logic.specs.declared.disjunct.Disjunct.{Disjunct}
 use Rattle.mz_ground.specs.declared.clause.Clause.{Clause}
 use Rattle.mz_ground.specs.Instance.{conclusion_at}
 use Rattle.mz_ground.specs.Piece.{Piece, TermPiece, AtomPiece, EquationPiece, piece_closed, IsWithin, whole, argument, Has, the_atom, the_equation, in_atom, in_left, in_right, in_negation, in_first, in_second, in_body}
-use Rattle.mz_ground.specs.Layers.{InLayer, first_constant, of_literal, of_universal, earlier, added, IsGroundPiece, IsGroundTerm, IsGroundAtom, IsGroundLiteral, further_layers}
+use Rattle.mz_ground.specs.Layers.{InLayer, first_constant, of_literal, of_universal, earlier, added, IsGroundTerm, IsGroundLiteral, further_layers}
 use Rattle.mz_ground.specs.Facts.{Fact, given, itself, exchanged, chained, alike, carried, turned, fired}
 
 pub both_left : (a b : Bool) → (a && b) ≡ true → a ≡ true

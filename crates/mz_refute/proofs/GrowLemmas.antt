@@ -1,21 +1,21 @@
 -- The entries of a table that grows.
-use Rattle.std.proofs.Common.{◌≡◌, ◌<◌, ◌+◌, ◌⊎◌, inl, inr, ℕ, zero, suc, List, [], ◌∷◌, ◌++◌, map, take, length, refl, arith, ap, sym, ◌∙◌, subst, Bool, true, false, append-nil, append_assoc}
-use Rattle.std.specs.Prelude.{slice_get, slice_index, slice_index_or, Some, None, if◌then◌else◌}
+use Rattle.std.proofs.Common.{◌≡◌, ◌<◌, ◌+◌, ℕ, zero, suc, List, [], ◌∷◌, ◌++◌, map, take, length, refl, arith, ap, sym, ◌∙◌, subst, Bool, true, false, append-nil, append_assoc}
+use Rattle.std.specs.Prelude.{slice_get, slice_index, slice_index_or, Some, if◌then◌else◌}
 use Rattle.std.proofs.lemmas.List.{map-append}
 use Rattle.mz_ground.specs.declared.ground_term.GroundTerm.{GroundTerm}
 use Rattle.mz_ground.specs.declared.ground_atom.GroundAtom.{GroundAtom}
 use Rattle.mz_ground.specs.declared.ground_equation.GroundEquation.{GroundEquation}
 use Rattle.mz_refute.proofs.ListLaws.{index_get}
-use Rattle.mz_refute.proofs.HeadLemmas.{same_head-true}
-use Rattle.mz_refute.proofs.RowLists.{rows-append, rows-repeated}
-use Rattle.mz_refute.specs.Rows.{SomeOf}
-use Rattle.mz_refute.specs.Heads.{same_head}
-use Rattle.mz_refute.specs.Table.{rows_of, Grows}
+use Rattle.mz_search.proofs.HeadLemmas.{same_head-true}
+use Rattle.mz_refute.proofs.RowLists.{are_rows, rows-append, rows-repeated}
+use Rattle.mz_search.specs.Rows.{SomeOf}
+use Rattle.mz_search.specs.Heads.{same_head}
+use Rattle.mz_search.specs.Table.{rows_of, Grows}
 use Rattle.mz_refute.specs.Entries.{Entry, IsTermHead, AreRows, Grown, HasEntries, term_entry, term_entries, sign_entry, atom_entries, equation_entries, rows_for, row_pair}
-use Rattle.mz_refute.specs.declared.row.Head.{Head}
-use Rattle.mz_refute.specs.declared.row.Head.TheVariants.{Holds, Fails, Differ}
-use Rattle.mz_refute.specs.declared.row.Row.{Row}
-use Rattle.mz_refute.specs.declared.table.Table.{Table}
+use Rattle.mz_search.specs.declared.row.Head.{Head}
+use Rattle.mz_search.specs.declared.row.Head.TheVariants.{Holds, Fails, Differ}
+use Rattle.mz_search.specs.declared.row.Row.{Row}
+use Rattle.mz_search.specs.declared.table.Table.{Table}
 
 front : (b : Bool) (p : List ℕ × ℕ) (all xs ys : List (List ℕ × ℕ)) → all ≡ xs ++ ys → (if b then p ∷ all else all) ≡ (if b then p ∷ xs else xs) ++ ys
 front true p all xs ys e = ap (λ zs. p ∷ zs) e
@@ -147,6 +147,12 @@ pub told_equations : (first table next : Table) (classes : List ℕ) (bs : List 
 told_equations first table next classes bs es i b e x y z l k = equations_turn first table next classes bs es i b e x y (get_by_or bs i b l k) z
 
 pub ruleset turn_rules = (told_nothing, told_terms, told_atoms, told_equations)
+
+pub told_no_rows : (table : Table) → ((h : Head) → rows_of table h ≡ []) → HasEntries table []
+unfolding HasEntries
+told_no_rows table e h = are_rows h (map row_pair (rows_of table h)) [] (ap (map row_pair) (e h))
+
+pub ruleset empty_rules = (told_no_rows)
 
 -- a whole table
 pub told_table : (first second third last : Table) (xs ys zs : List Entry) → HasEntries first [] → Grown first second xs → Grown second third ys → Grown third last zs → HasEntries last (xs ++ (ys ++ zs))

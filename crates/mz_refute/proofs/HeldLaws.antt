@@ -1,15 +1,13 @@
 -- The lists taken of facts hold the facts.
-use Rattle.std.proofs.Common.{◌≡◌, ◌<◌, ℕ, Bool, true, false, List, map, length, refl, ap, sym, ◌∙◌, subst, arith, Option, Some, None}
-use Rattle.std.specs.Prelude.{◌↔◌, slice_index, slice_get}
+use Rattle.std.proofs.Common.{◌≡◌, ℕ, Bool, true, false, List, ap, sym, ◌∙◌, Option, Some, None}
+use Rattle.std.specs.Prelude.{◌↔◌, slice_get}
 use Rattle.std.proofs.lemmas.Option.{slice_get_within}
-use Rattle.mz_logic.specs.declared.literal.Literal.TheVariants.{Atom, Eq}
+use Rattle.mz_logic.specs.declared.literal.Literal.TheVariants.{Eq}
 use Rattle.mz_logic.specs.declared.disjunct.Disjunct.{Disjunct}
 use Rattle.mz_ground.specs.Ground.{ground_terms, term_at}
 use Rattle.mz_ground.specs.Facts.{Fact}
 use Rattle.mz_ground.specs.FactSet.{FactView, HasFacts}
 use Rattle.mz_ground.specs.declared.clause.Clause.{Clause}
-use Rattle.mz_ground.specs.declared.ground_atom.GroundAtom.{GroundAtom}
-use Rattle.mz_ground.specs.declared.ground_equation.GroundEquation.{GroundEquation}
 use Rattle.mz_refute.specs.Held.{AreHeld}
 use Rattle.mz_refute.specs.FactIndex.{AreClasses, AreSigns, AreDisequal}
 

@@ -13,7 +13,7 @@ use Rattle.mz_refute.specs.Entries.{HasEntries}
 use Rattle.mz_refute.specs.Held.{AreHeld, entries_of}
 use Rattle.mz_refute.specs.FactIndex.{IsFactIndex, AreClasses, AreSigns, AreDisequal}
 use Rattle.mz_refute.specs.RowsWork.{RowsAnswer}
-use Rattle.mz_refute.specs.Table.{rows_of}
+use Rattle.mz_search.specs.Table.{rows_of}
 use Rattle.mz_refute.specs.TermClass.{class_in}
 use Rattle.mz_refute.proofs.AnswerLaws.{answer_by_rows}
 use Rattle.mz_refute.proofs.HeldLaws.{held_facts}

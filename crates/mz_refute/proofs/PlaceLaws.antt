@@ -1,20 +1,20 @@
 -- Ground terms by their places, and their classes.
-use Rattle.std.proofs.Common.{◌≡◌, ◌<◌, ◌≤◌, ◌+◌, ◌⊎◌, inl, inr, ℕ, zero, suc, List, [], ◌∷◌, ◌++◌, map, length, take, refl, arith, ap, sym, ◌∙◌, subst, Bool, true, false}
-use Rattle.std.specs.Prelude.{slice_get, slice_index, Some, None, Option, Contains, AllPairs, ◌≢◌, ◌↔◌, if◌then◌else◌}
+use Rattle.std.proofs.Common.{◌≡◌, ◌<◌, ◌+◌, ◌⊎◌, inl, inr, ℕ, zero, suc, List, [], ◌∷◌, ◌++◌, map, length, take, refl, arith, ap, sym, ◌∙◌, subst, Bool, true, false}
+use Rattle.std.specs.Prelude.{slice_get, Some, Contains, AllPairs, ◌≢◌, if◌then◌else◌}
 use Rattle.std.proofs.lemmas.List.{take_all, length-append}
 use Rattle.mz_logic.specs.declared.sym.Sym.{Sym}
-use Rattle.mz_logic.specs.Term.{Term, Terms, Bound, Const, App, terms_of}
+use Rattle.mz_logic.specs.Term.{Term, App, terms_of}
 use Rattle.mz_logic.specs.declared.disjunct.Disjunct.{Disjunct}
 use Rattle.mz_ground.specs.declared.clause.Clause.{Clause}
 use Rattle.mz_ground.specs.declared.ground.Ground.{Ground}
 use Rattle.mz_ground.specs.declared.ground_term.GroundTerm.{GroundTerm}
 use Rattle.mz_ground.specs.declared.ground_term.GroundTerm.TheVariants as node
-use Rattle.mz_ground.specs.Piece.{Piece, TermPiece, AtomPiece, EquationPiece}
+use Rattle.mz_ground.specs.Piece.{Piece, AtomPiece, EquationPiece}
 use Rattle.mz_ground.specs.Layers.{IsGroundTerm, IsGroundPiece, further_layers}
 use Rattle.mz_ground.specs.Ground.{IsGround, ground_terms, terms_after, term_of_entry, term_at, term_or_zero, end_of, ground_atoms, ground_equations, atom_piece, equation_piece}
 use Rattle.mz_refute.specs.TermClass.{same_term, class_in}
 use Rattle.mz_refute.proofs.TermEquality.{same_term-true, same_term-self}
-use Rattle.mz_refute.proofs.ListLaws.{MemberAt, member_at, get_within, get_left, get_end, get_once, get_member, member_get, map_equal, map_get, ComesFrom, get_map, distinct_places, distinct_rest}
+use Rattle.mz_refute.proofs.ListLaws.{member_at, get_left, get_end, get_member, map_equal, distinct_places, distinct_rest}
 
 length_after : (before : List Term) (es : List GroundTerm) → length (terms_after before es) ≡ length before + length es
 length_after before [] = omega arith

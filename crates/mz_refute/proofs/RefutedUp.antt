@@ -1,35 +1,30 @@
 -- What the facts refute, rows refute.
-use Rattle.std.proofs.Common.{◌≡◌, ◌⊎◌, inl, inr, ℕ, zero, suc, List, [], ◌∷◌, length, map, refl, arith, ap, sym, ◌∙◌, subst, Bool, true, false}
-use Rattle.std.specs.Prelude.{◌+◌, ◌<◌, not, Contains, slice_index_or}
-use Rattle.std.specs.List.{list_all}
+use Rattle.std.proofs.Common.{◌≡◌, inl, inr, ℕ, zero, suc, List, [], ◌∷◌, length, map, arith, sym, subst, Bool, true, false}
+use Rattle.std.specs.Prelude.{◌<◌, not, Contains, slice_index_or}
 use Rattle.mz_logic.specs.declared.sym.Sym.{Sym}
-use Rattle.mz_logic.specs.Term as term
-use Rattle.mz_logic.specs.Term.{Term, Terms, Bound, Const, App, terms_of}
-use Rattle.mz_logic.specs.Indices.{closed}
+use Rattle.mz_logic.specs.Term.{Term, terms_of}
 use Rattle.mz_logic.specs.Formula as form
 use Rattle.mz_logic.specs.Formula.{Formula}
-use Rattle.mz_logic.specs.Substitution.{body_at, substitute_formula, value_at}
-use Rattle.mz_logic.specs.declared.literal.Literal.TheVariants.{Atom, Eq}
+use Rattle.mz_logic.specs.declared.literal.Literal.TheVariants.{Atom}
 use Rattle.mz_logic.specs.declared.disjunct.Disjunct.{Disjunct}
 use Rattle.mz_ground.specs.declared.clause.Clause.{Clause}
-use Rattle.mz_ground.specs.Piece.{Has, TermPiece}
-use Rattle.mz_ground.specs.Layers.{InLayer, of_universal, earlier, IsGroundTerm}
-use Rattle.mz_ground.specs.Facts.{Fact, turned}
-use Rattle.mz_refute.specs.Valued.{IsValued, AreValued}
-use Rattle.mz_refute.specs.Alike.{plain, AreAlikeFormulas}
+use Rattle.mz_ground.specs.Piece.{TermPiece}
+use Rattle.mz_ground.specs.Layers.{of_universal, earlier}
+use Rattle.mz_ground.specs.Facts.{Fact}
+use Rattle.mz_refute.specs.Valued.{AreValued}
 use Rattle.mz_refute.specs.Refuted.{IsRefuted, falsity, atom, equation, disequation, negation, first, second, both, at_term, listed}
-use Rattle.mz_refute.specs.declared.row.Head.{Head}
-use Rattle.mz_refute.specs.declared.row.Head.TheVariants.{Constant, Functor, Holds, Fails, Differ}
-use Rattle.mz_refute.specs.declared.row.Row.{Row}
-use Rattle.mz_refute.specs.Rows.{SomeOf, Vals, RowOn}
-use Rattle.mz_refute.specs.RowsAlike.{AlikeFormula}
-use Rattle.mz_refute.specs.RowsRefuted.{RowsRefute}
-use Rattle.mz_refute.specs.Tabled.{IsTabled, StandsFor}
-use Rattle.mz_refute.proofs.SomeLemmas.{some_map}
+use Rattle.mz_search.specs.declared.row.Head.{Head}
+use Rattle.mz_search.specs.declared.row.Head.TheVariants.{Holds, Fails}
+use Rattle.mz_search.specs.declared.row.Row.{Row}
+use Rattle.mz_search.specs.Rows.{SomeOf, Vals, RowOn}
+use Rattle.mz_search.specs.RowsAlike.{AlikeFormula}
+use Rattle.mz_search.specs.RowsRefuted.{RowsRefute}
+use Rattle.mz_refute.specs.Tabled.{IsTabled}
+use Rattle.mz_search.proofs.SomeLemmas.{some_map}
 use Rattle.mz_refute.proofs.AtTerms as at
 use Rattle.mz_refute.proofs.AtTerms.{at_formula}
 use Rattle.mz_logic.proofs.ValueLaws.{substitute_formula-one_others, substitute_formula-no_values}
-use Rattle.mz_refute.proofs.GroundLaws.{AllGround, ground_closed, all_closed}
+use Rattle.mz_refute.proofs.GroundLaws.{AllGround}
 use Rattle.mz_refute.proofs.TableUp.{list_up, equal_up, sides_up}
 use Rattle.mz_refute.proofs.AlikeUp.{formula_up, FormulaFilled}
 

@@ -1,11 +1,10 @@
 -- Rows of terms up to repetition, and rows of facts.
-use Rattle.std.proofs.Common.{◌≡◌, ◌⊎◌, inl, inr, ℕ, List, [], ◌∷◌, ◌++◌, refl, sym, ◌∙◌, ap, subst}
-use Rattle.std.specs.Prelude.{◌↔◌}
-use Rattle.mz_refute.specs.Rows.{SomeOf}
+use Rattle.std.proofs.Common.{◌≡◌, inl, inr, ℕ, List, [], ◌∷◌, ◌++◌, refl, sym, ◌∙◌, ap, subst}
+use Rattle.mz_search.specs.Rows.{SomeOf}
 use Rattle.mz_refute.specs.Entries.{IsTermHead, HaveSameMembers, AreRows}
-use Rattle.mz_refute.specs.declared.row.Head.{Head}
-use Rattle.mz_refute.specs.declared.row.Head.TheVariants.{Constant, Functor, Holds, Fails, Differ}
-use Rattle.mz_refute.proofs.SomeLemmas.{some_map, some_left, some_right, some_cases}
+use Rattle.mz_search.specs.declared.row.Head.{Head}
+use Rattle.mz_search.specs.declared.row.Head.TheVariants.{Constant, Functor, Holds, Fails, Differ}
+use Rattle.mz_search.proofs.SomeLemmas.{some_map, some_left, some_right, some_cases}
 
 same_lists : (xs ys : List (List ℕ × ℕ)) → xs ≡ ys → HaveSameMembers xs ys
 same_lists xs ys e p = (λ h. subst (λ (zs : List (List ℕ × ℕ)). SomeOf (λ z. z ≡ p) zs) e h, λ h. subst (λ (zs : List (List ℕ × ℕ)). SomeOf (λ z. z ≡ p) zs) (sym e) h)

@@ -1,5 +1,5 @@
 -- Formulas with a sign, without double negations.
-use Rattle.std.proofs.Common.{◌≡◌, ◌∙◌, List, refl, ap, sym, subst, Bool, true, false}
+use Rattle.std.proofs.Common.{◌≡◌, List, refl, sym, subst, Bool, true, false}
 use Rattle.std.specs.Prelude.{not}
 use Rattle.mz_logic.specs.Negation.{negated}
 use Rattle.mz_logic.specs.Formula.{Formula, Truth, Eq, Atom, Not, And, All}

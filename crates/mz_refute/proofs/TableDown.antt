@@ -1,29 +1,26 @@
 -- What rows refute, the facts refute.
-use Rattle.std.proofs.Common.{◌≡◌, ◌<◌, ◌≤◌, ◌⊎◌, inl, inr, ℕ, zero, suc, List, [], ◌∷◌, length, map, refl, arith, ap, sym, ◌∙◌, subst, Bool, true, false, get_or, eqb-true}
-use Rattle.std.specs.Prelude.{◌-◌, ◌+◌, ◌&&◌, not, Contains, slice_get, Some, None}
-use Rattle.std.specs.List.{AllByRecursion, list_all}
+use Rattle.std.proofs.Common.{◌≡◌, inl, inr, ℕ, zero, suc, List, [], ◌∷◌, length, map, refl, ap, sym, ◌∙◌, subst, true, false, get_or, eqb-true}
+use Rattle.std.specs.Prelude.{◌-◌, Contains, slice_get, Some}
+use Rattle.std.specs.List.{list_all}
 use Rattle.mz_logic.specs.declared.sym.Sym.{Sym}
-use Rattle.mz_logic.specs.Sym.{same_sym}
 use Rattle.mz_logic.specs.Term as term
 use Rattle.mz_logic.specs.Term.{Term, Terms, Bound, Const, App, list_of, terms_of}
-use Rattle.mz_logic.specs.TermStorage.{list_of-terms_of, terms_of-list_of}
-use Rattle.mz_logic.specs.Indices.{closed, args_below}
-use Rattle.mz_logic.specs.Formula as form
-use Rattle.mz_logic.specs.Formula.{Formula}
-use Rattle.mz_logic.specs.declared.literal.Literal.TheVariants.{Atom, Eq}
+use Rattle.mz_logic.specs.TermStorage.{list_of-terms_of}
+use Rattle.mz_logic.specs.Indices.{closed}
+use Rattle.mz_logic.specs.declared.literal.Literal.TheVariants.{Eq}
 use Rattle.mz_logic.specs.declared.disjunct.Disjunct.{Disjunct}
 use Rattle.mz_ground.specs.declared.clause.Clause.{Clause}
 use Rattle.mz_ground.specs.Layers.{IsGroundTerm}
 use Rattle.mz_ground.specs.Facts.{Fact, itself}
-use Rattle.mz_refute.specs.Valued.{IsValued, AreValued, as_ground, by_arguments, no_values, and_values}
-use Rattle.mz_refute.specs.declared.row.Head.{Head}
-use Rattle.mz_refute.specs.declared.row.Head.TheVariants.{Constant, Functor, Holds, Fails, Differ}
-use Rattle.mz_refute.specs.declared.row.Row.{Row}
-use Rattle.mz_refute.specs.Rows.{SomeOf, IsNone, has_value, Val, Vals, RowOn, OneValue}
-use Rattle.mz_refute.specs.Tabled.{IsTabled, RowMeans, StandsFor}
-use Rattle.mz_refute.proofs.GroundLaws.{AllGround, member_head, member_tail, ground_closed, parts_ground, equal_ground, fact_ground, all_closed_args}
+use Rattle.mz_refute.specs.Valued.{IsValued, AreValued, by_arguments, no_values, and_values}
+use Rattle.mz_search.specs.declared.row.Head.{Head}
+use Rattle.mz_search.specs.declared.row.Head.TheVariants.{Constant, Functor, Differ}
+use Rattle.mz_search.specs.declared.row.Row.{Row}
+use Rattle.mz_search.specs.Rows.{SomeOf, IsNone, has_value, Val, Vals, RowOn, OneValue}
+use Rattle.mz_refute.specs.Tabled.{IsTabled, StandsFor}
+use Rattle.mz_refute.proofs.GroundLaws.{AllGround, member_head, member_tail, ground_closed, parts_ground, fact_ground}
 use Rattle.mz_refute.proofs.ValueLaws.{value_self, value_moves}
-use Rattle.mz_refute.proofs.AtTerms.{at_term, at_args, at_formula, at_list, at_map, at_outer}
+use Rattle.mz_refute.proofs.AtTerms.{at_term, at_list, at_outer}
 
 -- a member with what is said of some member
 pub some_in : {X : Type 0} (P : X → Type 0) (xs : List X) → SomeOf P xs → (x : X) × (Contains xs x × P x)

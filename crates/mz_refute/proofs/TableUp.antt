@@ -1,27 +1,25 @@
 -- What has a value by the facts has its class by rows.
-use Rattle.std.proofs.Common.{◌≡◌, ◌<◌, ◌≤◌, ◌⊎◌, inl, inr, ℕ, zero, suc, List, [], ◌∷◌, length, map, refl, arith, ap, sym, ◌∙◌, subst, Bool, true, false, get_or, eq-eqb}
-use Rattle.std.specs.Prelude.{◌-◌, ◌+◌, ◌&&◌, not, Contains, slice_get, Some, None}
-use Rattle.std.specs.List.{AllByRecursion, list_all}
+use Rattle.std.proofs.Common.{◌≡◌, ◌<◌, ◌⊎◌, inl, inr, ℕ, zero, suc, List, [], ◌∷◌, length, map, refl, arith, ap, sym, ◌∙◌, subst, true, false, get_or, eq-eqb}
+use Rattle.std.specs.Prelude.{◌-◌, ◌+◌, slice_get, Some}
 use Rattle.std.proofs.lemmas.Bool.Decides.{leb_tells}
-use Rattle.mz_logic.specs.declared.sym.Sym.{Sym}
 use Rattle.mz_logic.specs.Term as term
 use Rattle.mz_logic.specs.Term.{Term, Terms, Bound, Const, App, list_of, terms_of}
-use Rattle.mz_logic.specs.TermStorage.{list_of-terms_of, terms_of-list_of, terms_of-inj}
-use Rattle.mz_logic.specs.Indices.{closed, args_below}
-use Rattle.mz_logic.specs.declared.literal.Literal.TheVariants.{Atom, Eq}
+use Rattle.mz_logic.specs.TermStorage.{list_of-terms_of, terms_of-inj}
+use Rattle.mz_logic.specs.Indices.{closed}
+use Rattle.mz_logic.specs.declared.literal.Literal.TheVariants.{Eq}
 use Rattle.mz_logic.specs.declared.disjunct.Disjunct.{Disjunct}
 use Rattle.mz_ground.specs.declared.clause.Clause.{Clause}
 use Rattle.mz_ground.specs.Layers.{IsGroundTerm}
 use Rattle.mz_ground.specs.Facts.{Fact}
 use Rattle.mz_refute.specs.Valued.{IsValued, AreValued, as_ground, by_arguments, no_values, and_values}
-use Rattle.mz_refute.specs.declared.row.Head.{Head}
-use Rattle.mz_refute.specs.declared.row.Head.TheVariants.{Constant, Functor, Holds, Fails, Differ}
-use Rattle.mz_refute.specs.declared.row.Row.{Row}
-use Rattle.mz_refute.specs.Rows.{SomeOf, IsNone, has_value, Val, Vals, RowOn, OneValue}
+use Rattle.mz_search.specs.declared.row.Head.{Head}
+use Rattle.mz_search.specs.declared.row.Head.TheVariants.{Constant, Functor, Differ}
+use Rattle.mz_search.specs.declared.row.Row.{Row}
+use Rattle.mz_search.specs.Rows.{IsNone, has_value, Val, Vals, RowOn, OneValue}
 use Rattle.mz_refute.specs.Tabled.{IsTabled}
-use Rattle.mz_refute.proofs.SomeLemmas.{some_map}
-use Rattle.mz_refute.proofs.GroundLaws.{AllGround, ground_closed, all_closed}
-use Rattle.mz_refute.proofs.ValueLaws.{Parts, value_parts, ground_value, value_closed, value_ground}
+use Rattle.mz_search.proofs.SomeLemmas.{some_map}
+use Rattle.mz_refute.proofs.GroundLaws.{AllGround, all_closed}
+use Rattle.mz_refute.proofs.ValueLaws.{value_parts, ground_value, value_closed, value_ground}
 use Rattle.mz_refute.proofs.AtTerms.{at_term, at_args, at_list, at_inner, at_outer, at_free}
 
 pub map_length : (class : Term → ℕ) (ts : List Term) → length (map class ts) ≡ length ts

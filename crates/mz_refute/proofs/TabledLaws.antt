@@ -1,8 +1,8 @@
 -- A table with the entries of facts stands for them.
-use Rattle.std.proofs.Common.{◌≡◌, ◌<◌, ◌≤◌, ◌+◌, ◌⊎◌, inl, inr, ℕ, zero, suc, List, [], ◌∷◌, ◌++◌, map, length, refl, arith, ap, sym, ◌∙◌, subst, Bool, true, false}
-use Rattle.std.specs.Prelude.{slice_get, slice_index, Some, None, Contains, ◌↔◌}
+use Rattle.std.proofs.Common.{◌≡◌, ◌<◌, ◌⊎◌, inl, inr, ℕ, List, [], ◌∷◌, ◌++◌, map, length, refl, arith, ap, sym, ◌∙◌, subst, Bool, true, false}
+use Rattle.std.specs.Prelude.{slice_get, slice_index, Some, Contains}
 use Rattle.mz_logic.specs.declared.sym.Sym.{Sym}
-use Rattle.mz_logic.specs.Term.{Term, Terms, Bound, Const, App, terms_of}
+use Rattle.mz_logic.specs.Term.{Term, Terms, Const, App, terms_of}
 use Rattle.mz_logic.specs.TermStorage.{terms_of-inj}
 use Rattle.mz_logic.specs.declared.literal.Literal.{Literal}
 use Rattle.mz_logic.specs.declared.literal.Literal.TheVariants.{Atom, Eq}
@@ -13,27 +13,26 @@ use Rattle.mz_ground.specs.declared.ground_term.GroundTerm.{GroundTerm}
 use Rattle.mz_ground.specs.declared.ground_term.GroundTerm.TheVariants as node
 use Rattle.mz_ground.specs.declared.ground_atom.GroundAtom.{GroundAtom}
 use Rattle.mz_ground.specs.declared.ground_equation.GroundEquation.{GroundEquation}
-use Rattle.mz_ground.specs.Piece.{Piece, TermPiece, AtomPiece, EquationPiece}
-use Rattle.mz_ground.specs.Layers.{InLayer, first_constant, earlier, IsGroundTerm, IsGroundPiece, IsGroundLiteral, further_layers}
-use Rattle.mz_ground.specs.Ground.{IsGround, ground_terms, term_of_entry, term_at, ground_atoms, ground_equations, atom_piece, equation_piece}
-use Rattle.mz_ground.specs.Instance.{conclusion_at}
+use Rattle.mz_ground.specs.Piece.{TermPiece, AtomPiece, EquationPiece}
+use Rattle.mz_ground.specs.Layers.{first_constant, earlier, IsGroundTerm, IsGroundPiece, IsGroundLiteral}
+use Rattle.mz_ground.specs.Ground.{ground_terms, term_of_entry, term_at, ground_atoms, ground_equations, atom_piece, equation_piece}
 use Rattle.mz_ground.specs.Facts.{Fact, given, itself, exchanged, chained, alike, carried, turned, fired}
 use Rattle.mz_refute.specs.Entries.{Entry, term_entry, term_entries, atom_entries, equation_entries, row_pair, HasEntries}
 use Rattle.mz_refute.specs.Held.{AreHeld, entries_of}
-use Rattle.mz_refute.specs.Heads.{same_head}
-use Rattle.mz_refute.specs.Rows.{SomeOf}
-use Rattle.mz_refute.specs.Table.{rows_of}
+use Rattle.mz_search.specs.Heads.{same_head}
+use Rattle.mz_search.specs.Rows.{SomeOf}
+use Rattle.mz_search.specs.Table.{rows_of}
 use Rattle.mz_refute.specs.Tabled.{HeadMeans, RowMeans, StandsFor, IsTabled}
 use Rattle.mz_refute.specs.TermClass.{class_in}
-use Rattle.mz_refute.specs.declared.row.Head.{Head}
-use Rattle.mz_refute.specs.declared.row.Head.TheVariants.{Constant, Functor, Holds, Fails, Differ}
-use Rattle.mz_refute.specs.declared.row.Row.{Row}
-use Rattle.mz_refute.specs.declared.table.Table.{Table}
-use Rattle.mz_refute.proofs.SomeLemmas.{some_map, some_left, some_right, some_cases}
-use Rattle.mz_refute.proofs.HeadLemmas.{same_head-true, same_head-self}
-use Rattle.mz_refute.proofs.ListLaws.{MemberAt, member_at, get_within, get_once, get_index, index_get, get_member, member_get, get_map, map_get, map_same, find_place, some_get}
+use Rattle.mz_search.specs.declared.row.Head.{Head}
+use Rattle.mz_search.specs.declared.row.Head.TheVariants.{Constant, Functor, Holds, Fails, Differ}
+use Rattle.mz_search.specs.declared.row.Row.{Row}
+use Rattle.mz_search.specs.declared.table.Table.{Table}
+use Rattle.mz_search.proofs.SomeLemmas.{some_left, some_right, some_cases}
+use Rattle.mz_search.proofs.HeadLemmas.{same_head-true, same_head-self}
+use Rattle.mz_refute.proofs.ListLaws.{member_at, get_within, get_once, get_index, index_get, get_member, member_get, map_get, map_same, find_place, some_get}
 use Rattle.mz_refute.proofs.PlaceLaws.{ground_length, ground_entry, place_term, ground_has, place_ground, atom_has, equation_has, class_at}
-use Rattle.mz_refute.proofs.EntryLaws.{rows_found, rows_find, FromTerm, term_found, term_find, holds_entry, fails_entry, FromAtom, atom_found, holds_find, fails_find, differ_entry, FromEquation, equation_found, equation_find}
+use Rattle.mz_refute.proofs.EntryLaws.{rows_found, rows_find, term_found, term_find, holds_entry, fails_entry, atom_found, holds_find, fails_find, differ_entry, equation_found, equation_find}
 use Rattle.mz_refute.proofs.GroundLaws.{equal_ground}
 use Rattle.mz_refute.proofs.RefutedUp.{some_of_member}
 

@@ -1,11 +1,10 @@
 -- When two terms are one, and the class of a term in a list.
-use Rattle.std.proofs.Common.{◌≡◌, ◌<◌, ◌⊎◌, inl, inr, ℕ, zero, suc, List, [], ◌∷◌, length, refl, arith, ap, sym, ◌∙◌, subst, Bool, true, false, eqb-true, eq-eqb}
-use Rattle.std.specs.Prelude.{◌&&◌, nat_eq, if◌then◌else◌, slice_get, slice_index, Some, None}
+use Rattle.std.proofs.Common.{◌≡◌, refl, ap, true, eqb-true, eq-eqb}
 use Rattle.mz_logic.specs.Sym.{same_sym}
 use Rattle.mz_logic.specs.Term.{Term, Terms, Bound, Const, App, none, more}
-use Rattle.mz_refute.specs.TermClass.{same_term, same_terms, class_in}
-use Rattle.mz_refute.proofs.AlikeLemmas.{and_cases, and_true}
-use Rattle.mz_refute.proofs.SymbolLaws.{same_sym-true, sym-same}
+use Rattle.mz_refute.specs.TermClass.{same_term, same_terms}
+use Rattle.mz_search.proofs.AlikeLemmas.{and_cases, and_true}
+use Rattle.mz_search.proofs.SymbolLaws.{same_sym-true, sym-same}
 
 mutual
   pub same_term-true : (t u : Term) → same_term t u ≡ true → t ≡ u

@@ -1,13 +1,11 @@
 -- Values of terms, and terms that are alike.
 use Rattle.std.proofs.lemmas.Bool.Decides.{leb_tells}
-use Rattle.std.proofs.Common.{inl, inr, ◌≡◌, ℕ, zero, suc, List, [], ◌∷◌, length, refl, arith, ap, sym, ◌∙◌, Bool, true, false, subst}
-use Rattle.std.specs.Prelude.{◌&&◌, Contains}
+use Rattle.std.proofs.Common.{inl, inr, ◌≡◌, ℕ, suc, List, [], ◌∷◌, refl, arith, sym, ◌∙◌, true, subst}
+use Rattle.std.specs.Prelude.{Contains}
 use Rattle.mz_logic.specs.declared.sym.Sym.{Sym}
-use Rattle.mz_logic.specs.Term as term
-use Rattle.mz_logic.specs.Term.{Term, Terms, Bound, Const, App, terms_of}
-use Rattle.mz_logic.specs.TermStorage.{terms_of-inj}
+use Rattle.mz_logic.specs.Term.{Term, Terms, Bound, App, terms_of}
 use Rattle.mz_logic.specs.Indices.{closed, args_below}
-use Rattle.mz_logic.specs.declared.literal.Literal.TheVariants.{Atom, Eq}
+use Rattle.mz_logic.specs.declared.literal.Literal.TheVariants.{Eq}
 use Rattle.mz_logic.specs.declared.disjunct.Disjunct.{Disjunct}
 use Rattle.mz_ground.specs.declared.clause.Clause.{Clause}
 use Rattle.mz_ground.specs.Piece.{IsWithin, whole, argument}
@@ -16,7 +14,7 @@ use Rattle.mz_ground.specs.Facts.{Fact, itself, exchanged, chained, alike, AreEq
 use Rattle.mz_ground.specs.Facts as facts
 use Rattle.mz_refute.specs.Valued.{IsValued, as_ground, by_arguments, AreValued, no_values, and_values}
 use Rattle.mz_refute.specs.Alike.{AreAlike, as_written, in_value, one_index, one_symbol, AllAlike, no_terms, and_terms}
-use Rattle.mz_refute.proofs.GroundLaws.{both_left, both_right, member_head, member_tail, ground_closed, ground_part, AllGround, parts_ground, equal_ground}
+use Rattle.mz_refute.proofs.GroundLaws.{both_left, both_right, member_head, member_tail, ground_closed, AllGround, parts_ground, equal_ground}
 
 pub value_self : (d : Disjunct) (cs : List Clause) (t : Term) → IsGroundTerm d cs t → IsValued d cs t t
 value_self d cs t h = as_ground t t h (itself t h)

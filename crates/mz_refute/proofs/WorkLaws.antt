@@ -1,14 +1,12 @@
 -- The work that is counted over rows is the work.
-use Rattle.std.proofs.Common.{◌≡◌, ℕ, List, length, refl, Bool, true, false, subst, sym}
-use Rattle.std.specs.Prelude.{not, ◌+◌, ◌*◌}
-use Rattle.mz_logic.specs.declared.sym.Sym.{Sym}
+use Rattle.std.proofs.Common.{ℕ, List, length, Bool, true, false}
 use Rattle.mz_logic.specs.Formula as form
 use Rattle.mz_logic.specs.Formula.{Formula}
 use Rattle.mz_logic.specs.declared.disjunct.Disjunct.{Disjunct}
 use Rattle.mz_ground.specs.declared.clause.Clause.{Clause}
-use Rattle.mz_refute.specs.declared.row.Head.{Head}
-use Rattle.mz_refute.specs.declared.row.Head.TheVariants.{Holds, Fails, Differ}
-use Rattle.mz_refute.specs.declared.row.Row.{Row}
+use Rattle.mz_search.specs.declared.row.Head.{Head}
+use Rattle.mz_search.specs.declared.row.Head.TheVariants.{Holds, Fails, Differ}
+use Rattle.mz_search.specs.declared.row.Row.{Row}
 use Rattle.mz_refute.specs.RowsWork.{rows_work}
 use Rattle.mz_refute.specs.Tabled.{IsCounted}
 use Rattle.mz_refute.specs.Work.{IsWork, of_truth, of_atom, of_equation, of_disequation, of_negation, of_conjunction, of_negated_conjunction, of_universal, of_negated_universal}

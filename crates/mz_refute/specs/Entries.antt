@@ -1,17 +1,16 @@
 -- The entries of a table: what facts over a ground part it is made of.
-use Rattle.std.specs.Prelude.{◌≡◌, ◌↔◌, ℕ, zero, suc, ◌+◌, Bool, true, false, List, [], ◌∷◌, ◌++◌, map, slice_index, if◌then◌else◌}
-use Rattle.mz_ground.specs.declared.ground.Ground.{Ground}
+use Rattle.std.specs.Prelude.{◌≡◌, ◌↔◌, ℕ, Bool, true, false, List, [], ◌∷◌, ◌++◌, map, slice_index, if◌then◌else◌}
 use Rattle.mz_ground.specs.declared.ground_term.GroundTerm.{GroundTerm}
 use Rattle.mz_ground.specs.declared.ground_term.GroundTerm.TheVariants as node
 use Rattle.mz_ground.specs.declared.ground_atom.GroundAtom.{GroundAtom}
 use Rattle.mz_ground.specs.declared.ground_equation.GroundEquation.{GroundEquation}
-use Rattle.mz_refute.specs.Heads.{same_head}
-use Rattle.mz_refute.specs.Rows.{SomeOf}
-use Rattle.mz_refute.specs.Table.{rows_of}
-use Rattle.mz_refute.specs.declared.row.Head.{Head}
-use Rattle.mz_refute.specs.declared.row.Head.TheVariants.{Constant, Functor, Holds, Fails, Differ}
-use Rattle.mz_refute.specs.declared.row.Row.{Row}
-use Rattle.mz_refute.specs.declared.table.Table.{Table}
+use Rattle.mz_search.specs.Heads.{same_head}
+use Rattle.mz_search.specs.Rows.{SomeOf}
+use Rattle.mz_search.specs.Table.{rows_of}
+use Rattle.mz_search.specs.declared.row.Head.{Head}
+use Rattle.mz_search.specs.declared.row.Head.TheVariants.{Constant, Functor, Holds, Fails, Differ}
+use Rattle.mz_search.specs.declared.row.Row.{Row}
+use Rattle.mz_search.specs.declared.table.Table.{Table}
 
 pub record Entry : Type 0 where
   pub head : Head

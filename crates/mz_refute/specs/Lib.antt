@@ -4,15 +4,6 @@ pub mod Refuted
 pub mod Counted
 pub mod Work
 pub mod Closes
-pub mod Heads
-pub mod Table
-pub mod Rows
-pub mod RowsAlike
-pub mod RowsRefuted
-pub mod Matches
-pub mod Goals
-pub mod Frames
-pub mod Hopeless
 pub mod Tabled
 pub mod RowsWork
 pub mod Answered

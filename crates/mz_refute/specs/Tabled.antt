@@ -7,10 +7,10 @@ use Rattle.mz_logic.specs.declared.disjunct.Disjunct.{Disjunct}
 use Rattle.mz_ground.specs.declared.clause.Clause.{Clause}
 use Rattle.mz_ground.specs.Layers.{IsGroundTerm}
 use Rattle.mz_ground.specs.Facts.{Fact}
-use Rattle.mz_refute.specs.declared.row.Head.{Head}
-use Rattle.mz_refute.specs.declared.row.Head.TheVariants.{Constant, Functor, Holds, Fails, Differ}
-use Rattle.mz_refute.specs.declared.row.Row.{Row}
-use Rattle.mz_refute.specs.Rows.{SomeOf}
+use Rattle.mz_search.specs.declared.row.Head.{Head}
+use Rattle.mz_search.specs.declared.row.Head.TheVariants.{Constant, Functor, Holds, Fails, Differ}
+use Rattle.mz_search.specs.declared.row.Row.{Row}
+use Rattle.mz_search.specs.Rows.{SomeOf}
 use Rattle.mz_refute.specs.Counted.{IsCount}
 use Rattle.mz_refute.specs.Work.{IsSigned, IsApart}
 

@@ -2,15 +2,15 @@
 ghost use Rattle.std.specs.Prelude.{◌≡◌, ◌++◌, ◌∷◌, ◌<◌, [], Bool, List, ℕ, IfOk, OnOk, length, map, slice_index};
 ghost use Rattle.mz_refute.specs.Entries.{Grown, HasEntries, term_entry, term_entries, atom_entries, equation_entries, sign_entry};
 ghost use Rattle.mz_refute.specs.Held.{entries_of};
-ghost use Rattle.mz_refute.specs.declared.row.Head.TheVariants.{Holds, Fails, Differ};
+ghost use Rattle.mz_search.specs.declared.row.Head.TheVariants.{Holds, Fails, Differ};
 
 use crate::distinct::add_distinct;
-use crate::row::{Head, Row};
-use crate::table::Table;
 use mz_ground::ground::Ground;
 use mz_ground::ground_atom::GroundAtom;
 use mz_ground::ground_equation::GroundEquation;
 use mz_ground::ground_term::GroundTerm;
+use mz_search::row::{Head, Row};
+use mz_search::table::Table;
 use std::alloc::{AllocError, Global};
 use std::collections::HashSet;
 
@@ -195,6 +195,13 @@ fn add_equations(
     Ok(())
 }
 
+#[tactic(auto, using(crate::proofs::GrowLemmas::empty_rules))]
+fn no_rows(alloc: Global) -> Table
+    ensures { HasEntries result [] }
+{
+    Table::new(alloc)
+}
+
 /// The table of facts over a ground part: a class for each ground term; for each ground atom whether it
 /// and whether its negation is a fact; for each ground equation whether its negation is one.
 #[tactic(auto, using(crate::proofs::GrowLemmas::whole_rules))]
@@ -212,7 +219,7 @@ pub fn table_of(
     requires apart { length apart.now ≡ length ground.now.equations }
     ensures { IfOk result (λ t. HasEntries t (entries_of ground.now classes.now positive.now negative.now apart.now)) }
 {
-    let mut table = Table::new(alloc);
+    let mut table = no_rows(alloc);
     add_terms(alloc, &mut table, ground, classes)?;
     add_atoms(alloc, &mut table, ground, classes, positive, negative)?;
     add_equations(alloc, &mut table, ground, classes, apart)?;

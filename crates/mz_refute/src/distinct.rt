@@ -1,11 +1,11 @@
 //! Rows of terms, of which equal ones stand once, so that congruent terms don't multiply what matches.
 ghost use Rattle.std.specs.Prelude.{◌≡◌, ◌↔◌, ◌∷◌, [], map, OnOk, IsTrue};
 ghost use Rattle.mz_refute.specs.Entries.{Grown, IsTermHead, row_pair};
-ghost use Rattle.mz_refute.specs.Rows.{SomeOf};
+ghost use Rattle.mz_search.specs.Rows.{SomeOf};
 
-use crate::row::{Head, Row};
-use crate::table::Table;
 use mz_ground::hash_places::{all_mixed, mixed, sym_mixed};
+use mz_search::row::{Head, Row};
+use mz_search::table::Table;
 use std::alloc::{AllocError, Global};
 use std::collections::HashSet;
 

@@ -8,11 +8,11 @@ ghost use Rattle.mz_refute.specs.FactIndex.{IsFactIndex, AreClasses, AreSigns, A
 
 use crate::answer::Answer;
 use crate::build::table_of;
-use crate::table::Table;
 use crate::work::answer;
 use mz_ground::fact_set::FactSet;
 use mz_logic::disjunct::Disjunct;
 use mz_logic::formula::Formula;
+use mz_search::table::Table;
 use std::alloc::{AllocError, Global};
 
 /// The facts of a disjunct, made into rows once for all of its universals.

@@ -1,74 +1,52 @@
 //! The work of a refutation.
-ghost use Rattle.std.specs.Prelude.{◌≡◌, ◌+◌, ◌*◌, ◌≤◌, true, IfOk, length, if◌then◌else◌};
-ghost use Rattle.mz_refute.specs.declared.row.Head.TheVariants.{Holds, Fails};
+ghost use Rattle.std.specs.Prelude.{◌≡◌, true, IfOk, length, if◌then◌else◌};
+ghost use Rattle.mz_search.specs.declared.row.Head.TheVariants.{Holds, Fails};
 ghost use Rattle.mz_refute.specs.RowsWork.{rows_work, RowsAnswer};
-ghost use Rattle.mz_refute.specs.Table.{rows_of};
-ghost use Rattle.mz_refute.specs.Work.{held};
+ghost use Rattle.mz_search.specs.Table.{rows_of};
+ghost use Rattle.mz_logic.specs.Capped.{capped};
 
 use crate::answer::Answer;
-use crate::row::Head;
-use crate::search::is_refuted;
-use crate::table::Table;
+use mz_logic::capped::{capped_product, capped_sum};
 use mz_logic::formula::{Formula, FormulaNode};
 use mz_logic::formulas::Formulas;
 use mz_logic::sym::Sym;
+use mz_search::row::Head;
+use mz_search::search::is_refuted;
+use mz_search::table::Table;
 use std::alloc::{AllocError, Global};
-
-/// Work stops at this number.
-const MOST: u64 = 1_000_000_000;
 
 /// The greatest work with which a refutation is looked for.
 const LIMIT: u64 = 10_000_000;
 
-fn held(n: usize) -> u64
-    ensures value { result ≡ held n }
-    ensures most { result ≤ 1000000000 }
+/// A count, or 1,000,000,000 where it is greater.
+fn capped(n: usize) -> u64
+    ensures { result ≡ capped n }
 {
-    (n as u64).min(MOST)
-}
-
-fn sum(m: u64, n: u64) -> u64
-    requires first { m ≤ 1000000000 }
-    requires second { n ≤ 1000000000 }
-    ensures value { result ≡ held (m + n) }
-    ensures most { result ≤ 1000000000 }
-{
-    (m + n).min(MOST)
-}
-
-fn product(m: u64, n: u64) -> u64
-    requires first { m ≤ 1000000000 }
-    requires second { n ≤ 1000000000 }
-    ensures value { result ≡ held (m * n) }
-    ensures most { result ≤ 1000000000 }
-{
-    m.saturating_mul(n).min(MOST)
+    capped_sum(n as u64, 0)
 }
 
 /// The work of an atom of the symbol, or of its negation where `positive` is false.
 fn atom_work(table: &Table, positive: bool, s: Sym) -> u64
-    ensures value { result ≡ (if positive then held (length (rows_of table.now (Fails s))) else held (length (rows_of table.now (Holds s)))) }
-    ensures most { result ≤ 1000000000 }
+    ensures { result ≡ (if positive then capped (length (rows_of table.now (Fails s))) else capped (length (rows_of table.now (Holds s)))) }
 {
     if positive {
-        held(table.rows(Head::Fails(s)).len())
+        capped(table.rows(Head::Fails(s)).len())
     } else {
-        held(table.rows(Head::Holds(s)).len())
+        capped(table.rows(Head::Holds(s)).len())
     }
 }
 
 /// The work of a formula, or of its negation where `positive` is false.
 fn work(table: &Table, values: &[usize], universals: &Formulas, positive: bool, f: &Formula) -> u64
-    ensures value { result ≡ rows_work (rows_of table.now) values.now universals.now positive f.now }
-    ensures most { result ≤ 1000000000 }
+    ensures { result ≡ rows_work (rows_of table.now) values.now universals.now positive f.now }
 {
     match &f.node {
         FormulaNode::Truth => 1,
         FormulaNode::Eq(_, _) => {
             if positive {
-                held(table.rows(Head::Differ).len())
+                capped(table.rows(Head::Differ).len())
             } else {
-                held(values.len())
+                capped(values.len())
             }
         }
         FormulaNode::Atom(s, _) => atom_work(table, positive, *s),
@@ -77,16 +55,16 @@ fn work(table: &Table, values: &[usize], universals: &Formulas, positive: bool, 
             let left = work(table, values, universals, positive, g);
             let right = work(table, values, universals, positive, h);
             if positive {
-                sum(left, right)
+                capped_sum(left, right)
             } else {
-                product(left, right)
+                capped_product(left, right)
             }
         }
         FormulaNode::All(b) => {
             if positive {
                 work(table, values, universals, true, b)
             } else {
-                held(universals.len())
+                capped(universals.len())
             }
         }
     }

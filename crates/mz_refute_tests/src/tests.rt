@@ -1,4 +1,4 @@
-// Small disjuncts with what is answered for a universal, worked out by hand from the rules.
+//! Small disjuncts with what is answered for a universal, worked out by hand from the rules.
 ghost use Rattle.mz_ground.specs.Ground.{IsGround};
 
 use mz_classes::close_classes::close_classes;
@@ -15,8 +15,8 @@ use mz_logic::sym::Sym;
 use mz_logic::term::{Term, Terms};
 use mz_refute::answer::Answer;
 use mz_refute::refuted::refuted;
-use mz_refute::row::{Head, Row};
-use mz_refute::table::Table;
+use mz_search::row::{Head, Row};
+use mz_search::table::Table;
 use std::alloc::{AllocError, Global};
 use std::test::Fail;
 
@@ -166,7 +166,7 @@ fn answer_for(alloc: Global, text: &str) -> Result<Answer, AllocError> {
     }
 }
 
-const REFUTED: [&str; 21] = [
+const REFUTED: [&str; 23] = [
     // the complement of an atom, of a negated atom, in value
     "1P- xPA",
     "1P+ xP!A",
@@ -187,6 +187,9 @@ const REFUTED: [&str; 21] = [
     "12E- yxEAA",
     "12E- 1P+ yxEA!xP&!A",
     "1P- yPAA",
+    // parts without a common variable, and parts that hang together
+    "1P+ 2Q+ yPxQ&!AA",
+    "12E+ 2P+ 3Q+ yxExP&yPxQ&!A!&!AA",
     // the universal is listed at a term, up to double negation, in value, with the same functor, twice nested
     "1xEA yxEA!A",
     "1xE!!A yxEA!A",
@@ -196,7 +199,7 @@ const REFUTED: [&str; 21] = [
     "1x=A yx=A!A",
 ];
 
-const NOT_REFUTED: [&str; 18] = [
+const NOT_REFUTED: [&str; 20] = [
     // the atom is itself a fact, or nothing is known of it; without the equation
     "1P+ xPA",
     "1P- xP!A",
@@ -214,6 +217,9 @@ const NOT_REFUTED: [&str; 18] = [
     // one term for one variable
     "12E- xxEA",
     "12E- 2P+ yxEA!xP&!A",
+    // one of the parts without a common variable; parts that hang together
+    "1P+ 2P+ 3Q+ yPxQ&xP&!AA",
+    "12E+ 3P+ 3Q+ yxExP&!AA 4P+",
     // another universal is listed: the sides exchanged, another value, another functor, the sign
     "x1EA yxEA!A",
     "1xEA 2xEA!A",

@@ -1,5 +1,5 @@
-// A chain of registrations: what is `one` is `two`, what is `two` is `three`, what is `three` is `four`, and each
-// value of the functor is `one`. They have no type in their premises.
+//! A chain of registrations: what is `one` is `two`, what is `two` is `three`, what is `three` is `four`, and each
+//! value of the functor is `one`. They have no type in their premises.
 use super::sym;
 use crate::by::by;
 use crate::by_verdict::ByVerdict;

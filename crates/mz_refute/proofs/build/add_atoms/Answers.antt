@@ -1,4 +1,4 @@
-use Rattle.std.proofs.Common.{arith, length}
+use Rattle.std.proofs.Common.{arith}
 use Rattle.mz_refute.proofs.GrowLemmas.{atoms_turn}
 use Rattle.mz_refute.proofs.ListLaws.{get_any}
 use Rattle.mz_refute.proofs.build.add_atoms.Goals as goal

@@ -1,4 +1,4 @@
-use Rattle.std.proofs.Common.{arith, length}
+use Rattle.std.proofs.Common.{arith}
 use Rattle.mz_refute.proofs.GrowLemmas.{equations_turn}
 use Rattle.mz_refute.proofs.ListLaws.{get_any}
 use Rattle.mz_refute.proofs.build.add_equations.Goals as goal

@@ -1,7 +1,7 @@
 use Rattle.std.proofs.Common.{◌≡◌, List, map, subst}
 use Rattle.mz_refute.specs.Entries.{row_pair}
-use Rattle.mz_refute.specs.Rows.{SomeOf}
-use Rattle.mz_refute.specs.declared.row.Row.{Row}
+use Rattle.mz_search.specs.Rows.{SomeOf}
+use Rattle.mz_search.specs.declared.row.Row.{Row}
 use Rattle.mz_refute.proofs.GrowLemmas.{told_repeated}
 use Rattle.mz_refute.proofs.distinct.add_distinct.Goals as goal
 

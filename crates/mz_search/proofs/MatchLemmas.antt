@@ -1,0 +1,193 @@
+-- Matching finds exactly the assignments that match.
+use Rattle.std.proofs.Common.{◌≡◌, ◌≤◌, ◌-◌, inl, inr, ℕ, zero, suc, List, [], ◌∷◌, refl, arith, ap, sym, ◌∙◌, Bool, true, false, subst, eq-eqb, eqb-true}
+use Rattle.std.specs.Prelude.{slice_get, None, Some, nat_eq, nat_lt, flat_map, if◌then◌else◌}
+use Rattle.std.proofs.lemmas.Bool.Decides.{leb_tells}
+use Rattle.mz_logic.specs.declared.sym.Sym.{Sym}
+use Rattle.mz_logic.specs.Term as term
+use Rattle.mz_logic.specs.Term.{Term, Terms, Bound, Const, App, terms_of}
+use Rattle.mz_search.specs.declared.row.Head.{Head}
+use Rattle.mz_search.specs.declared.row.Head.TheVariants.{Constant, Functor}
+use Rattle.mz_search.specs.declared.row.Row.{Row}
+use Rattle.mz_search.specs.Rows.{SomeOf, IsNone, has_value, Val, Vals, RowOn, OneValue}
+use Rattle.mz_search.specs.Matches.{Assignment, bind, match_none, match_term, match_args, match_rows, match_class, match_equal}
+use Rattle.mz_search.specs.Fitting.{Fits, Covered}
+use Rattle.mz_search.proofs.SomeLemmas.{some_map, into_flat, out_of_flat, into_map, out_of_map, pull, some_none, value_out, value_in}
+
+pub if_found : (P : Assignment → Type 0) (b : Bool) (es : List Assignment) → SomeOf P (if b then es else []) → (b ≡ true) × SomeOf P es
+if_found P true es h = (refl, h)
+if_found P false es h = absurd h
+
+pub if_finds : (P : Assignment → Type 0) (b : Bool) (es : List Assignment) → b ≡ true → SomeOf P es → SomeOf P (if b then es else [])
+if_finds P b es e h = rw e h
+
+-- over the members of a list
+pub flat_found : {X : Type 0} (m : X → List Assignment) (C : Type 0) (R : X → Type 0) (a : List ℕ) (xs : List X) → ((x : X) → Covered (m x) a → C × R x) → Covered (flat_map m xs) a → C × SomeOf R xs
+flat_found m C R a xs f h = pull C R xs (some_map (λ x. Covered (m x) a) (λ x. C × R x) xs f (out_of_flat (λ e. Fits e a) m xs h))
+
+pub flat_finds : {X : Type 0} (m : X → List Assignment) (R : X → Type 0) (a : List ℕ) (xs : List X) → ((x : X) → R x → Covered (m x) a) → SomeOf R xs → Covered (flat_map m xs) a
+flat_finds m R a xs f h = into_flat (λ e. Fits e a) m xs (some_map R (λ x. Covered (m x) a) xs f h)
+
+-- over the rows that pass a test
+rows_found : (p : Row → Bool) (m : Row → List Assignment) (C : Type 0) (R : Row → Type 0) (a : List ℕ) (rs : List Row) → ((r : Row) → Covered (m r) a → C × R r) → Covered (flat_map (λ r. if p r then m r else []) rs) a → C × SomeOf (λ r. (p r ≡ true) × R r) rs
+rows_found p m C R a rs f h =
+    flat_found (λ r. if p r then m r else []) C (λ r. (p r ≡ true) × R r) a rs
+    (λ r c. let k = if_found (λ e. Fits e a) (p r) (m r) c in let q = f r k.1 in (q.0, (k.0, q.1))) h
+
+rows_finds : (p : Row → Bool) (m : Row → List Assignment) (R : Row → Type 0) (a : List ℕ) (rs : List Row) → ((r : Row) → R r → Covered (m r) a) → SomeOf (λ r. (p r ≡ true) × R r) rs → Covered (flat_map (λ r. if p r then m r else []) rs) a
+rows_finds p m R a rs f h =
+    flat_finds (λ r. if p r then m r else []) (λ r. (p r ≡ true) × R r) a rs (λ r c. if_finds (λ e. Fits e a) (p r) (m r) c.0 (f r c.1)) h
+
+-- a variable
+slot_first : (w v : ℕ) (e : Assignment) (a : List ℕ) → Fits (Some w ∷ e) a → w ≡ v → slice_get a 0 ≡ Some v
+slot_first w v e [] f q = absurd f
+slot_first w v e (x ∷ a) f q = ap (λ y. Some y) (sym f.0 ∙ q)
+
+some_pull : (w x : ℕ) (a : List ℕ) (ds : List Assignment) → SomeOf (λ d. (w ≡ x) × Fits d a) ds → (w ≡ x) × Covered ds a
+some_pull w x a ds h = pull (w ≡ x) (λ d. Fits d a) ds h
+
+bind_found : (i v : ℕ) (e : Assignment) (a : List ℕ) → Covered (bind i v e) a → Fits e a × (slice_get a i ≡ Some v)
+bind_found i v [] a h = absurd h
+bind_found zero v (None ∷ e) [] h = elim h [ inl f ↦ absurd f | inr b ↦ absurd b ]
+bind_found zero v (None ∷ e) (x ∷ a) h = elim h [ inl f ↦ (f.1, ap (λ y. Some y) (sym f.0)) | inr b ↦ absurd b ]
+bind_found zero v (Some w ∷ e) a h =
+    let r = if_found (λ d. Fits d a) (nat_eq w v) ((Some w ∷ e) ∷ []) h in
+    elim r.1 [ inl f ↦ (f, slot_first w v e a f (eqb-true w v r.0)) | inr b ↦ absurd b ]
+bind_found (suc i) v (None ∷ e) [] h = absurd (some_none (bind i v e) (out_of_map (λ d. Fits d []) (λ d. None ∷ d) (bind i v e) h))
+bind_found (suc i) v (Some w ∷ e) [] h = absurd (some_none (bind i v e) (out_of_map (λ d. Fits d []) (λ d. Some w ∷ d) (bind i v e) h))
+bind_found (suc i) v (None ∷ e) (x ∷ a) h = bind_found i v e a (out_of_map (λ d. Fits d (x ∷ a)) (λ d. None ∷ d) (bind i v e) h)
+bind_found (suc i) v (Some w ∷ e) (x ∷ a) h =
+    let p = some_pull w x a (bind i v e) (out_of_map (λ d. Fits d (x ∷ a)) (λ d. Some w ∷ d) (bind i v e) h) in
+    let r = bind_found i v e a p.1 in
+    ((p.0, r.0), r.1)
+
+bind_finds : (i v : ℕ) (e : Assignment) (a : List ℕ) → Fits e a → slice_get a i ≡ Some v → Covered (bind i v e) a
+bind_finds i v [] [] f h = cc
+bind_finds i v [] (x ∷ a) f h = absurd f
+bind_finds i v (None ∷ e) [] f h = absurd f
+bind_finds i v (Some w ∷ e) [] f h = absurd f
+bind_finds zero v (None ∷ e) (x ∷ a) f h = let q : v ≡ x = cc in inl (q, f)
+bind_finds zero v (Some w ∷ e) (x ∷ a) f h =
+    let p : w ≡ x = f.0 in
+    let q : w ≡ v = cc in
+    if_finds (λ d. Fits d (x ∷ a)) (nat_eq w v) ((Some w ∷ e) ∷ []) (eq-eqb w v q) (inl f)
+bind_finds (suc i) v (None ∷ e) (x ∷ a) f h = into_map (λ d. Fits d (x ∷ a)) (λ d. None ∷ d) (bind i v e) (bind_finds i v e a f h)
+bind_finds (suc i) v (Some w ∷ e) (x ∷ a) f h =
+    into_map (λ d. Fits d (x ∷ a)) (λ d. Some w ∷ d) (bind i v e)
+    (some_map (λ d. Fits d a) (λ d. (w ≡ x) × Fits d a) (bind i v e) (λ d c. (f.0, c)) (bind_finds i v e a f.1 h))
+
+-- a variable, over a list
+bound_found : (i v : ℕ) (a : List ℕ) (es : List Assignment) → Covered (flat_map (bind i v) es) a → Covered es a × (slice_get a i ≡ Some v)
+bound_found i v a es h =
+    let r = flat_found (bind i v) (slice_get a i ≡ Some v) (λ e. Fits e a) a es (λ e c. let q = bind_found i v e a c in (q.1, q.0)) h in
+    (r.1, r.0)
+
+bound_finds : (i v : ℕ) (a : List ℕ) (es : List Assignment) → Covered es a → slice_get a i ≡ Some v → Covered (flat_map (bind i v) es) a
+bound_finds i v a es f h = flat_finds (bind i v) (λ e. Fits e a) a es (λ e c. bind_finds i v e a c h) f
+
+none_found : (vs a : List ℕ) (es : List Assignment) → Covered (match_none vs es) a → Covered es a × IsNone vs
+none_found [] a es h = (h, tt)
+none_found (v ∷ vs) a es h = absurd h
+
+none_finds : (vs a : List ℕ) (es : List Assignment) → Covered es a → IsNone vs → Covered (match_none vs es) a
+none_finds [] a es f h = f
+none_finds (v ∷ vs) a es f h = absurd h
+
+-- an index
+index_found : (depth i v : ℕ) (a : List ℕ) (es : List Assignment) → Covered (if nat_lt i depth then [] else flat_map (bind (i - depth) v) es) a → Covered es a × ((depth ≤ i) × (slice_get a (i - depth) ≡ Some v))
+index_found depth i v a es h =
+    elim (leb_tells (suc i) depth) [
+      | inl k ↦ absurd (subst (λ (b : Bool). Covered (if b then [] else flat_map (bind (i - depth) v) es) a) k.0 h)
+      | inr k ↦
+          let r = bound_found (i - depth) v a es (subst (λ (b : Bool). Covered (if b then [] else flat_map (bind (i - depth) v) es) a) k.0 h) in
+          (r.0, (omega (arith, k.1), r.1))
+    ]
+
+index_finds : (depth i v : ℕ) (a : List ℕ) (es : List Assignment) → Covered es a → depth ≤ i → slice_get a (i - depth) ≡ Some v → Covered (if nat_lt i depth then [] else flat_map (bind (i - depth) v) es) a
+index_finds depth i v a es f le h =
+    elim (leb_tells (suc i) depth) [
+      | inl k ↦ absurd (omega (arith, k.1))
+      | inr k ↦ subst (λ (b : Bool). Covered (if b then [] else flat_map (bind (i - depth) v) es) a) (sym k.0) (bound_finds (i - depth) v a es f h)
+    ]
+
+mutual
+  unfolding Val Vals
+
+  pub term_found : (rows : Head → List Row) (depth : ℕ) (a : List ℕ) (t : Term) (v : ℕ) (es : List Assignment) → Covered (match_term rows depth t v es) a → Covered es a × Val rows depth a t v
+  term_found rows depth a (Bound i) v es h = index_found depth i v a es h
+  term_found rows depth a (Const n) v es h = rows_found (has_value v) (λ r. match_none r.args.items es) (Covered es a) (λ r. IsNone r.args.items) a (rows (Constant n)) (λ r c. none_found r.args.items a es c) h
+  term_found rows depth a (App s ts) v es h = rows_found (has_value v) (λ r. match_args rows depth ts r.args.items es) (Covered es a) (λ r. Vals rows depth a ts r.args.items) a (rows (Functor s)) (λ r c. args_found rows depth a ts r.args.items es c) h
+
+  pub args_found : (rows : Head → List Row) (depth : ℕ) (a : List ℕ) (ts : Terms) (vs : List ℕ) (es : List Assignment) → Covered (match_args rows depth ts vs es) a → Covered es a × Vals rows depth a ts vs
+  args_found rows depth a term.none vs es h = none_found vs a es h
+  args_found rows depth a (term.more t ts) [] es h = absurd h
+  args_found rows depth a (term.more t ts) (v ∷ vs) es h =
+      let r = args_found rows depth a ts vs (match_term rows depth t v es) h in
+      let q = term_found rows depth a t v es r.0 in
+      (q.0, (q.1, r.1))
+
+mutual
+  unfolding Val Vals
+
+  pub term_finds : (rows : Head → List Row) (depth : ℕ) (a : List ℕ) (t : Term) (v : ℕ) (es : List Assignment) → Covered es a → Val rows depth a t v → Covered (match_term rows depth t v es) a
+  term_finds rows depth a (Bound i) v es f h = index_finds depth i v a es f h.0 h.1
+  term_finds rows depth a (Const n) v es f h = rows_finds (has_value v) (λ r. match_none r.args.items es) (λ r. IsNone r.args.items) a (rows (Constant n)) (λ r c. none_finds r.args.items a es f c) h
+  term_finds rows depth a (App s ts) v es f h = rows_finds (has_value v) (λ r. match_args rows depth ts r.args.items es) (λ r. Vals rows depth a ts r.args.items) a (rows (Functor s)) (λ r c. args_finds rows depth a ts r.args.items es f c) h
+
+  pub args_finds : (rows : Head → List Row) (depth : ℕ) (a : List ℕ) (ts : Terms) (vs : List ℕ) (es : List Assignment) → Covered es a → Vals rows depth a ts vs → Covered (match_args rows depth ts vs es) a
+  args_finds rows depth a term.none vs es f h = none_finds vs a es f h
+  args_finds rows depth a (term.more t ts) [] es f h = absurd h
+  args_finds rows depth a (term.more t ts) (v ∷ vs) es f h = args_finds rows depth a ts vs (match_term rows depth t v es) (term_finds rows depth a t v es f h.0) h.1
+
+pub row_found : (rows : Head → List Row) (a : List ℕ) (h : Head) (ts : Terms) (es : List Assignment) → Covered (match_rows rows h ts es) a → Covered es a × RowOn rows a h ts
+unfolding RowOn
+row_found rows a h ts es c = flat_found (λ r. match_args rows 0 ts r.args.items es) (Covered es a) (λ r. Vals rows 0 a ts r.args.items) a (rows h) (λ r k. args_found rows 0 a ts r.args.items es k) c
+
+pub row_finds : (rows : Head → List Row) (a : List ℕ) (h : Head) (ts : Terms) (es : List Assignment) → Covered es a → RowOn rows a h ts → Covered (match_rows rows h ts es) a
+unfolding RowOn
+row_finds rows a h ts es f c = flat_finds (λ r. match_args rows 0 ts r.args.items es) (λ r. Vals rows 0 a ts r.args.items) a (rows h) (λ r k. args_finds rows 0 a ts r.args.items es f k) c
+
+-- the class of a term that is no variable
+class_rows_found : (rows : Head → List Row) (depth : ℕ) (a : List ℕ) (t : Term) (m : Row → List Assignment) (R : Row → Type 0) (es : List Assignment) (rs : List Row) → ((r : Row) → Covered (m r) a → Covered es a × R r) → Covered (flat_map (λ r. match_term rows depth t r.value (m r)) rs) a → Covered es a × ((v : ℕ) × (Val rows depth a t v × SomeOf (λ r. (has_value v r ≡ true) × R r) rs))
+class_rows_found rows depth a t m R es rs f h =
+    let x = flat_found (λ r. match_term rows depth t r.value (m r)) (Covered es a) (λ r. Val rows depth a t r.value × R r) a rs
+    (λ r c. let p = term_found rows depth a t r.value (m r) c in let q = f r p.0 in (q.0, (p.1, q.1))) h in
+    (x.0, value_out (λ v. Val rows depth a t v) R rs x.1)
+
+class_rows_finds : (rows : Head → List Row) (depth : ℕ) (a : List ℕ) (t : Term) (m : Row → List Assignment) (R : Row → Type 0) (rs : List Row) (v : ℕ) → ((r : Row) → R r → Covered (m r) a) → Val rows depth a t v → SomeOf (λ r. (has_value v r ≡ true) × R r) rs → Covered (flat_map (λ r. match_term rows depth t r.value (m r)) rs) a
+class_rows_finds rows depth a t m R rs v f k h =
+    flat_finds (λ r. match_term rows depth t r.value (m r)) (λ r. Val rows depth a t r.value × R r) a rs
+    (λ r c. term_finds rows depth a t r.value (m r) (f r c.1) c.0) (value_in (λ v. Val rows depth a t v) R rs v k h)
+
+pub class_found : (rows : Head → List Row) (depth : ℕ) (a : List ℕ) (t u : Term) (es : List Assignment) → Covered (match_class rows depth t u es) a → Covered es a × ((v : ℕ) × (Val rows depth a t v × Val rows depth a u v))
+unfolding Val
+class_found rows depth a t (Bound j) es h = absurd h
+class_found rows depth a t (Const n) es h = class_rows_found rows depth a t (λ r. match_none r.args.items es) (λ r. IsNone r.args.items) es (rows (Constant n)) (λ r c. none_found r.args.items a es c) h
+class_found rows depth a t (App s us) es h = class_rows_found rows depth a t (λ r. match_args rows depth us r.args.items es) (λ r. Vals rows depth a us r.args.items) es (rows (Functor s)) (λ r c. args_found rows depth a us r.args.items es c) h
+
+pub constant_finds : (rows : Head → List Row) (depth : ℕ) (a : List ℕ) (t : Term) (n : ℕ) (es : List Assignment) (v : ℕ) → Covered es a → Val rows depth a t v → Val rows depth a (Const n) v → Covered (match_class rows depth t (Const n) es) a
+unfolding Val
+constant_finds rows depth a t n es v f k h = class_rows_finds rows depth a t (λ r. match_none r.args.items es) (λ r. IsNone r.args.items) (rows (Constant n)) v (λ r c. none_finds r.args.items a es f c) k h
+
+pub functor_finds : (rows : Head → List Row) (depth : ℕ) (a : List ℕ) (t : Term) (s : Sym) (us : Terms) (es : List Assignment) (v : ℕ) → Covered es a → Val rows depth a t v → Val rows depth a (App s us) v → Covered (match_class rows depth t (App s us) es) a
+unfolding Val
+functor_finds rows depth a t s us es v f k h = class_rows_finds rows depth a t (λ r. match_args rows depth us r.args.items es) (λ r. Vals rows depth a us r.args.items) (rows (Functor s)) v (λ r c. args_finds rows depth a us r.args.items es f c) k h
+
+pub equal_found : (rows : Head → List Row) (values a : List ℕ) (t u : Term) (es : List Assignment) → Covered (match_equal rows values t u es) a → Covered es a × OneValue rows values a t u
+unfolding OneValue
+equal_found rows values a t (Const n) es h = class_found rows 0 a t (Const n) es h
+equal_found rows values a t (App s us) es h = class_found rows 0 a t (App s us) es h
+equal_found rows values a (Bound i) (Bound j) es h =
+    flat_found (λ v. match_term rows 0 (Bound j) v (match_term rows 0 (Bound i) v es)) (Covered es a) (λ v. Val rows 0 a (Bound i) v × Val rows 0 a (Bound j) v) a values
+    (λ v c. let r = term_found rows 0 a (Bound j) v (match_term rows 0 (Bound i) v es) c in let q = term_found rows 0 a (Bound i) v es r.0 in (q.0, (q.1, r.1))) h
+equal_found rows values a (Const n) (Bound j) es h = let x = class_found rows 0 a (Bound j) (Const n) es h in (x.0, (x.1.0, (x.1.1.1, x.1.1.0)))
+equal_found rows values a (App s ts) (Bound j) es h = let x = class_found rows 0 a (Bound j) (App s ts) es h in (x.0, (x.1.0, (x.1.1.1, x.1.1.0)))
+
+pub equal_finds : (rows : Head → List Row) (values a : List ℕ) (t u : Term) (es : List Assignment) → Covered es a → OneValue rows values a t u → Covered (match_equal rows values t u es) a
+unfolding OneValue
+equal_finds rows values a t (Const n) es f h = constant_finds rows 0 a t n es h.0 f h.1.0 h.1.1
+equal_finds rows values a t (App s us) es f h = functor_finds rows 0 a t s us es h.0 f h.1.0 h.1.1
+equal_finds rows values a (Bound i) (Bound j) es f h =
+    flat_finds (λ v. match_term rows 0 (Bound j) v (match_term rows 0 (Bound i) v es)) (λ v. Val rows 0 a (Bound i) v × Val rows 0 a (Bound j) v) a values
+    (λ v c. term_finds rows 0 a (Bound j) v (match_term rows 0 (Bound i) v es) (term_finds rows 0 a (Bound i) v es f c.0) c.1) h
+equal_finds rows values a (Const n) (Bound j) es f h = constant_finds rows 0 a (Bound j) n es h.0 f h.1.1 h.1.0
+equal_finds rows values a (App s ts) (Bound j) es f h = functor_finds rows 0 a (Bound j) s ts es h.0 f h.1.1 h.1.0
