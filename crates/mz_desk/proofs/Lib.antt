@@ -1,0 +1,4 @@
+pub mod DifferenceLemmas
+pub mod InputLemmas
+pub mod DeskLemmas
+pub mod LookLemmas

@@ -1,0 +1,54 @@
+use Rattle.std.proofs.Common.{◌≡◌, ◌∙◌, ◌<◌, ◌≤◌, ◌+◌, ◌++◌, ◌∷◌, [], ℕ, true, false, length, map, refl, ap, sym, subst, arith}
+use Rattle.std.specs.Prelude.{slice_get, slice_set}
+use Rattle.std.specs.Arc.{arc_value}
+use Rattle.std.specs.List.{sum_by}
+use Rattle.mz_axioms.specs.Library.{Sound}
+use Rattle.mz_corpus.specs.Corpus.{IsCorpus}
+use Rattle.mz_turns.specs.Row.{Claimed, is_settled, is_claimed, freed, row_at, row_of, claim_weight}
+use Rattle.mz_turns.specs.Dependencies.{place_of}
+use Rattle.mz_turns.specs.Library.{library_of}
+use Rattle.mz_turns.specs.Machine.{Blocks, Replays}
+use Rattle.mz_turns.specs.declared.turn.Turn.TheVariants.{Take, Publish, Reclaim}
+use Rattle.mz_rows.specs.Table.{is_ready}
+use Rattle.mz_rows.proofs.ReadyLemmas.{ready_is}
+use Rattle.mz_desk.specs.Found.{IsFreshFor, outcome_from}
+use Rattle.mz_desk.specs.Desk.{NoneIsReady, AllAreSettled, Stands}
+use Rattle.mz_desk.proofs.DeskLemmas.{good, taken_turn, taken_count, ready_text, published_turn, published_count, published_fresh, reclaimed_turn, some_claim, freed_count, all_finished}
+use Rattle.mz_desk.proofs.desk.Desk.take.Goals as goal
+
+pub job_of-requires-clause-within : goal.job_of-requires-clause-within
+job_of-requires-clause-within g c = subst (λ s. c.args.row < length s.corpus.articles) (sym c.self.view_is) c.requires.within
+
+pub job_of-requires-clause-text : goal.job_of-requires-clause-text
+job_of-requires-clause-text g c =
+    let t = c.self.inside.table in
+    let law = subst IsCorpus (c.deref.ensures ∙ c.corpus.ensures) c.law.ensures in
+    let g1 = good g.C.Semantics.is_outcome g.C.Semantics.answers_name t.corpus law c.self.inside.turns.items t.rows c.self.invariant.0 in
+    let ready = subst (λ s. is_ready s.corpus.articles s.rows c.args.row ≡ true) (sym c.self.view_is) c.requires.ready in
+    ready_text g.C.Semantics.is_outcome t.corpus.articles t.rows g1 c.args.row ready
+
+pub job_of-requires-clause-order : goal.job_of-requires-clause-order
+job_of-requires-clause-order g c =
+    let t = c.self.inside.table in
+    let law = subst IsCorpus (c.deref.ensures ∙ c.corpus.ensures) c.law.ensures in
+    let g1 = good g.C.Semantics.is_outcome g.C.Semantics.answers_name t.corpus law c.self.inside.turns.items t.rows c.self.invariant.0 in
+    g1.in_order
+
+pub claim-requires-clause-waits : goal.claim-requires-clause-waits
+claim-requires-clause-waits g c =
+    let t = c.self.inside.table in
+    let ready = subst (λ s. is_ready s.corpus.articles s.rows c.args.row ≡ true) (sym c.self.view_is) c.requires.ready in
+    (ready_is t.corpus.articles t.rows c.args.row ready).waits
+
+pub invariant_of-self-2 : goal.invariant_of-self-2
+invariant_of-self-2 g c =
+    let t = c.self.inside.table in
+    let law = subst IsCorpus (c.deref.ensures ∙ c.corpus.ensures) c.law.ensures in
+    let g1 = good g.C.Semantics.is_outcome g.C.Semantics.answers_name t.corpus law c.self.inside.turns.items t.rows c.self.invariant.0 in
+    let ready = subst (λ s. is_ready s.corpus.articles s.rows c.args.row ≡ true) (sym c.self.view_is) c.requires.ready in
+    let e = c.push_reserved.ensures.items ∙ ap (λ xs. xs ++ Take c.args.row c.args.worker ∷ []) c.reserve.ensures.items in
+    let n = taken_count t.corpus.articles t.rows c.claim.new.self.rows c.args.row c.args.worker g1.whole ready c.claim.ensures.rows in (
+      subst (λ z. Replays g.C.Semantics.is_outcome z.articles c.push_reserved.new.self.items c.claim.new.self.rows) (sym c.claim.ensures.corpus)
+          (taken_turn g.C.Semantics.is_outcome t.corpus.articles c.self.inside.turns.items c.push_reserved.new.self.items t.rows c.claim.new.self.rows c.args.row c.args.worker c.self.invariant.0 ready e c.claim.ensures.rows),
+      omega (arith, n, c.claims-claims.ensures.count, c.push_reserved.ensures.len, c.push_reserved.ensures.capacity, c.reserve.ensures.len, c.in_ok-reserve.ensures),
+    )

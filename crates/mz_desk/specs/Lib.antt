@@ -1,0 +1,6 @@
+pub mod Job
+pub mod Found
+pub mod Difference
+pub mod State
+pub mod Desk
+pub mod Look

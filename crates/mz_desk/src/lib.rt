@@ -1,0 +1,9 @@
+//! The desk: what workers share under a lock.
+#![tactic(auto)]
+
+pub mod claim;
+pub mod comparing;
+pub mod desk;
+pub mod input;
+pub mod job;
+pub mod look;
