@@ -1,0 +1,5 @@
+//! Workers over a desk.
+#![tactic(auto)]
+
+pub mod alone;
+pub mod work;
