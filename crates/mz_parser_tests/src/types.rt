@@ -1,0 +1,90 @@
+//! Types, adjectives and declarations.
+use crate::texts::{Answer, Part, answered};
+use std::test::Fail;
+
+/// Types.
+const TYPES: [(&[u8], Answer); 20] = [
+    (b"mod", Answer::Until(1)),
+    (b"set", Answer::Until(1)),
+    (b"str", Answer::Until(1)),
+    (b"odd mod", Answer::Until(2)),
+    (b"non odd mod", Answer::Until(3)),
+    (b"x odd mod", Answer::Until(3)),
+    (b"( x , y ) odd mod", Answer::Until(7)),
+    (b"non ( x ) odd odd str", Answer::Until(7)),
+    (b"mod of x , y", Answer::Until(5)),
+    (b"mod of x y", Answer::Until(3)),
+    (b"str over x + y", Answer::Until(5)),
+    (b"mod over x", Answer::Until(1)),
+    (b"str of x", Answer::Until(1)),
+    (b"mod of", Answer::EndsEarly(37)),
+    (b"mod of )", Answer::Unexpected(38)),
+    (b"odd", Answer::EndsEarly(34)),
+    (b"x", Answer::EndsEarly(32)),
+    (b"x mod", Answer::Unexpected(33)),
+    (b"non mod", Answer::Unexpected(35)),
+    (b"mod of the car", Answer::EndsEarly(45)),
+];
+
+/// Adjectives.
+const ADJECTIVES: [(&[u8], Answer); 8] = [
+    (b"odd", Answer::Until(1)),
+    (b"odd odd", Answer::Until(2)),
+    (b"non odd x odd mod", Answer::Until(4)),
+    (b"( x ) odd", Answer::Until(4)),
+    (b"mod", Answer::Unexpected(31)),
+    (b"odd non", Answer::EndsEarly(38)),
+    (b"odd non mod", Answer::Unexpected(39)),
+    (b"( x odd", Answer::Unexpected(35)),
+];
+
+/// Declarations.
+const DECLARATIONS: [(&[u8], Answer); 13] = [
+    (b"x", Answer::Until(1)),
+    (b"x , y", Answer::Until(3)),
+    (b"x be mod", Answer::Until(3)),
+    (b"x being odd mod", Answer::Until(4)),
+    (b"x , y being mod , z being set", Answer::Until(9)),
+    (b"x being mod of a , b", Answer::Until(7)),
+    (b"x being mod of a , y being mod", Answer::Until(9)),
+    (b"x being mod of a , y be", Answer::EndsEarly(54)),
+    (b"x being", Answer::EndsEarly(38)),
+    (b"x being y", Answer::EndsEarly(40)),
+    (b"x , )", Answer::Unexpected(35)),
+    (b"x being mod , )", Answer::Unexpected(45)),
+    (b"mod", Answer::Unexpected(31)),
+];
+
+#[test]
+fn types(rt: HostRuntime) -> Result<(), Fail> {
+    for (text, answer) in &TYPES {
+        assert_eq!(rt; answered(rt.alloc(), Part::Type, text, false)?, *answer);
+    }
+    assert_eq!(rt;
+        answered(rt.alloc(), Part::Type, b"mod of the car".as_slice(), true)?,
+        Answer::Until(4)
+    );
+    Ok(())
+}
+
+#[test]
+fn adjectives(rt: HostRuntime) -> Result<(), Fail> {
+    for (text, answer) in &ADJECTIVES {
+        assert_eq!(rt;
+            answered(rt.alloc(), Part::Adjectives, text, false)?,
+            *answer
+        );
+    }
+    Ok(())
+}
+
+#[test]
+fn declarations(rt: HostRuntime) -> Result<(), Fail> {
+    for (text, answer) in &DECLARATIONS {
+        assert_eq!(rt;
+            answered(rt.alloc(), Part::Declarations, text, false)?,
+            *answer
+        );
+    }
+    Ok(())
+}
