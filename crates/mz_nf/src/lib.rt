@@ -10,5 +10,3 @@ pub mod problem;
 pub mod product;
 pub mod single;
 pub mod split;
-#[cfg(test)]
-mod tests;

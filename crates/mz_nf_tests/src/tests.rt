@@ -1,7 +1,4 @@
 //! Small problems with their disjuncts, worked out by hand.
-use crate::disjuncts::disjuncts;
-use crate::nf_fault::NfFault;
-use crate::problem::Problem;
 use mz_logic::disjunct::Disjunct;
 use mz_logic::disjuncts::Disjuncts;
 use mz_logic::formula::{Formula, FormulaNode};
@@ -9,6 +6,9 @@ use mz_logic::formulas::Formulas;
 use mz_logic::kind::Kind;
 use mz_logic::sym::Sym;
 use mz_logic::term::{Term, TermNode, Terms};
+use mz_nf::disjuncts::disjuncts;
+use mz_nf::nf_fault::NfFault;
+use mz_nf::problem::Problem;
 use std::alloc::{AllocError, Global};
 use std::test::Fail;
 
