@@ -1,52 +1,22 @@
-//! Articles: directives and items.
+//! Articles and their items.
 ghost use Rattle.std.specs.Prelude.{Some, ◌≡◌, ◌++◌, IfOk};
 ghost use Rattle.mz_tree.specs.Places.{first_place};
-ghost use Rattle.mz_tree_item.specs.Spell.{spell_directive, spell_item, spell_article_part, spell_article};
+ghost use Rattle.mz_tree_item.specs.Spell.{spell_item, spell_article, spell_article_part};
 
 use crate::definition::DefinitionTree;
-use crate::notation::NotationTree;
-use crate::patterns::IdentifierTree;
 use crate::registration::RegistrationTree;
-use crate::schemes::{ReserveTree, SchemeTree, TheoremTree};
-use crate::words::DirectiveWord;
+use crate::schemes::{SchemeTree, TheoremTree};
 use mz_base::place::Place;
 use mz_base::token::MarkedToken;
-use mz_tree::emit::{emit_reserved, emit_special};
-use mz_tree::lists::{Separated, Trees};
+use mz_tree::emit::emit_reserved;
+use mz_tree::lists::Trees;
 use mz_tree::tree::{Copied, Spell};
+use mz_tree_heading::copies::copied_pair;
+use mz_tree_part::directive::DirectiveTree;
+use mz_tree_part::notation::NotationTree;
+use mz_tree_part::reserve::ReserveTree;
 use mz_tree_proof::reasoning::StatementTree;
 use std::alloc::{AllocError, Global};
-
-/// A directive.
-#[derive(Drop)]
-pub struct DirectiveTree {
-    pub place: Place,
-    pub word: DirectiveWord,
-    pub names: Separated<IdentifierTree>,
-    pub semicolon: Place,
-}
-
-impl Copied for DirectiveTree {
-    fn copy(&self, alloc: Global) -> Result<DirectiveTree, AllocError> {
-        let names = self.names.copy(alloc)?;
-        Ok(DirectiveTree {
-            place: self.place,
-            word: self.word,
-            names,
-            semicolon: self.semicolon,
-        })
-    }
-}
-
-impl Spell for DirectiveTree {
-    ghost spelled = { spell_directive };
-
-    fn spell(&self, alloc: Global, out: &mut Vec<MarkedToken>) -> Result<(), AllocError> {
-        emit_reserved(alloc, out, self.place, self.word.spelling())?;
-        self.names.spell(alloc, out)?;
-        emit_special(alloc, out, self.semicolon, b";")
-    }
-}
 
 /// An item.
 #[derive(Drop)]
@@ -145,8 +115,7 @@ pub struct ArticleTree {
 
 impl Copied for ArticleTree {
     fn copy(&self, alloc: Global) -> Result<ArticleTree, AllocError> {
-        let directives = self.directives.copy(alloc)?;
-        let parts = self.parts.copy(alloc)?;
+        let (directives, parts) = copied_pair(alloc, &self.directives, &self.parts)?;
         Ok(ArticleTree {
             environ: self.environ,
             directives,

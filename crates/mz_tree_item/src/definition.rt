@@ -1,15 +1,16 @@
 //! Definitions: headings with their conditions and properties.
 ghost use Rattle.std.specs.Prelude.{◌≡◌, ◌++◌, IfOk};
-ghost use Rattle.mz_tree_item.specs.Spell.{spell_condition, spell_property, spell_condition_or_property, spell_block_let, spell_definition_part, spell_definition};
+ghost use Rattle.mz_tree_item.specs.Spell.{spell_condition, spell_property, spell_condition_or_property, spell_definition, spell_definition_part};
 
-use crate::heading::HeadingTree;
-use crate::words::{ConditionWord, PropertyWord};
 use mz_base::place::Place;
 use mz_base::token::MarkedToken;
 use mz_tree::emit::{emit_reserved, emit_special};
-use mz_tree::expressions::DeclarationsTree;
 use mz_tree::lists::Trees;
 use mz_tree::tree::{Copied, Spell};
+use mz_tree_heading::copies::copied_pair;
+use mz_tree_heading::heading::HeadingTree;
+use mz_tree_part::notation::BlockLetTree;
+use mz_tree_part::words::{ConditionWord, PropertyWord};
 use mz_tree_proof::reasoning::JustTree;
 use std::alloc::{AllocError, Global};
 
@@ -106,35 +107,6 @@ impl Spell for ConditionOrPropertyTree {
     }
 }
 
-/// The loci of a block.
-#[derive(Drop)]
-pub struct BlockLetTree {
-    pub let_: Place,
-    pub declarations: DeclarationsTree,
-    pub semicolon: Place,
-}
-
-impl Copied for BlockLetTree {
-    fn copy(&self, alloc: Global) -> Result<BlockLetTree, AllocError> {
-        let declarations = self.declarations.copy(alloc)?;
-        Ok(BlockLetTree {
-            let_: self.let_,
-            declarations,
-            semicolon: self.semicolon,
-        })
-    }
-}
-
-impl Spell for BlockLetTree {
-    ghost spelled = { spell_block_let };
-
-    fn spell(&self, alloc: Global, out: &mut Vec<MarkedToken>) -> Result<(), AllocError> {
-        emit_reserved(alloc, out, self.let_, b"let")?;
-        self.declarations.spell(alloc, out)?;
-        emit_special(alloc, out, self.semicolon, b";")
-    }
-}
-
 /// A part of a block of definitions: loci, or a heading with its conditions and properties.
 #[derive(Drop)]
 pub enum DefinitionPartTree {
@@ -153,8 +125,7 @@ impl Copied for DefinitionPartTree {
                 heading,
                 conditions,
             } => {
-                let conditions = conditions.copy(alloc)?;
-                let heading = heading.copy(alloc)?;
+                let (heading, conditions) = copied_pair(alloc, heading, conditions)?;
                 Ok(DefinitionPartTree::Heading {
                     heading,
                     conditions,

@@ -1,0 +1,4 @@
+pub mod EachLevel
+pub mod Levels
+pub mod Rules
+pub mod Spell
