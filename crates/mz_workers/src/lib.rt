@@ -1,5 +1,5 @@
 //! Workers over a desk.
 #![tactic(auto)]
 
-pub mod alone;
+pub mod run_all;
 pub mod work;

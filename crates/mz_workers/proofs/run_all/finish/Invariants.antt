@@ -1,5 +1,5 @@
 use Rattle.std.proofs.Common.{◌≡◌}
-use Rattle.mz_workers.proofs.alone.finish.Given as goal
+use Rattle.mz_workers.proofs.run_all.finish.Given as goal
 
 abbrev pub invariant-loop : goal.invariant-loop
 invariant-loop g l = l.desk.corpus ≡ l.initial.desk.corpus

@@ -1,0 +1,130 @@
+//! All the work.
+ghost use Rattle.std.specs.Prelude.{◌≡◌, ◌≤◌, ◌<◌, ◌^◌, IfOk};
+ghost use Rattle.std.specs.Arc.{arc_value};
+ghost use Rattle.mz_axioms.specs.Library.{Sound};
+ghost use Rattle.mz_turns.specs.Library.{library_of};
+ghost use Rattle.mz_turns.specs.Verdicts.{AreVerdicts};
+ghost use Rattle.mz_desk.specs.Desk.{AllAreSettled};
+
+use crate::work::work;
+use mz_axioms::checker::Checker;
+use mz_corpus::corpus::Corpus;
+use mz_desk::claim::Claim;
+use mz_desk::desk::Desk;
+use mz_desk::job::Job;
+use mz_io::gate::Gate;
+use std::alloc::{AllocError, Global};
+use std::sync::{Arc, Condvar, Mutex, Wait};
+use std::thread;
+use std::thread::Threads;
+
+/// Runs the workers over the desk, and takes it out of its lock again.
+fn run_workers<C: Checker, G: Gate, R: Threads + Wait + Sync>(
+    rt: &R,
+    alloc: Global,
+    desk: Desk<C>,
+    checker: &C,
+    gate: &G,
+    workers: u32,
+) -> Desk<C> {
+    let desk = Mutex::new(desk);
+    let bell = Condvar::new();
+    let ended = thread::map_indices(
+        rt,
+        alloc,
+        workers as usize,
+        &|i: usize| -> Result<(), AllocError>
+            requires { i < 2 ^ 32 }
+        { work(rt, alloc, &desk, &bell, checker, gate, i as u32) },
+    );
+    drop(ended);
+    desk.into_inner()
+}
+
+/// Checks a job and publishes its result.
+fn check_one<C: Checker, R: Threads + Wait + Sync>(
+    rt: &R,
+    alloc: Global,
+    desk: &mut Desk<C>,
+    job: Job,
+    checker: &C,
+) -> Result<(), AllocError>
+    ensures { desk.new.corpus ≡ desk.old.corpus }
+{
+    match job.check(rt, alloc, checker) {
+        Ok(done) => {
+            let _ = desk.publish(done);
+            Ok(())
+        }
+        Err((_, e)) => Err(e),
+    }
+}
+
+/// Finishes the work of a desk in this thread. It passes no gate, since it is no worker's.
+fn finish<C: Checker, R: Threads + Wait + Sync>(
+    rt: &R,
+    alloc: Global,
+    mut desk: Desk<C>,
+    checker: &C,
+) -> Result<Desk<C>, AllocError>
+    ensures corpus { IfOk result (λ s. s.corpus ≡ desk.corpus) }
+    ensures settled { IfOk result (λ s. AllAreSettled s) }
+    ensures verdicts { IfOk result (λ s. AreVerdicts C.is_outcome s.corpus.articles s.rows) }
+    ensures sound { IfOk result (λ s. Sound (library_of s.rows)) }
+{
+    for _ in rt.forever() {
+        match desk.claim(alloc, 0)? {
+            Claim::Take(job) => check_one(rt, alloc, &mut desk, job, checker)?,
+            Claim::NotYet { .. } => desk.reclaim(),
+            Claim::Finished => {
+                desk.law();
+                return Ok(desk);
+            }
+        }
+    }
+    unreachable!()
+}
+
+/// The desk, or a new one where it isn't over the corpus.
+fn over<C: Checker>(
+    alloc: Global,
+    desk: Desk<C>,
+    corpus: Arc<Corpus>,
+) -> Result<Desk<C>, AllocError>
+    ensures { IfOk result (λ s. s.corpus ≡ arc_value corpus) }
+{
+    if desk.corpus().is_same(&corpus) {
+        Ok(desk)
+    } else {
+        Desk::open(alloc, corpus)
+    }
+}
+
+/// A desk over the corpus with every row settled, by this many workers, 1 to 16. The rows are the verdicts of
+/// the articles, whatever the workers do and in whatever order they come to the lock.
+///
+/// The caller's thread finishes what the workers leave, as where a thread can't be started or one of them meets
+/// want of memory. It may wait for the workers.
+///
+/// # Errors
+/// `AllocError` where memory is wanting.
+pub fn run_all<C: Checker, G: Gate, R: Threads + Wait + Sync>(
+    rt: &R,
+    alloc: Global,
+    corpus: Arc<Corpus>,
+    checker: &C,
+    gate: &G,
+    workers: u32,
+) -> Result<Desk<C>, AllocError>
+    requires { (1 ≤ workers) × (workers ≤ 16) }
+    ensures corpus { IfOk result (λ s. s.corpus ≡ arc_value corpus) }
+    ensures settled { IfOk result (λ s. AllAreSettled s) }
+    ensures verdicts { IfOk result (λ s. AreVerdicts C.is_outcome (arc_value corpus).articles s.rows) }
+    ensures sound { IfOk result (λ s. Sound (library_of s.rows)) }
+{
+    let desk = Desk::open(alloc, Arc::try_clone(&corpus)?)?;
+    let desk = run_workers(rt, alloc, desk, checker, gate, workers);
+    let mut desk = over(alloc, desk, corpus)?;
+    desk.reclaim();
+    finish(rt, alloc, desk, checker)
+}
