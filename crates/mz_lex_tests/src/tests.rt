@@ -15,9 +15,9 @@ use mz_lex::table::table;
 use mz_lex::table_fault::TableFault;
 use mz_lex::tokens::tokens;
 use mz_voc::voc_fault::VocFault;
-use std::alloc::{AllocError, Global};
+use std::alloc::Global;
+use std::process::Abort;
 use std::sync::Arc;
-use std::test::Fail;
 
 /// An answer: that there is one, or a refusal with its place.
 #[derive(Clone, Copy, Debug, PartialEq, Eq)]
@@ -38,32 +38,41 @@ enum Answer {
     Memory,
 }
 
-fn vocabulary(alloc: Global, name: &[u8], bytes: &[u8]) -> Result<VocabularyText, Fail> {
-    let text = Arc::new(alloc, Text::from_slice(alloc, bytes)?)?;
-    Ok(VocabularyText {
-        name: Name::read(name).ok().ok_or("no name")?,
-        text: Some(text),
-    })
+fn vocabulary(rt: &impl Abort, alloc: Global, name: &[u8], bytes: &[u8]) -> VocabularyText {
+    let text = Text::from_slice(alloc, bytes).expect(rt, "memory");
+    VocabularyText {
+        name: Name::read(name).expect(rt, "a name"),
+        text: Some(Arc::new(alloc, text).expect(rt, "memory")),
+    }
+}
+
+/// The vocabularies with these names and bytes.
+fn vocabularies(rt: &impl Abort, alloc: Global, rows: &[(&[u8], &[u8])]) -> Vocabularies {
+    let mut items = Vec::new(alloc);
+    for (name, bytes) in rows {
+        items
+            .push(vocabulary(rt, alloc, name, bytes))
+            .expect(rt, "memory");
+    }
+    Vocabularies { items }
 }
 
 /// The table of a text that names the vocabularies A and B, with these bytes.
-fn table_of(alloc: Global, a: &[u8], b: &[u8], text: &[u8]) -> Result<SymbolTable, Fail> {
-    let mut items = Vec::new(alloc);
-    items.push(vocabulary(alloc, b"A", a)?)?;
-    items.push(vocabulary(alloc, b"B", b)?)?;
-    let part = head(alloc, text)?;
-    Ok(table(alloc, &Vocabularies { items }, &part)?)
+fn table_of(rt: &impl Abort, alloc: Global, a: &[u8], b: &[u8], text: &[u8]) -> SymbolTable {
+    let vocabularies = vocabularies(rt, alloc, &[(b"A", a), (b"B", b)]);
+    let part = head(alloc, text).expect(rt, "an environment part");
+    table(alloc, &vocabularies, &part).expect(rt, "a table")
 }
 
-fn tokens_answer(alloc: Global, symbols: &[u8], text: &[u8]) -> Result<Answer, Fail> {
-    let table = table_of(alloc, symbols, b"", b"environ vocabularies A; begin")?;
-    Ok(match tokens(alloc, &table, text) {
+fn tokens_answer(rt: &impl Abort, alloc: Global, symbols: &[u8], text: &[u8]) -> Answer {
+    let table = table_of(rt, alloc, symbols, b"", b"environ vocabularies A; begin");
+    match tokens(alloc, &table, text) {
         Ok(tokens) => Answer::Fine(tokens.items.len()),
         Err(LexFault::BadByte { place }) => Answer::BadByte(place.line, place.column),
         Err(LexFault::TooManyTokens { place }) => Answer::TooManyTokens(place.line, place.column),
         Err(LexFault::Pragma { place }) => Answer::Pragma(place.line, place.column),
         Err(LexFault::Memory(_)) => Answer::Memory,
-    })
+    }
 }
 
 fn head_answer(alloc: Global, text: &[u8]) -> Answer {
@@ -88,14 +97,14 @@ fn bad(place: Place, fault: &VocFault) -> Answer {
     }
 }
 
-fn table_answer(alloc: Global, a: &[u8], b: &[u8], text: &[u8]) -> Result<Answer, Fail> {
-    let mut items = Vec::new(alloc);
-    items.push(vocabulary(alloc, b"A", a)?)?;
-    items.push(vocabulary(alloc, b"B", b)?)?;
-    items.push(vocabulary(alloc, b"TARSKI_0", b"Rq")?)?;
-    items.push(vocabulary(alloc, b"HIDDEN", b"::")?)?;
-    let part = head(alloc, text)?;
-    Ok(match table(alloc, &Vocabularies { items }, &part) {
+fn table_answer(rt: &impl Abort, alloc: Global, a: &[u8], b: &[u8], text: &[u8]) -> Answer {
+    let mut vocabularies = vocabularies(rt, alloc, &[(b"A", a), (b"B", b)]);
+    for (name, bytes) in [("TARSKI_0", "Rq"), ("HIDDEN", "::")] {
+        let built_in = vocabulary(rt, alloc, name.as_bytes(), bytes.as_bytes());
+        vocabularies.items.push(built_in).expect(rt, "memory");
+    }
+    let part = head(alloc, text).expect(rt, "an environment part");
+    match table(alloc, &vocabularies, &part) {
         Ok(_) => Answer::Fine(0),
         Err(TableFault::Absent { place }) => Answer::Absent(place.line, place.column),
         Err(TableFault::Bad { place, fault }) => bad(place, &fault),
@@ -104,20 +113,20 @@ fn table_answer(alloc: Global, a: &[u8], b: &[u8], text: &[u8]) -> Result<Answer
             Answer::TooManySymbols(place.line, place.column)
         }
         Err(TableFault::Memory(_)) => Answer::Memory,
-    })
+    }
 }
 
 /// A text with the number of semicolons behind it.
-fn with_semicolons(alloc: Global, text: &[u8], count: usize) -> Result<Vec<u8>, AllocError> {
-    let mut bytes = Vec::from_slice(alloc, text)?;
+fn with_semicolons(rt: &impl Abort, alloc: Global, text: &[u8], count: usize) -> Vec<u8> {
+    let mut bytes = Vec::from_slice(alloc, text).expect(rt, "memory");
     for _ in 0..count {
-        bytes.push(b';')?;
+        bytes.push(b';').expect(rt, "memory");
     }
-    Ok(bytes)
+    bytes
 }
 
 /// A vocabulary of so many attributes, each of three letters.
-fn attributes(alloc: Global, count: usize) -> Result<Vec<u8>, AllocError> {
+fn attributes(rt: &impl Abort, alloc: Global, count: usize) -> Vec<u8> {
     let mut bytes = Vec::new(alloc);
     let mut left = count;
     for a in b'a'..=b'z' {
@@ -125,16 +134,19 @@ fn attributes(alloc: Global, count: usize) -> Result<Vec<u8>, AllocError> {
             for c in b'A'..=b'Z' {
                 if left > 0 {
                     left -= 1;
-                    bytes.extend_from_slice([b'V', a, b, c, b'\n'].as_slice())?;
+                    let line = [b'V', a, b, c, b'\n'];
+                    bytes
+                        .extend_from_slice(line.as_slice())
+                        .expect(rt, "memory");
                 }
             }
         }
     }
-    Ok(bytes)
+    bytes
 }
 
 #[test]
-fn cuts_each_built_in_spelling(rt: HostRuntime) -> Result<(), Fail> {
+fn cuts_each_built_in_spelling(rt: HostRuntime) {
     let words =
         b"and antonym are as assume asymmetry attr be begin being by canceled case cases cluster coherence commutativity compatibility connectedness consider consistency constructors contradiction correctness def deffunc definition definitions defpred do does end environ equalities equals ex exactly existence expansions for from func given hence hereby holds idempotence identify if iff implies involutiveness irreflexivity is it let means mode non not notation notations now of or otherwise over per pred projectivity proof provided qua reconsider redefine reduce reducibility reflexivity registration registrations requirements reserve sch scheme schemes set sethood st struct such suppose symmetry synonym take that the then theorem theorems thesis thus to transitivity uniqueness vocabularies where with";
     let specials = b", ; : ( ) [ ] { } & -> .= (# #) $1 $2 $3 $4 $5 $6 $7 $8 $9 $10";
@@ -143,15 +155,15 @@ fn cuts_each_built_in_spelling(rt: HostRuntime) -> Result<(), Fail> {
         (specials.as_slice(), TokenKind::Special, 24),
     ];
     let alloc = rt.alloc();
-    let table = SymbolTable::new(alloc, built_in_lexemes(alloc)?)?;
+    let built_in = built_in_lexemes(alloc).expect(&rt, "memory");
+    let table = SymbolTable::new(alloc, built_in).expect(&rt, "memory");
     for (text, kind, count) in rows {
-        let tokens = tokens(alloc, &table, text)?;
+        let tokens = tokens(alloc, &table, text).expect(&rt, "tokens");
         assert_eq!(rt; tokens.items.len(), count);
         for token in &tokens.items {
             assert_eq!(rt; token.kind, kind);
         }
     }
-    Ok(())
 }
 
 /// The letter of a kind: that of a vocabulary for symbols, and a small one for the others.
@@ -173,18 +185,23 @@ fn letter(kind: TokenKind) -> u8 {
 }
 
 /// The tokens from the one at `from` on, each with its letter and its place.
-fn listed(alloc: Global, tokens: &[Token], from: usize) -> Result<Vec<u8>, Fail> {
+fn listed(rt: &impl Abort, alloc: Global, tokens: &[Token], from: usize) -> Vec<u8> {
     let mut bytes = Vec::new(alloc);
     for (at, token) in tokens.iter().enumerate() {
         if at >= from {
-            bytes.extend_from_slice(token.spelling.as_slice())?;
-            bytes.push(b' ')?;
-            bytes.push(letter(token.kind))?;
-            let place = format!(in alloc; "{}:{} ", token.place.line, token.place.column)?;
-            bytes.extend_from_slice(place.as_bytes())?;
+            bytes
+                .extend_from_slice(token.spelling.as_slice())
+                .expect(rt, "memory");
+            bytes.push(b' ').expect(rt, "memory");
+            bytes.push(letter(token.kind)).expect(rt, "memory");
+            let place = format!(in alloc; "{}:{} ", token.place.line, token.place.column);
+            let place = place.expect(rt, "memory");
+            bytes
+                .extend_from_slice(place.as_bytes())
+                .expect(rt, "memory");
         }
     }
-    Ok(bytes)
+    bytes
 }
 
 /// A vocabulary, a text, from which token on it is looked at, and these tokens.
@@ -294,41 +311,38 @@ const ARTICLES: [Row; 3] = [
 ];
 
 /// The first row whose text is cut into other tokens.
-fn first_wrong(alloc: Global, rows: &[Row]) -> Result<Option<usize>, Fail> {
+fn first_wrong(rt: &impl Abort, alloc: Global, rows: &[Row]) -> Option<usize> {
     for (at, row) in rows.iter().enumerate() {
         let (symbols, text, from, want) = *row;
-        let table = table_of(alloc, symbols, b"", b"environ vocabularies A; begin")?;
-        let tokens = tokens(alloc, &table, text)?;
-        let found = listed(alloc, tokens.items.as_slice(), from)?;
+        let table = table_of(rt, alloc, symbols, b"", b"environ vocabularies A; begin");
+        let tokens = tokens(alloc, &table, text).expect(rt, "tokens");
+        let found = listed(rt, alloc, tokens.items.as_slice(), from);
         if found.as_slice() != want {
-            return Ok(Some(at));
+            return Some(at);
         }
     }
-    Ok(None)
+    None
 }
 
 #[test]
-fn cuts_the_environment_part(rt: HostRuntime) -> Result<(), Fail> {
-    assert_eq!(rt; first_wrong(rt.alloc(), &IN_FRONT)?, None);
-    Ok(())
+fn cuts_the_environment_part(rt: HostRuntime) {
+    assert_eq!(rt; first_wrong(&rt, rt.alloc(), &IN_FRONT), None);
 }
 
 #[test]
-fn cuts_what_stands_behind(rt: HostRuntime) -> Result<(), Fail> {
-    assert_eq!(rt; first_wrong(rt.alloc(), &BEHIND)?, None);
-    Ok(())
+fn cuts_what_stands_behind(rt: HostRuntime) {
+    assert_eq!(rt; first_wrong(&rt, rt.alloc(), &BEHIND), None);
 }
 
 #[test]
-fn cuts_articles(rt: HostRuntime) -> Result<(), Fail> {
-    assert_eq!(rt; first_wrong(rt.alloc(), &ARTICLES)?, None);
-    Ok(())
+fn cuts_articles(rt: HostRuntime) {
+    assert_eq!(rt; first_wrong(&rt, rt.alloc(), &ARTICLES), None);
 }
 
 #[test]
-fn tells_where_the_cut_stops(rt: HostRuntime) -> Result<(), Fail> {
-    let most = with_semicolons(rt.alloc(), b"environ begin", 199_998)?;
-    let more = with_semicolons(rt.alloc(), b"environ begin", 199_999)?;
+fn tells_where_the_cut_stops(rt: HostRuntime) {
+    let most = with_semicolons(&rt, rt.alloc(), b"environ begin", 199_998);
+    let more = with_semicolons(&rt, rt.alloc(), b"environ begin", 199_999);
     let rows: [(&[u8], Answer); 12] = [
         (b"", Answer::Fine(0)),
         (b":: the end", Answer::Fine(0)),
@@ -344,13 +358,12 @@ fn tells_where_the_cut_stops(rt: HostRuntime) -> Result<(), Fail> {
         (more.as_slice(), Answer::TooManyTokens(1, 200_012)),
     ];
     for (text, want) in rows {
-        assert_eq!(rt; tokens_answer(rt.alloc(), b"", text)?, want);
+        assert_eq!(rt; tokens_answer(&rt, rt.alloc(), b"", text), want);
     }
-    Ok(())
 }
 
 #[test]
-fn reads_heads(rt: HostRuntime) -> Result<(), Fail> {
+fn reads_heads(rt: HostRuntime) {
     let rows: [(&[u8], Answer); 16] = [
         (b"environ begin", Answer::Fine(0)),
         (b"environ begin \xc8", Answer::Fine(0)),
@@ -378,19 +391,19 @@ fn reads_heads(rt: HostRuntime) -> Result<(), Fail> {
     for (text, want) in rows {
         assert_eq!(rt; head_answer(rt.alloc(), text), want, "at {text:?}");
     }
-    Ok(())
 }
 
 #[test]
-fn reads_directives(rt: HostRuntime) -> Result<(), Fail> {
-    let part = head(rt.alloc(), b"environ vocabularies A,b; theorems C; begin")?;
+fn reads_directives(rt: HostRuntime) {
+    let part = head(rt.alloc(), b"environ vocabularies A,b; theorems C; begin");
+    let part = part.expect(&rt, "an environment part");
     assert_eq!(rt; part.items.len(), 2);
     assert_eq!(rt; part.items[0].kind, DirectiveKind::Vocabularies);
     assert_eq!(rt; part.items[0].place, Place { line: 1, column: 9 });
     assert_eq!(rt; part.items[0].names.items.len(), 2);
     assert_eq!(rt;
         part.items[0].names.items[1].name,
-        Name::read(b"B").ok().ok_or("no name")?
+        Name::read(b"B").expect(&rt, "a name")
     );
     assert_eq!(rt;
         part.items[0].names.items[1].place,
@@ -400,12 +413,11 @@ fn reads_directives(rt: HostRuntime) -> Result<(), Fail> {
         }
     );
     assert_eq!(rt; part.items[1].kind, DirectiveKind::Theorems);
-    Ok(())
 }
 
 #[test]
-fn joins_vocabularies(rt: HostRuntime) -> Result<(), Fail> {
-    let most = attributes(rt.alloc(), 4_096)?;
+fn joins_vocabularies(rt: HostRuntime) {
+    let most = attributes(&rt, rt.alloc(), 4_096);
     let both = b"environ vocabularies A, B; begin";
     let again = b"environ vocabularies A, B, A; begin";
     let hidden = b"environ vocabularies HIDDEN; theorems C; begin";
@@ -423,13 +435,12 @@ fn joins_vocabularies(rt: HostRuntime) -> Result<(), Fail> {
         ),
     ];
     for (a, b, text, want) in rows {
-        assert_eq!(rt; table_answer(rt.alloc(), a, b, text)?, want);
+        assert_eq!(rt; table_answer(&rt, rt.alloc(), a, b, text), want);
     }
-    Ok(())
 }
 
 #[test]
-fn tells_the_first_vocabulary_that_fails(rt: HostRuntime) -> Result<(), Fail> {
+fn tells_the_first_vocabulary_that_fails(rt: HostRuntime) {
     let both = b"environ vocabularies A, B; begin";
     let one = b"environ vocabularies A; begin";
     let no_text = b"environ vocabularies NOVOC; begin";
@@ -442,17 +453,15 @@ fn tells_the_first_vocabulary_that_fails(rt: HostRuntime) -> Result<(), Fail> {
         (b"", b"", built_in, Answer::Absent(1, 22)),
     ];
     for (a, b, text, want) in rows {
-        assert_eq!(rt; table_answer(rt.alloc(), a, b, text)?, want);
+        assert_eq!(rt; table_answer(&rt, rt.alloc(), a, b, text), want);
     }
-    Ok(())
 }
 
 #[test]
-fn keeps_the_first_priority(rt: HostRuntime) -> Result<(), Fail> {
+fn keeps_the_first_priority(rt: HostRuntime) {
     let both = b"environ vocabularies A, B; begin";
-    let joined = table_of(rt.alloc(), b"O+ 10\nR~", b"O+ 20", both)?;
-    let tokens = tokens(rt.alloc(), &joined, b"environ begin + ~")?;
-    assert_eq!(rt; tokens.items.get(2).ok_or("no token")?.priority, 10);
-    assert_eq!(rt; tokens.items.last().ok_or("no token")?.priority, 0);
-    Ok(())
+    let joined = table_of(&rt, rt.alloc(), b"O+ 10\nR~", b"O+ 20", both);
+    let tokens = tokens(rt.alloc(), &joined, b"environ begin + ~").expect(&rt, "tokens");
+    assert_eq!(rt; tokens.items.get(2).expect(&rt, "a token").priority, 10);
+    assert_eq!(rt; tokens.items.last().expect(&rt, "a token").priority, 0);
 }
