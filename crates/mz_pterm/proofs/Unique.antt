@@ -228,3 +228,6 @@ terms_one field (suc n) = let o = terms_one field n in record {
 
 pub one_terms : (field : Bool) → OneTree (terms_form field)
 one_terms field = one_tree (terms_form field) (λ n. (terms_one field n).lists)
+
+pub one_term : (field : Bool) → OneTree (term_form field)
+one_term field = one_tree (term_form field) (λ n. (terms_one field n).terms)

@@ -1,15 +1,15 @@
-//! The parse of terms from a place on.
+//! The parses of a term and of terms from a place on.
 ghost use Rattle.std.specs.Prelude.{◌≡◌, ◌≤◌, Bool, length};
 ghost use Rattle.mz_forms.specs.Parse.{OneTree};
-ghost use Rattle.mz_tree.specs.Views.{terms_of};
-ghost use Rattle.mz_tree.specs.Grammar.{terms};
+ghost use Rattle.mz_tree.specs.Views.{term_of, terms_of};
+ghost use Rattle.mz_tree.specs.Grammar.{term, terms};
 ghost use Rattle.mz_pterm.specs.Parses.{Parses, fault_of};
 
 use crate::reader::Reader;
 use mz_base::place::Place;
 use mz_base::token::MarkedToken;
 use mz_forms::refusal::Refusal;
-use mz_tree::nodes::TermsNode;
+use mz_tree::nodes::{TermNode, TermsNode};
 use std::alloc::Global;
 use thiserror::Error;
 
@@ -54,6 +54,28 @@ pub fn fault(rest: &[MarkedToken], end: Place, refusal: Refusal) -> ParseFault
     }
 }
 
+/// The longest term from the token with this number on, and the number of the token behind it. `end` is the place just
+/// after the text's last byte; `field` says whether a field's type is read, in which a selector may stand without `of`.
+pub fn term(
+    alloc: Global,
+    tokens: &[MarkedToken],
+    end: Place,
+    at: usize,
+    field: bool,
+) -> Result<(TermNode, usize), ParseFault>
+    requires { at ≤ length tokens.now }
+    ensures { Parses (term field) term_of tokens.now end at result }
+{
+    let mut reader = Reader {
+        rest: &tokens[at..],
+        alloc,
+    };
+    match reader.term(field, MAX_NESTING) {
+        Ok(term) => Ok((term, tokens.len() - reader.rest.len())),
+        Err(refusal) => Err(fault(reader.rest, end, refusal)),
+    }
+}
+
 /// The longest terms from the token with this number on, and the number of the token behind them. `end` is the place
 /// just after the text's last byte; `field` says whether a field's type is read, in which a selector may stand without
 /// `of`.
@@ -77,7 +99,8 @@ pub fn terms(
     }
 }
 
-/// Two lists of terms that spell the same tokens are equal, however deep they nest.
+/// Two terms and two lists of terms that spell the same tokens are equal, however deep they nest.
 pub fn one_tree()
-    ensures { (field : Bool) → OneTree (terms field) }
+    ensures term { (field : Bool) → OneTree (term field) }
+    ensures terms { (field : Bool) → OneTree (terms field) }
 {}
