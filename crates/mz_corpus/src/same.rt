@@ -1,5 +1,5 @@
 //! Whether two corpora are the same.
-ghost use Rattle.std.specs.Prelude.{◌≡◌, IsTrue};
+ghost use Rattle.std.specs.Prelude.{◌≡◌, ◌↔◌, IsTrue};
 ghost use Rattle.std.specs.Option.{option_map};
 ghost use Rattle.std.specs.Arc.{arc_value};
 
@@ -11,13 +11,13 @@ use mz_base::vocabularies::VocabularyText;
 use std::sync::Arc;
 
 fn is_same_name(a: &Name, b: &Name) -> bool
-    ensures { IsTrue result → a.now ≡ b.now }
+    ensures { IsTrue result ↔ (a.now ≡ b.now) }
 {
     a.number == b.number
 }
 
 fn are_same_names(a: &[Name], b: &[Name]) -> bool
-    ensures { IsTrue result → a.now ≡ b.now }
+    ensures { IsTrue result ↔ (a.now ≡ b.now) }
 {
     match a.split_first() {
         None => b.is_empty(),
@@ -29,13 +29,13 @@ fn are_same_names(a: &[Name], b: &[Name]) -> bool
 }
 
 fn are_same_bytes(a: &[u8], b: &[u8]) -> bool
-    ensures { IsTrue result → a.now ≡ b.now }
+    ensures { IsTrue result ↔ (a.now ≡ b.now) }
 {
     a == b
 }
 
 fn is_same_text(a: &Option<Arc<Text>>, b: &Option<Arc<Text>>) -> bool
-    ensures { IsTrue result → option_map arc_value a.now ≡ option_map arc_value b.now }
+    ensures { IsTrue result ↔ (option_map arc_value a.now ≡ option_map arc_value b.now) }
 {
     match a {
         Some(a) => match b {
@@ -50,13 +50,13 @@ fn is_same_text(a: &Option<Arc<Text>>, b: &Option<Arc<Text>>) -> bool
 }
 
 fn is_same_vocabulary(a: &VocabularyText, b: &VocabularyText) -> bool
-    ensures { IsTrue result → a.now ≡ b.now }
+    ensures { IsTrue result ↔ (a.now ≡ b.now) }
 {
     is_same_name(&a.name, &b.name) && is_same_text(&a.text, &b.text)
 }
 
 fn are_same_vocabularies(a: &[VocabularyText], b: &[VocabularyText]) -> bool
-    ensures { IsTrue result → a.now ≡ b.now }
+    ensures { IsTrue result ↔ (a.now ≡ b.now) }
 {
     match a.split_first() {
         None => b.is_empty(),
@@ -68,7 +68,7 @@ fn are_same_vocabularies(a: &[VocabularyText], b: &[VocabularyText]) -> bool
 }
 
 fn is_same_article(a: &Article, b: &Article) -> bool
-    ensures { IsTrue result → a.now ≡ b.now }
+    ensures { IsTrue result ↔ (a.now ≡ b.now) }
 {
     is_same_name(&a.name, &b.name)
         && is_same_text(&a.text, &b.text)
@@ -83,7 +83,7 @@ fn is_same_article(a: &Article, b: &Article) -> bool
 }
 
 fn are_same_articles(a: &[Article], b: &[Article]) -> bool
-    ensures { IsTrue result → a.now ≡ b.now }
+    ensures { IsTrue result ↔ (a.now ≡ b.now) }
 {
     match a.split_first() {
         None => b.is_empty(),
@@ -95,9 +95,9 @@ fn are_same_articles(a: &[Article], b: &[Article]) -> bool
 }
 
 impl Corpus {
-    /// Whether both are the same. It answers true only where they are.
+    /// Whether both are the same.
     pub fn is_same(&self, other: &Corpus) -> bool
-        ensures { IsTrue result → self.now ≡ other.now }
+        ensures { IsTrue result ↔ (self.now ≡ other.now) }
     {
         are_same_articles(self.articles.as_slice(), other.articles.as_slice())
             && are_same_vocabularies(
