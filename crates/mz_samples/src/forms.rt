@@ -1,6 +1,7 @@
 //! Terms and formulas, read from their texts: `bI`, `cI`, `(NAME.LN T U)`, `true`, `(= T U)`, `(not F)`, `(and F G)`,
 //! `(all F)`, and beside these `(or F G)` and `(implies F G)`.
 use crate::fault::SampleFault;
+use crate::pieces::read;
 use crate::reader::{Reader, last_formula, last_term};
 use mz_logic::formula::Formula;
 use mz_logic::formulas::Formulas;
@@ -10,7 +11,7 @@ use std::alloc::Global;
 /// The terms of a text, with blanks between them.
 pub fn terms(alloc: Global, text: &str) -> Result<Terms, SampleFault> {
     let mut reader = Reader::new(alloc);
-    reader.read(alloc, text)?;
+    read(&mut reader, alloc, text)?;
     if reader.formulas.len() == 0 {
         Ok(reader.terms)
     } else {
@@ -21,7 +22,7 @@ pub fn terms(alloc: Global, text: &str) -> Result<Terms, SampleFault> {
 /// The formulas of a text, with blanks between them, and commas or none.
 pub fn formulas(alloc: Global, text: &str) -> Result<Formulas, SampleFault> {
     let mut reader = Reader::new(alloc);
-    reader.read(alloc, text)?;
+    read(&mut reader, alloc, text)?;
     if reader.terms.len() == 0 {
         Ok(reader.formulas)
     } else {

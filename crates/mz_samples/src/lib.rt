@@ -4,7 +4,8 @@
 pub mod fault;
 pub mod forms;
 pub mod parts;
+pub mod pieces;
 mod reader;
-mod symbols;
+pub mod symbols;
 #[cfg(test)]
 mod tests;

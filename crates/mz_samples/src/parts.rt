@@ -1,6 +1,7 @@
 //! Literals, disjuncts, sequents and letters, read from their texts.
 use crate::fault::SampleFault;
 use crate::forms::{formula, formulas};
+use crate::pieces::read;
 use crate::reader::Reader;
 use crate::symbols::symbol;
 use mz_logic::disjunct::Disjunct;
@@ -99,7 +100,7 @@ fn letter(alloc: Global, text: &str) -> Result<Letter, SampleFault> {
     let (word, rest) = text.split_once(' ').ok_or(SampleFault::Text)?;
     let letter = symbol(word).ok_or(SampleFault::Text)?;
     let mut reader = Reader::new(alloc);
-    reader.read(alloc, rest)?;
+    read(&mut reader, alloc, rest)?;
     let body = match (reader.terms.items.pop(), reader.formulas.items.pop()) {
         (Some(t), None) => Body::OfTerm(t),
         (None, Some(f)) => Body::OfFormula(f),

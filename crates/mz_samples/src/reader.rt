@@ -1,5 +1,6 @@
 //! What is read of a text, word by word.
 use crate::fault::SampleFault;
+use crate::pieces::Builder;
 use crate::symbols::{makes_terms, number, symbol};
 use mz_logic::conjunction::implies;
 use mz_logic::formula::Formula;
@@ -113,7 +114,9 @@ impl Reader {
         }
         Ok(())
     }
+}
 
+impl Builder for Reader {
     fn open(&mut self, alloc: Global, word: &str) -> Result<(), SampleFault> {
         let head = Head::of(word).ok_or(SampleFault::Text)?;
         let terms = mem::replace(&mut self.terms, Terms::new(alloc));
@@ -160,32 +163,7 @@ impl Reader {
         Ok(())
     }
 
-    /// Reads a piece without blanks: a word, with the parentheses before and behind it. A comma at its end is
-    /// passed over.
-    fn piece(&mut self, alloc: Global, piece: &str) -> Result<(), SampleFault> {
-        let piece = piece.trim_end_matches(',');
-        let behind = piece.trim_start_matches('(');
-        let word = behind.trim_end_matches(')');
-        if behind.len() < piece.len() {
-            self.open(alloc, word)?;
-        } else {
-            self.word(alloc, word)?;
-        }
-        for _ in word.len()..behind.len() {
-            self.close(alloc)?;
-        }
-        Ok(())
-    }
-
-    /// Reads a text to its end, where no parenthesis is open.
-    pub fn read(&mut self, alloc: Global, text: &str) -> Result<(), SampleFault> {
-        for piece in text.split_whitespace() {
-            self.piece(alloc, piece)?;
-        }
-        if self.outer.is_empty() {
-            Ok(())
-        } else {
-            Err(SampleFault::Text)
-        }
+    fn is_whole(&self) -> bool {
+        self.outer.is_empty()
     }
 }

@@ -43,9 +43,13 @@ pub fn number(digits: &[u8]) -> Option<u32> {
     Some(number)
 }
 
-/// The number of an article's name: its bytes, filled with zeros to eight.
+fn is_name_byte(byte: u8) -> bool {
+    byte.is_ascii_alphanumeric() || byte == b'_'
+}
+
+/// The number of an article's name: its bytes, letters and digits, filled with zeros to eight.
 fn article(name: &[u8]) -> Option<u64> {
-    if name.is_empty() || name.len() > 8 {
+    if name.is_empty() || name.len() > 8 || !name.iter().all(|byte| is_name_byte(*byte)) {
         return None;
     }
     let mut bytes = [0; 8];
