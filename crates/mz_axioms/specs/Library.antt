@@ -64,7 +64,7 @@ pub record Sound (library : List Export) : Type 0 where
   pub in_order : AreInOrder library
   pub built_in : All (Contains library) built_in_exports
   pub primitive : All HasPrimitivesOnlyIfBuiltIn library
-  pub noted : All HasNotationsOfItems library
+  pub with_notations : All HasNotationsOfItems library
   pub closed : All HasClosedItems library
   pub known : (e : Export) → Contains library e → All (HasName library) e.dependencies
   pub acyclic : (a : Name) → DependsOn library a a → ⊥
@@ -92,7 +92,7 @@ place_in n (f ∷ fs) = next_place (nat_lt f.name.number n.number) (place_in n f
 pub record MayBeAdded (library : List Export) (e : Export) : Type 0 where
   pub fresh : HasName library e.name → ⊥
   pub primitive : HasPrimitivesOnlyIfBuiltIn e
-  pub noted : HasNotationsOfItems e
+  pub with_notations : HasNotationsOfItems e
   pub closed : HasClosedItems e
   pub known : All (HasName library) e.dependencies
   pub derivable : OwesDerivable (added e library) e

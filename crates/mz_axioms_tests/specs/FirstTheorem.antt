@@ -74,7 +74,7 @@ may_be_added : (library : List Export) (name : Name) → (HasName library name �
 may_be_added library name lacks = record {
   fresh = lacks;
   primitive = λ h. refl;
-  noted = refl;
+  with_notations = refl;
   closed = refl;
   known = All-nil (HasName library);
   derivable = theorem_derivable (added (export_named name) library) name;

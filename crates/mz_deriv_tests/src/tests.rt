@@ -22,7 +22,7 @@ fn verdicts(rt: &impl Abort, alloc: Global, text: &str) -> (bool, bool) {
 }
 
 #[test]
-fn derivations_with_connectives(rt: HostRuntime) {
+fn hypotheses_and_weakening(rt: HostRuntime) {
     let rows = [
         (
             "hypothesis: (A.R1 c1), (A.R1 c2) |- (A.R1 c1)",
@@ -41,6 +41,15 @@ fn derivations_with_connectives(rt: HostRuntime) {
         ),
         ("truth: |- true", (true, true)),
         ("truth: |- (not true)", (false, false)),
+    ];
+    for (text, wanted) in rows {
+        assert_eq!(rt; verdicts(&rt, rt.alloc(), text), wanted, "{text}");
+    }
+}
+
+#[test]
+fn derivations_with_conjunctions(rt: HostRuntime) {
+    let rows = [
         (
             "hypothesis: (A.R1 c1), (A.R1 c2) |- (A.R1 c1)
             hypothesis: (A.R1 c1), (A.R1 c2) |- (A.R1 c2)
@@ -73,6 +82,15 @@ fn derivations_with_connectives(rt: HostRuntime) {
             and right: (and (A.R1 c1) (A.R1 c2)) |- (A.R1 c1)",
             (false, false),
         ),
+    ];
+    for (text, wanted) in rows {
+        assert_eq!(rt; verdicts(&rt, rt.alloc(), text), wanted, "{text}");
+    }
+}
+
+#[test]
+fn derivations_with_negations(rt: HostRuntime) {
+    let rows = [
         (
             "hypothesis: (not true), (A.R1 c1) |- (not true)
             not in: (A.R1 c1) |- (not (not true))",
@@ -105,6 +123,15 @@ fn derivations_with_connectives(rt: HostRuntime) {
             classical: (not true) |- (A.R1 c1)",
             (false, false),
         ),
+    ];
+    for (text, wanted) in rows {
+        assert_eq!(rt; verdicts(&rt, rt.alloc(), text), wanted, "{text}");
+    }
+}
+
+#[test]
+fn derivations_with_a_cut(rt: HostRuntime) {
+    let rows = [
         (
             "truth: (A.R1 c2) |- true
             hypothesis: true, (A.R1 c2) |- (A.R1 c2)
@@ -124,7 +151,7 @@ fn derivations_with_connectives(rt: HostRuntime) {
 }
 
 #[test]
-fn derivations_with_quantifiers_and_equations(rt: HostRuntime) {
+fn derivations_with_quantifiers(rt: HostRuntime) {
     let rows = [
         (
             "reflexive: |- (= c1 c1)
@@ -151,6 +178,15 @@ fn derivations_with_quantifiers_and_equations(rt: HostRuntime) {
             all out b0: (all (A.R1 b0)) |- (A.R1 b0)",
             (false, false),
         ),
+    ];
+    for (text, wanted) in rows {
+        assert_eq!(rt; verdicts(&rt, rt.alloc(), text), wanted, "{text}");
+    }
+}
+
+#[test]
+fn derivations_with_equations(rt: HostRuntime) {
+    let rows = [
         ("reflexive: |- (= (A.O1 c1) (A.O1 c1))", (true, true)),
         ("reflexive: |- (= c1 c2)", (false, false)),
         ("reflexive: |- (= b0 b0)", (false, false)),
@@ -166,6 +202,15 @@ fn derivations_with_quantifiers_and_equations(rt: HostRuntime) {
             replace: (= c1 c2), (A.R1 c2) |- (A.R1 c1)",
             (false, false),
         ),
+    ];
+    for (text, wanted) in rows {
+        assert_eq!(rt; verdicts(&rt, rt.alloc(), text), wanted, "{text}");
+    }
+}
+
+#[test]
+fn axioms_and_instances(rt: HostRuntime) {
+    let rows = [
         ("axiom 2: |- (all (A.R1 b0))", (true, true)),
         ("axiom 1: |- (all (A.R1 b0))", (false, false)),
         ("axiom 0: |- (all (= b0 b0))", (false, false)),

@@ -52,7 +52,7 @@ use Rattle.mz_core.proofs.AllLemmas.{all-map, all-append, all-alone, adjective_a
 use Rattle.mz_items.specs.declared.condition.Condition.{Condition}
 use Rattle.mz_items.specs.declared.condition.Condition.TheVariants.{Existence, Uniqueness, Coherence, Compatibility, Consistency, Reducibility}
 use Rattle.mz_items.specs.Loci.{over, inward, variables, term_on, predicate_on, attribute_on, mode_on}
-use Rattle.mz_items.specs.Closed.{item_closed, pattern_closed, is_locus, are_distinct, right_fits, is_only, formula_definiens_under, term_definiens_under, type_if_any_under, functor_meaning_under, formula_meaning_under, functor_redefinition_under, mode_redefinition_under, atom_redefinition_under, property_form_under, existential_under, conditional_under, functorial_under, field_under, letter_closed, notation_closed}
+use Rattle.mz_items.specs.Closed.{item_closed, kind_fits, contents_closed, pattern_closed, is_locus, are_distinct, right_fits, is_only, formula_definiens_under, term_definiens_under, type_if_any_under, functor_meaning_under, formula_meaning_under, functor_redefinition_under, mode_redefinition_under, atom_redefinition_under, property_form_under, existential_under, conditional_under, functorial_under, field_under, letter_closed, notation_closed}
 use Rattle.mz_items.specs.Cases.{formula_cases, term_cases, agreements_in_type, agreements_as_formulas, agreements_as_terms}
 use Rattle.mz_items.specs.DefinitionRows.{consistency, functor_means_thesis, functor_equals_thesis, atom_thesis, mode_means_thesis, functor_type, functor_meaning, equal_functor_type, equal_functor_meaning, predicate_meaning, attribute_meaning, mode_result_type, mode_meaning}
 use Rattle.mz_items.specs.RedefinitionRows.{type_or, functor_coherence, mode_coherence, functor_compatibility, mode_compatibility, atom_compatibility, functor_redefinition_thesis, mode_redefinition_thesis, atom_redefinition_thesis}
@@ -461,7 +461,7 @@ one_closed n s h = all-alone (statement_under n) s h
 two_closed : (n : ℕ) (s t : Statement) → statement_under n s ≡ true → statement_under n t ≡ true → list_all (statement_under n) (s ∷ t ∷ []) ≡ true
 two_closed n s t h k = and_from _ _ h (all-alone (statement_under n) t k)
 
-granted_closed : (i : Item) → item_closed i ≡ true → list_all (statement_under 0) (granted_statements i) ≡ true
+granted_closed : (i : Item) → contents_closed i ≡ true → list_all (statement_under 0) (granted_statements i) ≡ true
 granted_closed (item.Axiom s) h = one_closed 0 s h
 granted_closed (item.AxiomScheme s) h = one_closed 0 (implication (conjunction s.premises) s.conclusion) (scheme_granted_closed s h)
 granted_closed (item.Primitive x) h = refl
@@ -509,7 +509,7 @@ granted_closed (item.Choice c) h =
     let both : (loci_closed c.loci ≡ true) × (type_under (length c.loci) c.ty ≡ true) = and_parts (loci_closed c.loci) (type_under (length c.loci) c.ty) h in
     over_all_closed c.loci (choice_grant c ∷ []) both.0 (one_closed (length c.loci) (choice_grant c) (is_of_type_all term_under (length c.loci) c.ty (term_on c.loci c.sym) both.1 (term_on_under c.loci c.sym)))
 
-owed_closed : (i : Item) → item_closed i ≡ true → list_all typed_closed (owed_statements i) ≡ true
+owed_closed : (i : Item) → contents_closed i ≡ true → list_all typed_closed (owed_statements i) ≡ true
 owed_closed (item.Axiom s) h = refl
 owed_closed (item.AxiomScheme s) h = refl
 owed_closed (item.Primitive x) h = refl
@@ -572,8 +572,8 @@ owed_closed (item.Choice c) h =
 
 pub closed_owed : ClosedOwed
 unfolding owes
-closed_owed i h = all-map typed_closed sequent_closed erased_sequent (owed_statements i) (λ s k. erased_closed s k) (owed_closed i h)
+closed_owed i h = all-map typed_closed sequent_closed erased_sequent (owed_statements i) (λ s k. erased_closed s k) (owed_closed i (and_parts (kind_fits i) (contents_closed i) h).1)
 
 pub closed_granted : ClosedGranted
 unfolding grants
-closed_granted i h = all-map (statement_under 0) (formula_under 0) erase (granted_statements i) (λ s k. erase_all term_under 0 s under_persists k) (granted_closed i h)
+closed_granted i h = all-map (statement_under 0) (formula_under 0) erase (granted_statements i) (λ s k. erase_all term_under 0 s under_persists k) (granted_closed i (and_parts (kind_fits i) (contents_closed i) h).1)

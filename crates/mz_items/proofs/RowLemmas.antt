@@ -32,7 +32,7 @@ use Rattle.mz_core.proofs.MapInstances.{shifts, shift_statement-with}
 use Rattle.mz_core.proofs.UnderTerms.{term_under-shift, term_under-more, term_under-substitute, args_under-list}
 use Rattle.mz_core.proofs.AllLemmas.{Persists, all-map, all-append, all-alone, adjective_all-with, type_all-with, literal_all-with, statement_all-at, statement_all-with, implication_all, disjunction_all, equivalence_all, for_some_all, opposite_all, conjunction_all, where_all_all, adjective_literal_all, guard_literals_all, literal_statement_all, literal_statements_all, is_of_type_all, is_of_type_inside_all, type_all-raised}
 use Rattle.mz_items.specs.Loci.{over, inward, variables, term_on, subject_last, predicate_on, attribute_on, mode_on}
-use Rattle.mz_items.specs.Cases.{formula_case_condition, formula_case_definiens, term_case_condition, term_case_definiens, otherwise_of, formula_conditions, term_conditions, formula_definientia, term_definientia, implications, conditional, each_case, formula_cases, term_cases, agree_in_type, agree_as_formulas, agree_as_terms, agreements_in_type, agreements_as_formulas, agreements_as_terms}
+use Rattle.mz_items.specs.Cases.{formula_case_condition, formula_case_definiens, term_case_condition, term_case_definiens, otherwise_of, formula_conditions, term_conditions, formula_definientia, term_definientia, implications, conditioned, each_case, formula_cases, term_cases, agree_in_type, agree_as_formulas, agree_as_terms, agreements_in_type, agreements_as_formulas, agreements_as_terms}
 use Rattle.mz_items.specs.Closed.{formula_case_under, formula_definiens_under, term_case_under, term_definiens_under}
 use Rattle.mz_items.specs.DefinitionRows.{existence, unique, uniqueness, coherence, defining_formula, functor_means, functor_equals, atom_means, mode_type, mode_defining_formula, mode_means}
 
@@ -192,12 +192,12 @@ implications_under n (c ∷ cs) (s ∷ ss) h k =
     let right : (statement_under n s ≡ true) × (list_all (statement_under n) ss ≡ true) = and_parts (statement_under n s) (list_all (statement_under n) ss) k in
     and_from _ _ (implication_all term_under n c s left.0 right.0) (implications_under n cs ss left.1 right.1)
 
-conditional_under : (n : ℕ) (cs ss : List Statement) → list_all (statement_under n) cs ≡ true → list_all (statement_under n) ss ≡ true → list_all (statement_under n) (conditional cs ss) ≡ true
-conditional_under n [] ss h k = k
-conditional_under n (c ∷ cs) ss h k = implications_under n (c ∷ cs) ss h k
+conditioned_under : (n : ℕ) (cs ss : List Statement) → list_all (statement_under n) cs ≡ true → list_all (statement_under n) ss ≡ true → list_all (statement_under n) (conditioned cs ss) ≡ true
+conditioned_under n [] ss h k = k
+conditioned_under n (c ∷ cs) ss h k = implications_under n (c ∷ cs) ss h k
 
 pub each_case_under : (n : ℕ) (cs ss : List Statement) → list_all (statement_under n) cs ≡ true → list_all (statement_under n) ss ≡ true → statement_under n (each_case cs ss) ≡ true
-each_case_under n cs ss h k = conjunction_all term_under n (conditional cs ss) (conditional_under n cs ss h k)
+each_case_under n cs ss h k = conjunction_all term_under n (conditioned cs ss) (conditioned_under n cs ss h k)
 
 -- agreements
 both_conditions : (n : ℕ) (c d s : Statement) → statement_under n c ≡ true → statement_under n d ≡ true → statement_under n s ≡ true → statement_under n (implication (And c d) s) ≡ true

@@ -59,13 +59,13 @@ implications (c ∷ cs) [] = []
 implications (c ∷ cs) (s ∷ ss) = implication c s ∷ implications cs ss
 
 -- each statement under its condition; without conditions it stands alone
-abbrev pub conditional : List Statement → List Statement → List Statement
-conditional [] ss = ss
-conditional (c ∷ cs) ss = implications (c ∷ cs) ss
+abbrev pub conditioned : List Statement → List Statement → List Statement
+conditioned [] ss = ss
+conditioned (c ∷ cs) ss = implications (c ∷ cs) ss
 
 -- `ci implies si` for every case, joined
 abbrev pub each_case : List Statement → List Statement → Statement
-each_case cs ss = conjunction (conditional cs ss)
+each_case cs ss = conjunction (conditioned cs ss)
 
 -- the cases but for a plain one and `otherwise`
 abbrev pub formula_cases : FormulaDefiniens → List FormulaCase

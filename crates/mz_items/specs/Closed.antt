@@ -3,6 +3,7 @@ use Rattle.std.specs.Prelude.{ℕ, ◌+◌, Bool, true, false, ◌&&◌, nat_lt,
 use Rattle.std.specs.List.{list_all}
 use Rattle.mz_logic.specs.declared.kind.Kind.{Kind}
 use Rattle.mz_logic.specs.declared.kind.Kind.TheVariants.{Mode, Structure, Attribute, Functor, Selector, Aggregate, Predicate, LetterFunctor, LetterPredicate}
+use Rattle.mz_logic.specs.Sym.{kind_number}
 use Rattle.mz_logic.specs.Term.{Term}
 use Rattle.mz_logic.specs.declared.literal.Literal.{Literal}
 use Rattle.mz_core.specs.Statement.{Statement}
@@ -111,8 +112,39 @@ abbrev pub pattern_closed : Pattern → Bool
 pattern_closed p =
     loci_closed p.loci && list_all (is_locus (length p.loci)) (p.left ++ p.right) && are_distinct (p.left ++ p.right) && right_fits p.kind p.right
 
+abbrev pub is_of_kind : Kind → Pattern → Bool
+is_of_kind kind p = nat_eq (kind_number p.kind) (kind_number kind)
+
+abbrev pub is_term : Meaning → Bool
+is_term (OfTerm t) = true
+is_term (OfLiteral l) = false
+is_term (OfType ty) = false
+
+abbrev pub is_literal : Meaning → Bool
+is_literal (OfTerm t) = false
+is_literal (OfLiteral l) = true
+is_literal (OfType ty) = false
+
+abbrev pub is_type : Meaning → Bool
+is_type (OfTerm t) = false
+is_type (OfLiteral l) = false
+is_type (OfType ty) = true
+
+-- what a pattern of the kind reads to; letters have no patterns
+abbrev pub meaning_fits : Kind → Meaning → Bool
+meaning_fits Mode m = is_type m
+meaning_fits Structure m = is_type m
+meaning_fits Attribute m = is_literal m
+meaning_fits Functor m = is_term m
+meaning_fits Selector m = is_term m
+meaning_fits Aggregate m = is_term m
+meaning_fits Predicate m = is_literal m
+meaning_fits LetterFunctor m = false
+meaning_fits LetterPredicate m = false
+
 abbrev pub notation_closed : Notation → Bool
-notation_closed x = pattern_closed x.pattern && meaning_under (length x.pattern.loci) x.meaning
+notation_closed x =
+    pattern_closed x.pattern && meaning_under (length x.pattern.loci) x.meaning && meaning_fits x.pattern.kind x.meaning
 
 abbrev pub letter_closed : SchemeLetter → Bool
 letter_closed (OfFunctor s places ty) = loci_closed places && type_under (length places) ty
@@ -216,34 +248,66 @@ set_term_closed s =
 abbrev pub choice_closed : Choice → Bool
 choice_closed c = loci_closed c.loci && type_under (length c.loci) c.ty
 
--- the item has no constant, and each index in it belongs to a quantifier, a variable, a locus or an
--- argument's place of the item
-abbrev pub item_closed : Item → Bool
-item_closed (item.Axiom s) = statement_under 0 s
-item_closed (item.AxiomScheme s) = scheme_closed s
-item_closed (item.Primitive x) = notation_closed x
-item_closed (item.Theorem s) = statement_under 0 s
-item_closed (item.Scheme s) = scheme_closed s
-item_closed (item.FunctorMeans d) = means_closed d
-item_closed (item.FunctorEquals d) = equals_closed d
-item_closed (item.Predicate d) = atom_closed d
-item_closed (item.Attribute d) = attribute_closed d
-item_closed (item.ModeMeans d) = means_closed d
-item_closed (item.Abbreviation x) = notation_closed x
-item_closed (item.Notation x) = notation_closed x
-item_closed (item.RedefinedFunctor d) =
+-- the parts of the item have no constant, and each index in them belongs to a quantifier, a variable, a locus or
+-- an argument's place of the item
+abbrev pub contents_closed : Item → Bool
+contents_closed (item.Axiom s) = statement_under 0 s
+contents_closed (item.AxiomScheme s) = scheme_closed s
+contents_closed (item.Primitive x) = notation_closed x
+contents_closed (item.Theorem s) = statement_under 0 s
+contents_closed (item.Scheme s) = scheme_closed s
+contents_closed (item.FunctorMeans d) = means_closed d
+contents_closed (item.FunctorEquals d) = equals_closed d
+contents_closed (item.Predicate d) = atom_closed d
+contents_closed (item.Attribute d) = attribute_closed d
+contents_closed (item.ModeMeans d) = means_closed d
+contents_closed (item.Abbreviation x) = notation_closed x
+contents_closed (item.Notation x) = notation_closed x
+contents_closed (item.RedefinedFunctor d) =
     pattern_closed d.pattern && functor_redefinition_under (length d.pattern.loci) d
-item_closed (item.RedefinedMode d) = pattern_closed d.pattern && mode_redefinition_under (length d.pattern.loci) d
-item_closed (item.RedefinedPredicate d) =
+contents_closed (item.RedefinedMode d) = pattern_closed d.pattern && mode_redefinition_under (length d.pattern.loci) d
+contents_closed (item.RedefinedPredicate d) =
     pattern_closed d.pattern && atom_redefinition_under (length d.pattern.loci) d
-item_closed (item.RedefinedAttribute d) =
+contents_closed (item.RedefinedAttribute d) =
     pattern_closed d.pattern && atom_redefinition_under (length d.pattern.loci) d
-item_closed (item.Property p) = property_closed p
-item_closed (item.Existential r) = loci_closed r.loci && existential_under (length r.loci) r
-item_closed (item.Conditional r) = loci_closed r.loci && conditional_under (length r.loci) r
-item_closed (item.Functorial r) = loci_closed r.loci && functorial_under (length r.loci) r
-item_closed (item.Reduction r) = equation_closed r
-item_closed (item.Identification r) = equation_closed r
-item_closed (item.Structure s) = structure_closed s
-item_closed (item.SetTerm s) = set_term_closed s
-item_closed (item.Choice c) = choice_closed c
+contents_closed (item.Property p) = property_closed p
+contents_closed (item.Existential r) = loci_closed r.loci && existential_under (length r.loci) r
+contents_closed (item.Conditional r) = loci_closed r.loci && conditional_under (length r.loci) r
+contents_closed (item.Functorial r) = loci_closed r.loci && functorial_under (length r.loci) r
+contents_closed (item.Reduction r) = equation_closed r
+contents_closed (item.Identification r) = equation_closed r
+contents_closed (item.Structure s) = structure_closed s
+contents_closed (item.SetTerm s) = set_term_closed s
+contents_closed (item.Choice c) = choice_closed c
+
+-- the pattern of a definition has the kind of what is defined
+abbrev pub kind_fits : Item → Bool
+kind_fits (item.Axiom s) = true
+kind_fits (item.AxiomScheme s) = true
+kind_fits (item.Primitive x) = true
+kind_fits (item.Theorem s) = true
+kind_fits (item.Scheme s) = true
+kind_fits (item.FunctorMeans d) = is_of_kind Functor d.pattern
+kind_fits (item.FunctorEquals d) = is_of_kind Functor d.pattern
+kind_fits (item.Predicate d) = is_of_kind Predicate d.pattern
+kind_fits (item.Attribute d) = is_of_kind Attribute d.pattern
+kind_fits (item.ModeMeans d) = is_of_kind Mode d.pattern
+kind_fits (item.Abbreviation x) = is_of_kind Mode x.pattern
+kind_fits (item.Notation x) = true
+kind_fits (item.RedefinedFunctor d) = is_of_kind Functor d.pattern
+kind_fits (item.RedefinedMode d) = is_of_kind Mode d.pattern
+kind_fits (item.RedefinedPredicate d) = is_of_kind Predicate d.pattern
+kind_fits (item.RedefinedAttribute d) = is_of_kind Attribute d.pattern
+kind_fits (item.Property p) = true
+kind_fits (item.Existential r) = true
+kind_fits (item.Conditional r) = true
+kind_fits (item.Functorial r) = true
+kind_fits (item.Reduction r) = true
+kind_fits (item.Identification r) = true
+kind_fits (item.Structure s) = true
+kind_fits (item.SetTerm s) = true
+kind_fits (item.Choice c) = true
+
+-- the item has no constant and no loose index, and its pattern is of its kind
+abbrev pub item_closed : Item → Bool
+item_closed i = kind_fits i && contents_closed i

@@ -1,3 +1,4 @@
+pub mod Conditions
 pub mod Loci
 pub mod Cases
 pub mod DefinitionRows

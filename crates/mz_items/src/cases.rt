@@ -1,7 +1,7 @@
 //! Definientia by cases.
 ghost use Rattle.std.specs.Prelude.{◌≡◌, ◌++◌, ◌∷◌, [], IfOk, OnOk, map};
 ghost use Rattle.mz_core.specs.StatementForms.{implication, opposite};
-ghost use Rattle.mz_items.specs.Cases.{formula_case_condition, formula_case_definiens, term_case_condition, term_case_definiens, otherwise_of, formula_conditions, term_conditions, formula_definientia, term_definientia, implications, conditional, each_case};
+ghost use Rattle.mz_items.specs.Cases.{formula_case_condition, formula_case_definiens, term_case_condition, term_case_definiens, otherwise_of, formula_conditions, term_conditions, formula_definientia, term_definientia, implications, conditioned, each_case};
 
 use mz_core::formula_cases::FormulaCases;
 use mz_core::formula_definiens::FormulaDefiniens;
@@ -169,8 +169,8 @@ fn push_implications(
     }
 }
 
-fn conditional(alloc: Global, cs: &Statements, fs: Statements) -> Result<Statements, AllocError>
-    ensures { IfOk result (λ gs. gs ≡ conditional cs.now fs) }
+fn conditioned(alloc: Global, cs: &Statements, fs: Statements) -> Result<Statements, AllocError>
+    ensures { IfOk result (λ gs. gs ≡ conditioned cs.now fs) }
 {
     if cs.items.is_empty() {
         return Ok(fs);
@@ -184,6 +184,6 @@ fn conditional(alloc: Global, cs: &Statements, fs: Statements) -> Result<Stateme
 pub fn each_case(alloc: Global, cs: &Statements, fs: Statements) -> Result<Statement, AllocError>
     ensures { IfOk result (λ f. f ≡ each_case cs.now fs) }
 {
-    let fs = conditional(alloc, cs, fs)?;
+    let fs = conditioned(alloc, cs, fs)?;
     conjunction(alloc, &fs)
 }

@@ -25,11 +25,11 @@ use std::alloc::{AllocError, Global};
 
 /// The indices of two loci and the values that they get.
 #[derive(Clone, Copy)]
-struct Placed<'a> {
-    left: u32,
-    t: &'a Term,
-    right: u32,
-    u: &'a Term,
+pub struct Placed<'a> {
+    pub left: u32,
+    pub t: &'a Term,
+    pub right: u32,
+    pub u: &'a Term,
 }
 
 fn locus_value(alloc: Global, by: u32, v: &Placed, index: u32) -> Result<Term, AllocError>
@@ -45,7 +45,11 @@ fn locus_value(alloc: Global, by: u32, v: &Placed, index: u32) -> Result<Term, A
     }
 }
 
-fn locus_values(alloc: Global, by: u32, v: &Placed, count: u32) -> Result<Terms, AllocError>
+/// Values for so many loci: the two that have one, and each other locus itself, under `by` more binders.
+///
+/// # Errors
+/// `AllocError` for want of memory, or where an index is past 4,294,967,295.
+pub fn locus_values(alloc: Global, by: u32, v: &Placed, count: u32) -> Result<Terms, AllocError>
     ensures { IfOk result (λ ts. ts ≡ locus_values by v.now.left v.now.t.now v.now.right v.now.u.now count) }
 {
     let mut out = Terms::new(alloc);
@@ -55,7 +59,11 @@ fn locus_values(alloc: Global, by: u32, v: &Placed, count: u32) -> Result<Terms,
     Ok(out)
 }
 
-fn values_at(
+/// Values for so many loci where the two are variables.
+///
+/// # Errors
+/// Those of [`locus_values`].
+pub fn values_at(
     alloc: Global,
     count: u32,
     by: u32,
@@ -120,8 +128,12 @@ fn applied_to(alloc: Global, count: u32, o: &UnaryOperation, t: &Term) -> Result
     substitute(alloc, &o.term, 0, &values, Beyond::Lowered)
 }
 
+/// The type of the locus with this index, under all loci; `object` where there is none.
+///
+/// # Errors
+/// `AllocError` for want of memory, or where an index is past 4,294,967,295.
 #[tactic(auto, using(crate::proofs::LocusLemmas::locus_rules))]
-fn locus_type(alloc: Global, loci: &SoftTypes, index: u32) -> Result<SoftType, AllocError>
+pub fn locus_type(alloc: Global, loci: &SoftTypes, index: u32) -> Result<SoftType, AllocError>
     ensures { IfOk result (λ t. t ≡ locus_type loci.now index) }
 {
     let count = loci.items.len();

@@ -50,7 +50,11 @@ fn followed(alloc: Global, ts: Terms, us: &Terms) -> Result<Terms, AllocError>
     Ok(out)
 }
 
-fn aggregate(alloc: Global, by: u32, s: &Structure, ts: &Terms) -> Result<Term, AllocError>
+/// The aggregate of these values for the fields, under `by` more binders than the loci.
+///
+/// # Errors
+/// `AllocError` for want of memory, or where an index is past 4,294,967,295.
+pub fn aggregate(alloc: Global, by: u32, s: &Structure, ts: &Terms) -> Result<Term, AllocError>
     ensures { IfOk result (λ t. t ≡ aggregate by s.now ts.now) }
 {
     let loci = variables(alloc, by, s.loci.items.len())?;
@@ -58,7 +62,11 @@ fn aggregate(alloc: Global, by: u32, s: &Structure, ts: &Terms) -> Result<Term, 
     Ok(Term::apply(s.aggregate, args))
 }
 
-fn selected(alloc: Global, t: &Term, f: &Field) -> Result<Term, AllocError>
+/// The field of the object.
+///
+/// # Errors
+/// `AllocError` for want of memory.
+pub fn selected(alloc: Global, t: &Term, f: &Field) -> Result<Term, AllocError>
     ensures { IfOk result (λ u. u ≡ selected t.now f.now) }
 {
     let mut args = Terms::new(alloc);
@@ -66,7 +74,11 @@ fn selected(alloc: Global, t: &Term, f: &Field) -> Result<Term, AllocError>
     Ok(Term::apply(f.selector, args))
 }
 
-fn each_selected(alloc: Global, t: &Term, xs: &Fields) -> Result<Terms, AllocError>
+/// Each field of the object, in their order.
+///
+/// # Errors
+/// `AllocError` for want of memory.
+pub fn each_selected(alloc: Global, t: &Term, xs: &Fields) -> Result<Terms, AllocError>
     ensures { IfOk result (λ ys. ys ≡ map (selected t.now) xs.now) }
 {
     let mut out = Vec::new(alloc);
@@ -84,7 +96,12 @@ fn field_values(alloc: Global, ts: Terms, y: &Term, loci: &Terms) -> Result<Term
     followed(alloc, out, loci)
 }
 
-fn selected_values(alloc: Global, s: &Structure) -> Result<Terms, AllocError>
+/// Values for the indices of a field's type: each field of the object, the object, which is the innermost
+/// variable, and the loci.
+///
+/// # Errors
+/// `AllocError` for want of memory, or where an index is past 4,294,967,295.
+pub fn selected_values(alloc: Global, s: &Structure) -> Result<Terms, AllocError>
     ensures { IfOk result (λ vs. vs ≡ selected_values s.now) }
 {
     let y = Term::bound(0);
@@ -94,7 +111,11 @@ fn selected_values(alloc: Global, s: &Structure) -> Result<Terms, AllocError>
     field_values(alloc, ts, &y, &loci)
 }
 
-fn given_values(alloc: Global, s: &Structure, count: u32, a: &Term) -> Result<Terms, AllocError>
+/// Values for the indices of a field's type: the `count` innermost variables, the object, and the loci.
+///
+/// # Errors
+/// `AllocError` for want of memory, or where an index is past 4,294,967,295.
+pub fn given_values(alloc: Global, s: &Structure, count: u32, a: &Term) -> Result<Terms, AllocError>
     ensures { IfOk result (λ vs. vs ≡ given_values s.now count a.now) }
 {
     let zs = inward(alloc, 0, count as usize)?;
@@ -287,7 +308,11 @@ fn strict_object(alloc: Global, s: &Structure) -> Result<Statement, AllocError>
     })
 }
 
-fn aggregate_of_selected(alloc: Global, s: &Structure) -> Result<Term, AllocError>
+/// The aggregate of the fields of the innermost variable, the only one.
+///
+/// # Errors
+/// Those of [`aggregate`].
+pub fn aggregate_of_selected(alloc: Global, s: &Structure) -> Result<Term, AllocError>
     ensures { IfOk result (λ t. t ≡ aggregate 1 s.now (map (selected (Bound 0)) s.now.fields)) }
 {
     let ts = each_selected(alloc, &Term::bound(0), &s.fields)?;

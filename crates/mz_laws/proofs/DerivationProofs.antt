@@ -1,5 +1,5 @@
 -- Proofs of the laws of what derives.
-use Rattle.std.proofs.Common.{◌≡◌, ℕ, List, [], ◌∷◌, ◌++◌, map, refl, sym, subst, true, false}
+use Rattle.std.proofs.Common.{◌≡◌, ℕ, List, [], ◌∷◌, ◌++◌, map, sym, subst, true, false}
 use Rattle.std.proofs.lemmas.List.{map-append}
 use Rattle.mz_logic.specs.Term.{Term, Const}
 use Rattle.mz_logic.specs.Formula as formula

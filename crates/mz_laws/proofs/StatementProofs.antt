@@ -1,6 +1,6 @@
 -- Proofs of the laws of types and statements.
-use Rattle.std.proofs.Common.{◌≡◌, ◌<◌, ◌≤◌, ℕ, ◌+◌, List, [], ◌∷◌, map, refl, ap, sym, ◌∙◌, arith, Bool, true, false}
-use Rattle.std.specs.Prelude.{◌&&◌, ◌||◌, not}
+use Rattle.std.proofs.Common.{◌≡◌, ℕ, ◌+◌, List, [], ◌∷◌, map, refl, ap, sym, ◌∙◌, arith, Bool, true, false}
+use Rattle.std.specs.Prelude.{◌&&◌, not}
 use Rattle.std.specs.List.{list_all, list_any}
 use Rattle.std.proofs.lemmas.Bool.{and_parts, and_from, or_from, not-true, not_from_false}
 use Rattle.mz_logic.specs.Term.{Term, Bound, Const}
@@ -8,28 +8,26 @@ use Rattle.mz_logic.specs.Formula as formula
 use Rattle.mz_logic.specs.Formula.{Formula}
 use Rattle.mz_logic.specs.Indices.{is_below, formula_below}
 use Rattle.mz_logic.specs.Constants.{occurs, occurs_in_formula}
-use Rattle.mz_logic.specs.Substitution.{shift, shift_formula, substitute, substitute_formula, value_at}
+use Rattle.mz_logic.specs.Substitution.{shift, substitute, substitute_formula, value_at}
 use Rattle.mz_logic.specs.Abstraction.{term_over}
 use Rattle.mz_logic.proofs.ShiftLaws.{shift-zero, is_below-shift, occurs-shift}
 use Rattle.mz_logic.proofs.SubstitutionLaws.{is_below-substitute}
 use Rattle.mz_logic.proofs.ValueLaws.{substitute-past, substitute-one_equal}
 use Rattle.mz_logic.proofs.AbstractionLaws.{term_over-substitute, occurs-term_over}
 use Rattle.mz_core.specs.Statement.{Statement, Truth, Eq, Atom, Not, And, For}
-use Rattle.mz_core.specs.TypeShift.{shift_adjective, shift_type, shift_statement}
-use Rattle.mz_core.specs.TypeSubstitution.{substitute_type, substitute_statement, statement_at}
-use Rattle.mz_core.specs.TypeAbstraction.{statement_over}
+use Rattle.mz_core.specs.TypeShift.{shift_adjective, shift_type}
+use Rattle.mz_core.specs.TypeSubstitution.{substitute_statement, statement_at}
 use Rattle.mz_core.specs.Guard.{guard}
 use Rattle.mz_core.specs.Connectives.{guard_inside, where_guard}
 use Rattle.mz_core.specs.Erasure.{erase}
-use Rattle.mz_core.specs.InForce.{term_in_force, formula_in_force, adjective_in_force, type_in_force, statement_in_force}
+use Rattle.mz_core.specs.InForce.{term_in_force, formula_in_force, adjective_in_force, statement_in_force}
 use Rattle.mz_core.specs.Everywhere.{adjective_all, type_all, statement_all, formula_all}
 use Rattle.mz_core.specs.declared.adjective.Adjective.{Adjective}
-use Rattle.mz_core.specs.declared.soft_type.SoftType.{SoftType}
 use Rattle.mz_core.proofs.TermMaps.{statement_with, formula_with, where_guard-with}
 use Rattle.mz_core.proofs.MapInstances.{shifts, substitutes, abstracts, shift_statement-with, substitute_statement-with, substitute_formula-with, statement_over-with}
 use Rattle.mz_core.proofs.AllLemmas.{Persists, all-map, type_all-with, statement_all-with, guard_all, erase_all}
 use Rattle.mz_core.proofs.LawProofs.{erasure_of_body, guard_of_substitution, map_is, type_back, statement_back, any_term, type_any, statement_any, in_force_at, term_in_force-shift, term_in_force-more, in_force_changed, term_in_force-substitute, term_in_force-over, term_apart, statement_in_force-all, below_at, all_is, formula_below-all}
-use Rattle.mz_laws.specs.Lacking.{term_lacks, statement_lacks}
+use Rattle.mz_laws.specs.Lacking.{term_lacks}
 use Rattle.mz_laws.specs.StatementLaws.{TermShiftInForce, TypeShiftInForce, FormulaShiftInForce, StatementShiftInForce, TermSubstitutionInForce, TypeSubstitutionInForce, FormulaSubstitutionInForce, StatementSubstitutionInForce, MoreTermInForce, MoreTypeInForce, MoreFormulaInForce, TypeAbstractionInForce, TypeUnderQuantifier, GuardAtTerm, BodyUnderGuard, TypeShiftBelow, StatementShiftBelow, TypeSubstitutionBelow, StatementSubstitutionBelow, GuardBelow, AbstractionOfBodyLacking, NextLacking, AbstractionLacking, ErasureLacking}
 
 -- lists

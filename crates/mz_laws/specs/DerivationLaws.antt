@@ -1,5 +1,5 @@
 -- Laws of what derives from properties of formulas.
-use Rattle.std.specs.Prelude.{◌≡◌, ℕ, List, map, true, false}
+use Rattle.std.specs.Prelude.{◌≡◌, ℕ, map, true, false}
 use Rattle.mz_logic.specs.Term.{Term, Const}
 use Rattle.mz_logic.specs.Formula.{Formula, Not, All}
 use Rattle.mz_logic.specs.Indices.{closed}

@@ -1,5 +1,5 @@
 -- Laws of types and statements through shifts, substitution and abstraction.
-use Rattle.std.specs.Prelude.{◌≡◌, ℕ, ◌+◌, ◌≤◌, ◌<◌, Bool, true, false, List, [], ◌∷◌, map}
+use Rattle.std.specs.Prelude.{◌≡◌, ℕ, ◌+◌, ◌≤◌, ◌<◌, true, false, [], ◌∷◌, map}
 use Rattle.std.specs.List.{list_all}
 use Rattle.mz_logic.specs.Term.{Term, Const}
 use Rattle.mz_logic.specs.Formula.{Formula}

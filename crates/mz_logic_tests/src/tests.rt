@@ -263,9 +263,9 @@ fn formulas_that_are_the_same(rt: HostRuntime) -> Result<(), Fail> {
     Ok(())
 }
 
-/// Each list stands in ascending order.
+/// The list stands in ascending order.
 #[test]
-fn orders(rt: HostRuntime) -> Result<(), Fail> {
+fn terms_in_order(rt: HostRuntime) -> Result<(), Fail> {
     let alloc = rt.alloc();
     let functor = sym(Kind::Functor, 2);
     let ascending = [
@@ -287,6 +287,13 @@ fn orders(rt: HostRuntime) -> Result<(), Fail> {
             assert_eq!(rt; compare_terms(t, u), i.cmp(&j));
         }
     }
+    Ok(())
+}
+
+/// The list stands in ascending order.
+#[test]
+fn literals_in_order(rt: HostRuntime) -> Result<(), Fail> {
+    let alloc = rt.alloc();
     let p = sym(Kind::Predicate, 1);
     let ascending = [
         Literal::Atom {
