@@ -5,20 +5,17 @@ use Rattle.std.specs.Prelude.{◌⊎◌, Option, Some, None, slice_get, slice_se
 use Rattle.std.specs.List.{sum_by}
 use Rattle.std.proofs.lemmas.Option.{same_Some, none-some, slice_get_within}
 use Rattle.std.proofs.lemmas.List.Sums.{sum_by-cons}
-use Rattle.mz_base.specs.NamedText.{NamedText}
 use Rattle.mz_base.specs.declared.name.Name.{Name}
-use Rattle.mz_core.specs.declared.export.Export.{Export}
 use Rattle.mz_core.specs.declared.outcome.Outcome.{Outcome}
 use Rattle.mz_core.specs.declared.outcome.Outcome.TheVariants as outcome
-use Rattle.mz_axioms.specs.Library.{AreInOrder}
 use Rattle.mz_axioms.specs.Checker.{OutcomeRelation, AnswersName}
-use Rattle.mz_corpus.specs.Article.{Article}
+use Rattle.mz_corpus.specs.Article.{Article, is_cyclic}
 use Rattle.mz_corpus.specs.Corpus.{Corpus, names_of, IsCorpus}
 use Rattle.mz_base.proofs.NameEqual.{Name-equal}
 use Rattle.mz_turns.specs.Row.{Row, Waiting, Claimed, Accepted, Rejected, Blocked, Cyclic, Missing, is_settled, is_claimed, freed, row_of, row_at, claim_weight}
-use Rattle.mz_turns.specs.Dependencies.{place_of, direct_rows, start_of, is_cyclic, start_row}
-use Rattle.mz_turns.specs.Library.{library_of, environment, IsFreshIn}
-use Rattle.mz_turns.specs.Machine.{Blocks, Step, take, publish, reclaim, Replays, start, turn, Starts}
+use Rattle.mz_turns.specs.Dependencies.{place_of, start_of, start_row}
+use Rattle.mz_turns.specs.Library.{environment}
+use Rattle.mz_turns.specs.Machine.{Blocks, Step, take, publish, reclaim, Replays, start, turn}
 use Rattle.mz_turns.specs.declared.turn.Turn.{Turn}
 use Rattle.mz_turns.specs.declared.turn.Turn.TheVariants.{Take, Publish, Reclaim}
 use Rattle.mz_axioms.proofs.AddedLemmas.{here, there}
@@ -32,7 +29,7 @@ use Rattle.mz_rows.proofs.ReachLemmas.{reached_of}
 use Rattle.mz_rows.proofs.ProgressLemmas.{none_ready, unclaimed_wait, all_settled_rows}
 use Rattle.mz_desk.specs.Job.{Job, IsOutcomeOf}
 use Rattle.mz_desk.specs.Found.{IsFreshFor}
-use Rattle.mz_desk.specs.Desk.{HasText, IsJobOf, IsClaimedFor, IsInputOf, Stands}
+use Rattle.mz_desk.specs.Desk.{HasText, IsInputOf, Stands}
 
 pub good : (is_outcome : OutcomeRelation) → AnswersName is_outcome → (k : Corpus) → IsCorpus k → (ts : List Turn) (rows : List Row) → Replays is_outcome k.articles ts rows → Good is_outcome k.articles rows
 good is_outcome names k corpus ts rows p = (replays_good is_outcome names k.articles (articles_of k corpus) ts rows p).0
@@ -140,7 +137,7 @@ named_at (b ∷ c) zero a n h e = subst (λ m. Contains (names_of (b ∷ c)) m) 
 named_at (b ∷ c) (suc r) a n h e = there b.name n (names_of c) (named_at c r a n h e)
 
 -- no row is claimed
-waiting_beyond : (rows : List Row) (k : ℕ) → length rows ≤ k → row_at rows k ≡ Waiting
+pub waiting_beyond : (rows : List Row) (k : ℕ) → length rows ≤ k → row_at rows k ≡ Waiting
 waiting_beyond [] k h = refl
 waiting_beyond (x ∷ rows) zero h = absurd (omega (arith, h))
 waiting_beyond (x ∷ rows) (suc k) h = waiting_beyond rows k (omega (arith, h))

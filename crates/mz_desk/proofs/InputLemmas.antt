@@ -1,5 +1,5 @@
 -- What a job and a result are.
-use Rattle.std.proofs.Common.{◌≡◌, ℕ, List, refl}
+use Rattle.std.proofs.Common.{List}
 use Rattle.std.specs.Prelude.{Option, Some, None, Result, Ok, Err, IfOk, MatchOption}
 use Rattle.mz_corpus.specs.Article.{Article}
 use Rattle.mz_turns.specs.Row.{Row}

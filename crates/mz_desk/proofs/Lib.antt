@@ -2,3 +2,4 @@ pub mod DifferenceLemmas
 pub mod InputLemmas
 pub mod DeskLemmas
 pub mod LookLemmas
+pub mod AnswerLemmas

@@ -1,11 +1,8 @@
 -- The export of a name in a list, and what is told of a row.
-use Rattle.std.proofs.Common.{◌≡◌, ◌<◌, ◌⊎◌, inl, inr, ℕ, Bool, true, false, List, [], ◌∷◌, map, length, refl, ap, sym, ◌∙◌, subst, arith}
-use Rattle.std.specs.Prelude.{◌==◌, ◌||◌, Option, Some, None, slice_get, MatchOption, Contains}
-use Rattle.std.proofs.lemmas.Bool.{eq-eqb}
+use Rattle.std.proofs.Common.{◌≡◌, ◌⊎◌, inl, inr, ℕ, true, List, [], ◌∷◌, map, ap, sym, ◌∙◌, subst}
+use Rattle.std.specs.Prelude.{◌==◌, ◌||◌, Option, Some, None, MatchOption, Contains}
 use Rattle.std.proofs.lemmas.List.Elements.{All-contains}
 use Rattle.mz_base.specs.Name.{is_built_in}
-use Rattle.mz_base.specs.declared.name.Name.{Name}
-use Rattle.mz_base.proofs.NameEqual.{Name-equal}
 use Rattle.mz_core.specs.declared.export.Export.{Export}
 use Rattle.mz_axioms.specs.BuiltIn.{hidden, tarski_0, tarski_a, built_in_exports}
 use Rattle.mz_axioms.specs.Library.{Sound}

@@ -1,18 +1,11 @@
 -- What the calls of a desk do.
-use Rattle.std.specs.Prelude.{◌≡◌, ◌<◌, ◌≤◌, ◌⊎◌, ℕ, true, false, List, [], ◌∷◌, ◌++◌, length, map, Option, Some, None, slice_get, slice_set, Contains}
-use Rattle.std.specs.Arc.{arc_value}
-use Rattle.mz_base.specs.Name.{is_built_in}
-use Rattle.mz_base.specs.declared.name.Name.{Name}
-use Rattle.mz_core.specs.declared.export.Export.{Export}
-use Rattle.mz_core.specs.declared.fault.Fault.{Fault}
-use Rattle.mz_axioms.specs.BuiltIn.{built_in_exports}
+use Rattle.std.specs.Prelude.{◌≡◌, ◌<◌, ◌≤◌, ℕ, true, false, List, [], ◌∷◌, ◌++◌, length, map, Some, None, slice_get, slice_set, Contains}
 use Rattle.mz_corpus.specs.Article.{Article}
 use Rattle.mz_corpus.specs.Corpus.{names_of}
-use Rattle.mz_turns.specs.Row as row
 use Rattle.mz_turns.specs.Row.{Row, Claimed, is_settled, is_claimed, freed, row_of, row_at}
 use Rattle.mz_turns.specs.Dependencies.{place_of}
 use Rattle.mz_turns.specs.Library.{environment}
-use Rattle.mz_turns.specs.Machine.{IsReady, Blocks}
+use Rattle.mz_turns.specs.Machine.{Blocks}
 use Rattle.mz_turns.specs.declared.turn.Turn.TheVariants.{Take, Publish, Reclaim}
 use Rattle.mz_rows.specs.Standing.{state_of}
 use Rattle.mz_rows.specs.Table.{is_ready, number_at}

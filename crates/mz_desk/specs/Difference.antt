@@ -1,6 +1,5 @@
 -- Where two lists of vocabularies, or of exports, differ first in the order of names.
 use Rattle.std.specs.Prelude.{◌≡◌, ◌<◌, ℕ, true, ◌==◌, if◌then◌else◌, List, [], ◌∷◌, Option, Some, None, is_some}
-use Rattle.mz_base.specs.declared.name.Name.{Name}
 use Rattle.mz_base.specs.NamedText.{NamedText}
 use Rattle.mz_core.specs.declared.export.Export.{Export}
 

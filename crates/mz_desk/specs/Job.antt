@@ -1,10 +1,9 @@
 -- What a worker takes, and what it brings back.
-use Rattle.std.specs.Prelude.{◌≡◌, ◌<◌, ℕ, true, List, All, AllPairs}
+use Rattle.std.specs.Prelude.{ℕ, List}
 use Rattle.mz_base.specs.declared.name.Name.{Name}
 use Rattle.mz_base.specs.NamedText.{NamedText}
 use Rattle.mz_core.specs.declared.export.Export.{Export}
 use Rattle.mz_core.specs.declared.outcome.Outcome.{Outcome}
-use Rattle.mz_axioms.specs.Library.{AreInOrder}
 use Rattle.mz_axioms.specs.Checker.{OutcomeRelation}
 
 -- a claimed row and its worker, and all that its check reads

@@ -84,7 +84,7 @@ impl<C: Semantics> Model for Done<C> {
 }
 
 /// Why a result isn't published.
-#[derive(Clone, Copy, Debug)]
+#[derive(Clone, Copy, Debug, PartialEq, Eq)]
 pub enum Why {
     /// The row of the job's name isn't claimed by its worker; none where there is no such row.
     NotClaimed(Option<RowState>),

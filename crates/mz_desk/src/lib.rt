@@ -6,4 +6,5 @@ pub mod comparing;
 pub mod desk;
 pub mod input;
 pub mod job;
+pub mod laws;
 pub mod look;

@@ -1,5 +1,5 @@
 //! What a desk tells of an article.
-ghost use Rattle.std.specs.Prelude.{◌≡◌, ℕ, List, true, length, map, Some, slice_get, Contains, MatchOption};
+ghost use Rattle.std.specs.Prelude.{◌≡◌, ℕ, true, map, Some, slice_get, Contains, MatchOption};
 ghost use Rattle.std.specs.Arc.{arc_value};
 ghost use Rattle.mz_base.specs.Name.{is_built_in};
 ghost use Rattle.mz_core.specs.declared.export.Export.{Export};
@@ -7,7 +7,6 @@ ghost use Rattle.mz_corpus.specs.Article.{Article};
 ghost use Rattle.mz_corpus.specs.Corpus.{names_of};
 ghost use Rattle.mz_axioms.specs.Library.{Sound};
 ghost use Rattle.mz_turns.specs.Row.{Row, row_at};
-ghost use Rattle.mz_turns.specs.Library.{library_of};
 ghost use Rattle.mz_rows.specs.Standing.{IsRowOf};
 ghost use Rattle.mz_desk.specs.Look.{Tells, TellsExport, IsUnknown};
 

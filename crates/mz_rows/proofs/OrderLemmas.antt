@@ -1,7 +1,7 @@
 -- The order of a corpus as an order for the verdicts.
 use Rattle.std.proofs.Common.{◌≡◌, ◌<◌, ◌≤◌, ◌+◌, ◌⊎◌, inl, inr, ℕ, zero, suc, Bool, true, false, not, ◌&&◌, ◌||◌, List, [], ◌∷◌, ◌++◌, map, length, refl, sym, ap, ◌∙◌, arith, subst, length-set, append_assoc}
 use Rattle.std.specs.Prelude.{if◌then◌else◌, Option, Some, None, slice_get, slice_set, Contains}
-use Rattle.std.specs.List.{sum_by, list_all, filter}
+use Rattle.std.specs.List.{sum_by, list_all}
 use Rattle.std.proofs.lemmas.Bool.{cases_eq, cases_lt}
 use Rattle.std.proofs.lemmas.List.{length-map, append-nil}
 use Rattle.std.proofs.lemmas.List.Elements.{Contains-push_cases, Contains-append_left, Contains-push}
@@ -9,18 +9,18 @@ use Rattle.std.proofs.lemmas.Option.{slice_get_within}
 use Rattle.mz_base.specs.Name.{is_built_in}
 use Rattle.mz_base.specs.declared.name.Name.{Name}
 use Rattle.mz_axioms.proofs.AddedLemmas.{first_or_later}
-use Rattle.mz_corpus.specs.Article.{Article}
+use Rattle.mz_corpus.specs.Article.{Article, is_cyclic}
 use Rattle.mz_corpus.specs.Corpus.{Corpus, IsCorpus, IsDirect}
 use Rattle.mz_corpus.specs.Names.{is_among}
-use Rattle.mz_corpus.specs.Order.{is_at_hand, IsFirstReady, NoneReady, Takes, end, take}
+use Rattle.mz_corpus.specs.Order.{is_at_hand, Takes, end, take}
 use Rattle.mz_corpus.specs.Order as corpus_order
 use Rattle.mz_corpus.specs.declared.ordering.Ordering.{Ordering}
 use Rattle.mz_corpus.proofs.AscendingLemmas.{Contains-among, among-Contains}
 use Rattle.mz_corpus.proofs.OrderLemmas.{Contains-map}
 use Rattle.mz_turns.specs.Row.{Row, Waiting, Missing, is_settled, is_waiting, row_at, wait_weight}
-use Rattle.mz_turns.specs.Dependencies.{place_of, direct_rows, start_of, is_cyclic, start_row}
-use Rattle.mz_turns.specs.Machine.{and_then, all_settled, IsReady}
-use Rattle.mz_turns.specs.Order.{IsSettled, IsOrder, ends, goes}
+use Rattle.mz_turns.specs.Dependencies.{place_of, direct_rows, start_of, start_row}
+use Rattle.mz_turns.specs.Machine.{and_then, all_settled}
+use Rattle.mz_turns.specs.Order.{IsOrder, ends, goes}
 use Rattle.mz_turns.proofs.RowLemmas.{same_article, put_same, put_other, start_waits, at_start}
 use Rattle.mz_turns.proofs.NameLemmas.{AreArticles, in_none, contained, article_at, place_is, articles_of}
 use Rattle.mz_rows.specs.Table.{is_ready}

@@ -8,7 +8,7 @@ use Rattle.mz_axioms.proofs.AddedLemmas.{here, there}
 use Rattle.mz_corpus.specs.Article.{Article}
 use Rattle.mz_turns.specs.Row.{Row, Waiting, Claimed, Accepted, Rejected, Blocked, Cyclic, Missing, is_settled, is_waiting, is_claimed, row_at}
 use Rattle.mz_turns.specs.Dependencies.{place_of, direct_rows, start_row}
-use Rattle.mz_turns.specs.Machine.{and_then, all_settled, IsReady}
+use Rattle.mz_turns.specs.Machine.{all_settled, IsReady}
 use Rattle.mz_turns.proofs.RowLemmas.{from_both}
 use Rattle.mz_turns.proofs.NameLemmas.{AreArticles, contained, found}
 use Rattle.mz_turns.proofs.GoodLemmas.{Good}

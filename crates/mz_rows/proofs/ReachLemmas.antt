@@ -1,15 +1,16 @@
 -- A dependency that isn't cyclic reaches fewer articles.
-use Rattle.std.proofs.Common.{◌≡◌, ◌<◌, ◌≤◌, ◌⊎◌, inl, inr, ℕ, zero, suc, Bool, true, false, List, [], ◌∷◌, map, length, refl, sym, ap, ◌∙◌, arith, subst}
-use Rattle.std.specs.Prelude.{Option, Some, None, slice_index_or, AllPairs, Contains}
+use Rattle.std.proofs.Common.{◌≡◌, ◌<◌, ◌≤◌, ◌⊎◌, inl, inr, ℕ, suc, Bool, true, false, List, [], ◌∷◌, length, refl, sym, ap, ◌∙◌, arith, subst}
+use Rattle.std.specs.Prelude.{Option, Some, None, slice_index_or, Contains}
 use Rattle.mz_base.specs.declared.name.Name.{Name}
 use Rattle.mz_axioms.proofs.AddedLemmas.{here, there, first_or_later}
-use Rattle.mz_corpus.specs.Article.{Article}
-use Rattle.mz_corpus.specs.Link.{Link}
+use Rattle.mz_corpus.specs.Article.{Article, is_cyclic}
 use Rattle.mz_corpus.specs.Corpus.{Corpus, IsAscending, link_of, links_of, DependsOn, directly, by_another, IsCorpus}
 use Rattle.mz_corpus.proofs.OrderLemmas.{Contains-map}
+use Rattle.mz_corpus.specs.Names.{is_among}
+use Rattle.mz_corpus.proofs.AscendingLemmas.{among-Contains}
 use Rattle.mz_turns.specs.Row.{Waiting}
-use Rattle.mz_turns.specs.Dependencies.{has_name, start_of, is_cyclic, start_row}
-use Rattle.mz_turns.proofs.NameLemmas.{in_none, has_named}
+use Rattle.mz_turns.specs.Dependencies.{start_of, start_row}
+use Rattle.mz_turns.proofs.NameLemmas.{in_none}
 
 -- what is known of the articles that each depends on
 pub record AreReached (c : List Article) : Type 0 where
@@ -116,5 +117,5 @@ pub reaches_fewer : (c : List Article) → AreReached c → (a b : Article) → 
 reaches_fewer c is a b at bt has waits =
     fewer a.reach b.reach b.name (is.ascending b bt) (is.ascending a at)
     (λ n h. is.all a n at (through c a b n bt has (is.depends b n bt h)))
-    (λ h. different (has_name b.reach b.name) (waits_acyclic b.text (is_cyclic b) waits) (has_named b.reach b.name h))
+    (λ h. different (is_among b.reach b.name) (waits_acyclic b.text (is_cyclic b) waits) (among-Contains b.reach b.name h))
     (is.all a b.name at (directly b.name has))

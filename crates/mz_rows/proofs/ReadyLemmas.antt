@@ -1,5 +1,5 @@
 -- What the tests on rows mean.
-use Rattle.std.proofs.Common.{◌≡◌, ◌<◌, ◌≤◌, ◌+◌, ℕ, zero, suc, List, [], ◌∷◌, map, length, refl, ap, sym, ◌∙◌, subst, arith, Bool, true, false}
+use Rattle.std.proofs.Common.{◌≡◌, ◌<◌, ◌+◌, ℕ, List, [], ◌∷◌, map, length, refl, ap, sym, ◌∙◌, subst, Bool, true, false}
 use Rattle.std.specs.Prelude.{Option, Some, None, slice_get, slice_set, Contains}
 use Rattle.std.specs.List.{sum_by}
 use Rattle.std.proofs.lemmas.Option.{same_Some, none-some, slice_get_within}
@@ -8,7 +8,7 @@ use Rattle.mz_base.specs.declared.name.Name.{Name}
 use Rattle.mz_axioms.proofs.AddedLemmas.{here, there}
 use Rattle.mz_corpus.specs.Article.{Article}
 use Rattle.mz_corpus.specs.Corpus.{Corpus, IsCorpus}
-use Rattle.mz_turns.specs.Row.{Row, Waiting, Claimed, Accepted, Rejected, Blocked, Cyclic, Missing, is_waiting, is_claimed, is_accepted, row_at, claim_weight}
+use Rattle.mz_turns.specs.Row.{Row, Waiting, Claimed, Accepted, Rejected, Blocked, Cyclic, Missing, is_waiting, is_claimed, is_accepted, row_at}
 use Rattle.mz_turns.specs.Dependencies.{place_of, direct_rows}
 use Rattle.mz_turns.specs.Machine.{and_then, unless_accepted, all_settled, first_unaccepted, IsReady, IsBlockedBy, NoneIsBlocked}
 use Rattle.mz_turns.proofs.RowLemmas.{both}

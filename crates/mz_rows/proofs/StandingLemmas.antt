@@ -1,6 +1,6 @@
 -- Stored rows.
-use Rattle.std.proofs.Common.{◌≡◌, ◌<◌, ◌≤◌, ◌+◌, ◌++◌, take, drop, ℕ, zero, suc, List, [], ◌∷◌, map, length, refl, ap, sym, ◌∙◌, arith, Bool, true, false}
-use Rattle.std.specs.Prelude.{Some, slice_get, slice_set, slice_index_or}
+use Rattle.std.proofs.Common.{◌≡◌, ◌<◌, ◌≤◌, ◌+◌, ◌++◌, take, drop, ℕ, zero, suc, List, [], ◌∷◌, map, length, refl, ap, sym, ◌∙◌, arith, true, false}
+use Rattle.std.specs.Prelude.{Some, slice_get, slice_set}
 use Rattle.std.proofs.lemmas.Option.{same_Some, none-some}
 use Rattle.std.proofs.lemmas.List.{take_all, drop_all, append-nil}
 use Rattle.mz_base.specs.declared.name.Name.{Name}
@@ -9,13 +9,11 @@ use Rattle.mz_core.specs.declared.verdict.Entry.{Entry}
 use Rattle.mz_corpus.specs.Article.{Article}
 use Rattle.mz_turns.specs.Row as row
 use Rattle.mz_turns.specs.Row.{Row, is_settled, is_waiting, is_claimed, is_accepted, freed, row_at}
-use Rattle.mz_turns.specs.Dependencies.{start_of, is_cyclic, start_row}
 use Rattle.mz_rows.specs.declared.standing.Standing.{Standing}
 use Rattle.mz_rows.specs.declared.standing.Standing.TheVariants.{Waiting, Claimed, Accepted, Rejected, Blocked, Cyclic, Missing}
 use Rattle.mz_rows.specs.declared.standing.RowState.TheVariants as state
-use Rattle.mz_rows.specs.Standing.{row_from, rows_from, IsRowOf, start_from, state_of, standing_state, standing_freed, standing_at, faults_at, is_settled_state, is_waiting_state, is_claimed_state, is_accepted_state}
-use Rattle.mz_rows.specs.Counts.{no_counts}
-use Rattle.mz_rows.specs.Entries.{entry_of, entries_of, start_entry}
+use Rattle.mz_rows.specs.Standing.{row_from, rows_from, IsRowOf, state_of, standing_state, standing_freed, standing_at, faults_at, is_settled_state, is_waiting_state, is_claimed_state, is_accepted_state}
+use Rattle.mz_rows.specs.Entries.{entry_of, entries_of}
 
 pub state_of-row_from : (s : Standing) (fs : List Fault) → state_of (row_from s fs) ≡ standing_state s
 state_of-row_from Waiting fs = refl

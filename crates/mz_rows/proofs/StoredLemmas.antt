@@ -1,28 +1,26 @@
 -- What the changes of a table need.
-use Rattle.std.proofs.Common.{◌≡◌, ◌<◌, ◌≤◌, ◌+◌, ℕ, zero, suc, List, [], ◌∷◌, map, length, refl, ap, sym, ◌∙◌, subst, arith, Bool, true, false, length-set}
+use Rattle.std.proofs.Common.{◌≡◌, ◌<◌, ◌≤◌, ℕ, zero, suc, List, [], ◌∷◌, map, length, refl, ap, sym, ◌∙◌, subst, arith, Bool, true, false, length-set}
 use Rattle.std.specs.Prelude.{Option, Some, None, slice_get, slice_set}
-use Rattle.std.proofs.lemmas.Option.{none-some, slice_get_within, slice_get-get_or}
+use Rattle.std.proofs.lemmas.Option.{slice_get_within}
 use Rattle.std.proofs.lemmas.List.{length-map}
 use Rattle.mz_base.specs.declared.name.Name.{Name}
 use Rattle.mz_core.specs.declared.export.Export.{Export}
-use Rattle.mz_core.specs.declared.fault.Fault.{Fault}
 use Rattle.mz_core.specs.declared.verdict.Entry.{Entry}
 use Rattle.mz_axioms.specs.BuiltIn.{built_in_exports}
 use Rattle.mz_axioms.specs.Library.{added}
-use Rattle.mz_corpus.specs.Article.{Article}
-use Rattle.mz_corpus.specs.Corpus.{Corpus, IsCorpus}
+use Rattle.mz_corpus.specs.Article.{Article, is_cyclic}
 use Rattle.mz_turns.specs.Row as row
-use Rattle.mz_turns.specs.Row.{Row, is_settled, is_accepted, freed, row_at}
-use Rattle.mz_turns.specs.Dependencies.{start_of, is_cyclic, start_row, direct_rows}
+use Rattle.mz_turns.specs.Row.{Row, is_settled, is_accepted, row_at}
+use Rattle.mz_turns.specs.Dependencies.{start_of, start_row, direct_rows}
 use Rattle.mz_turns.specs.Library.{library_of, IsFreshIn}
 use Rattle.mz_turns.proofs.RowLemmas.{unsettled_unaccepted}
 use Rattle.mz_turns.proofs.LibraryLemmas.{library_same, library_put, library_freed, library_start, library_room}
 use Rattle.mz_rows.specs.declared.standing.Standing.{Standing}
-use Rattle.mz_rows.specs.declared.standing.Standing.TheVariants.{Waiting, Claimed, Accepted, Rejected, Blocked, Cyclic, Missing}
-use Rattle.mz_rows.specs.Standing.{row_from, rows_from, start_from, standing_freed, standing_at, faults_at}
+use Rattle.mz_rows.specs.declared.standing.Standing.TheVariants.{Claimed}
+use Rattle.mz_rows.specs.Standing.{row_from, rows_from, start_from, standing_freed}
 use Rattle.mz_rows.specs.Entries.{entry_of, entries_of, start_entry}
 use Rattle.mz_rows.specs.Stored.{IsStored}
-use Rattle.mz_rows.proofs.StandingLemmas.{length-rows_from, row_at-rows_from, rows_from-set, rows_from-set_both, rows_from-freed, entries_of-set, entries_of-same, entries_of-freed, length-entries_of}
+use Rattle.mz_rows.proofs.StandingLemmas.{length-rows_from, rows_from-set, rows_from-set_both, rows_from-freed, entries_of-set, entries_of-same, entries_of-freed, length-entries_of}
 
 pub stored_length : (c : List Article) (links : List (List ℕ)) (ss : List Standing) (es : List Entry) (library : List Export) → IsStored c links ss es library → length (rows_from ss es) ≡ length c
 stored_length c links ss es library k = length-rows_from ss es ∙ k.whole

@@ -1,5 +1,5 @@
 -- The library of the verdicts is sound.
-use Rattle.std.proofs.Common.{◌≡◌, ℕ, true, false, List, [], ◌∷◌, map, refl, ap, sym, ◌∙◌, subst}
+use Rattle.std.proofs.Common.{◌≡◌, ℕ, false, List, map, refl, ap, sym, subst}
 use Rattle.std.specs.Prelude.{Some, slice_get, slice_set, Contains}
 use Rattle.mz_core.specs.declared.outcome.Outcome.{Outcome}
 use Rattle.mz_core.specs.declared.outcome.Outcome.TheVariants as outcome
@@ -8,7 +8,7 @@ use Rattle.mz_axioms.specs.Checker.{OutcomeRelation, HasOneOutcome, AnswersName,
 use Rattle.mz_axioms.proofs.BuiltInLemmas.{built_in_sound}
 use Rattle.mz_corpus.specs.Article.{Article}
 use Rattle.mz_corpus.specs.Corpus.{Corpus, IsCorpus}
-use Rattle.mz_turns.specs.Row.{Row, Waiting, Accepted, Rejected, Blocked, is_settled, is_accepted, row_of, row_at}
+use Rattle.mz_turns.specs.Row.{Row, Waiting, Rejected, Blocked, is_settled, is_accepted, row_of, row_at}
 use Rattle.mz_turns.specs.Dependencies.{start_row}
 use Rattle.mz_turns.specs.Library.{library_of, is_used_by, environment}
 use Rattle.mz_turns.specs.Verdicts.{AreVerdicts}

@@ -1,5 +1,5 @@
 -- How many items of each kind an article has.
-use Rattle.std.specs.Prelude.{ℕ, ◌+◌, List, fold}
+use Rattle.std.specs.Prelude.{◌+◌, List, fold}
 use Rattle.mz_core.specs.declared.verdict.Counts.{Counts}
 use Rattle.mz_core.specs.declared.item.Item.{Item}
 use Rattle.mz_core.specs.declared.item.Item.TheVariants.{Axiom, AxiomScheme, Primitive, Theorem, Scheme, FunctorMeans, FunctorEquals, Predicate, Attribute, ModeMeans, Abbreviation, Notation, RedefinedFunctor, RedefinedMode, RedefinedPredicate, RedefinedAttribute, Property, Existential, Conditional, Functorial, Reduction, Identification, Structure, SetTerm, Choice}

@@ -3,7 +3,6 @@ use Rattle.std.specs.Prelude.{◌≡◌, ℕ, List, length, map}
 use Rattle.mz_core.specs.declared.export.Export.{Export}
 use Rattle.mz_core.specs.declared.verdict.Entry.{Entry}
 use Rattle.mz_corpus.specs.Article.{Article}
-use Rattle.mz_turns.specs.Row.{Row}
 use Rattle.mz_turns.specs.Dependencies.{direct_rows}
 use Rattle.mz_turns.specs.Library.{library_of}
 use Rattle.mz_rows.specs.declared.standing.Standing.{Standing}

@@ -1,8 +1,8 @@
 -- A table of rows as contracts see it.
-use Rattle.std.specs.Prelude.{◌≡◌, ◌<◌, ◌≤◌, ℕ, Bool, true, false, List, [], length, Option, Some, None, slice_get}
+use Rattle.std.specs.Prelude.{◌≡◌, ◌<◌, ◌≤◌, ℕ, Bool, true, false, List, Option, Some, None, slice_get}
 use Rattle.mz_corpus.specs.Article.{Article}
 use Rattle.mz_corpus.specs.Corpus.{Corpus}
-use Rattle.mz_turns.specs.Row.{Row, is_settled, is_claimed, is_waiting, row_at}
+use Rattle.mz_turns.specs.Row.{Row, is_waiting, row_at}
 use Rattle.mz_turns.specs.Dependencies.{direct_rows}
 use Rattle.mz_turns.specs.Machine.{and_then, all_settled, first_unaccepted}
 

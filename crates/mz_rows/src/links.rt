@@ -1,5 +1,5 @@
 //! The rows of direct dependencies.
-ghost use Rattle.std.specs.Prelude.{◌≡◌, ◌≤◌, ◌<◌, map, length, IfOk, OnOk, ◌++◌, ◌∷◌, [], Some, slice_get};
+ghost use Rattle.std.specs.Prelude.{◌≡◌, ◌≤◌, ◌<◌, map, length, IfOk, Some};
 ghost use Rattle.mz_turns.specs.Dependencies.{place_of, direct_rows};
 
 use mz_base::name::Name;

@@ -1,9 +1,10 @@
 //! The table of rows.
-ghost use Rattle.std.specs.Prelude.{◌≡◌, ◌<◌, ◌≤◌, map, length, true, false, ℕ, Some, None, [], slice_get, slice_set, IfOk};
+ghost use Rattle.std.specs.Prelude.{◌≡◌, ◌<◌, map, length, false, Some, None, [], slice_get, slice_set, IfOk};
 ghost use Rattle.std.specs.Arc.{arc_value};
 ghost use Rattle.mz_axioms.specs.Library.{added};
 ghost use Rattle.mz_turns.specs.Row.{Waiting, Claimed, Accepted, Rejected, Blocked, is_settled, is_waiting, is_claimed, is_accepted, freed, row_at};
-ghost use Rattle.mz_turns.specs.Dependencies.{has_name, is_cyclic, start_row, direct_rows};
+ghost use Rattle.mz_corpus.specs.Names.{is_among};
+ghost use Rattle.mz_turns.specs.Dependencies.{start_row, direct_rows};
 ghost use Rattle.mz_turns.specs.Library.{library_of, IsFreshIn};
 ghost use Rattle.mz_core.specs.declared.verdict.Verdict.TheVariants.{Accepted as accepted, Rejected as rejected};
 ghost use Rattle.mz_rows.specs.Counts.{no_counts, counts_of};
@@ -56,10 +57,10 @@ impl Model for Table {
 
 /// Whether the name is among these.
 pub fn has_name(names: &[Name], name: &Name) -> bool
-    ensures { result ≡ has_name names.now name.now }
+    ensures { result ≡ is_among names.now name.now }
 {
     let number = name.number;
-    names.iter().any(|m| m.number == number)
+    names.iter().any(|m| number == m.number)
 }
 
 /// How an article stands before any is checked.
@@ -69,7 +70,7 @@ fn start(a: &Article) -> Standing
     match a.text {
         None => Standing::Missing,
         Some(_) => {
-            if has_name(a.reach.as_slice(), &a.name) {
+            if a.is_cyclic() {
                 Standing::Cyclic
             } else {
                 Standing::Waiting
@@ -97,7 +98,7 @@ fn start_entry(alloc: Global, a: &Article) -> Entry
     match a.text {
         None => entry(alloc, a.name, Some(Verdict::Missing)),
         Some(_) => {
-            if has_name(a.reach.as_slice(), &a.name) {
+            if a.is_cyclic() {
                 entry(alloc, a.name, Some(Verdict::Cyclic))
             } else {
                 entry(alloc, a.name, None)

@@ -1,28 +1,26 @@
 -- What holds of the rows after any turns, and what follows from it for dependencies.
-use Rattle.std.proofs.Common.{◌≡◌, ◌<◌, ◌⊎◌, inl, inr, ℕ, zero, suc, Bool, true, false, List, [], ◌∷◌, ◌++◌, map, length, refl, sym, ap, ◌∙◌, arith, subst}
-use Rattle.std.specs.Prelude.{◌||◌, Option, Some, None, slice_get, slice_index_or, All, Contains}
-use Rattle.std.specs.List.{filter}
-use Rattle.std.proofs.lemmas.Option.{same_Some, none-some, slice_get_within}
-use Rattle.std.proofs.lemmas.List.Elements.{All-contains, All-append, All-contains_itself, Contains-append_left, Contains-append_right, Contains-append_cases}
+use Rattle.std.proofs.Common.{◌≡◌, ◌⊎◌, inl, inr, ℕ, Bool, true, false, List, [], ◌∷◌, ◌++◌, map, length, refl, sym, ap, ◌∙◌, subst}
+use Rattle.std.specs.Prelude.{Option, Some, None, slice_get, slice_index_or, All, Contains}
+use Rattle.std.proofs.lemmas.List.Elements.{All-append, All-contains_itself, Contains-append_left, Contains-append_right, Contains-append_cases}
 use Rattle.mz_base.specs.Name.{is_built_in}
 use Rattle.mz_base.specs.declared.name.Name.{Name}
-use Rattle.mz_base.proofs.NameEqual.{Name-equal}
 use Rattle.mz_core.specs.declared.export.Export.{Export}
 use Rattle.mz_axioms.specs.BuiltIn.{built_in_exports}
 use Rattle.mz_axioms.specs.Library.{AreInOrder}
 use Rattle.mz_axioms.specs.Checker.{OutcomeRelation, AnswersName}
 use Rattle.mz_axioms.proofs.AddedLemmas.{here, there, first_or_later}
 use Rattle.mz_axioms.proofs.BuiltInLemmas.{built_in_named}
-use Rattle.mz_corpus.specs.Article.{Article}
-use Rattle.mz_corpus.specs.Link.{Link}
+use Rattle.mz_corpus.specs.Article.{Article, is_cyclic}
 use Rattle.mz_corpus.specs.Corpus.{link_of, links_of, DependsOn, directly, by_another}
-use Rattle.mz_turns.specs.Row.{Row, Waiting, Claimed, Accepted, Rejected, Blocked, Cyclic, Missing, is_settled, is_accepted, export_of, row_of, row_at}
-use Rattle.mz_turns.specs.Dependencies.{has_name, place_of, direct_rows, all_rows, start_of, is_cyclic, start_row}
+use Rattle.mz_corpus.specs.Names.{is_among}
+use Rattle.mz_corpus.proofs.AscendingLemmas.{Contains-among, among-Contains}
+use Rattle.mz_turns.specs.Row.{Row, Waiting, Claimed, Accepted, Rejected, Blocked, Cyclic, Missing, is_settled, is_accepted, row_at}
+use Rattle.mz_turns.specs.Dependencies.{place_of, direct_rows, all_rows, start_of, start_row}
 use Rattle.mz_turns.specs.Library.{IsLibrary, library_of, is_used_by, environment}
-use Rattle.mz_turns.specs.Verdicts.{HasVerdict, unchecked, blocked, checked, FirstUnaccepted, here as is_here, later as is_later, AllAccepted, none, more}
-use Rattle.mz_turns.specs.Machine.{and_then, unless_accepted, all_settled, all_accepted, first_unaccepted, exports_of}
-use Rattle.mz_turns.proofs.RowLemmas.{true_false, same_article, both, from_both, accepted_settled, accepted_is, outcome_accepted, same_export}
-use Rattle.mz_turns.proofs.NameLemmas.{HasArticle, AreArticles, from_map, or_left, or_right, or_cases, in_none, contains_named, has_named, contained, article_at, found, place_is, same_place}
+use Rattle.mz_turns.specs.Verdicts.{HasVerdict, unchecked, blocked, checked}
+use Rattle.mz_turns.specs.Machine.{all_accepted}
+use Rattle.mz_turns.proofs.RowLemmas.{export_of, exports_of, true_false, same_article, both, from_both, outcome_accepted}
+use Rattle.mz_turns.proofs.NameLemmas.{HasArticle, AreArticles, from_map, or_left, or_right, or_cases, in_none, contained, article_at, found, same_place}
 use Rattle.mz_turns.proofs.LibraryLemmas.{built_in_library, in_library, IsFrom, from_library}
 use Rattle.mz_turns.proofs.ExportLemmas.{in_filter, from_filter, filter_holds, filter_in_order}
 
@@ -144,14 +142,14 @@ used_export is_outcome names c corpus rows g a at e (n, reached, is) =
     let row = named_row is_outcome names c rows g (place_of c n) e is in
     let named : e.name ≡ n = row.2 ∙ (ap (λ x. x.name) (same_article c (place_of c n) row.0 f.0 row.1 f.1) ∙ f.2) in
     in_filter (is_used_by a) (library_of rows) e (in_library rows (place_of c n) e is)
-    (or_right (is_built_in e.name.number) (has_name a.reach e.name) (has_named a.reach e.name (subst (Contains a.reach) (sym named) reached)))
+    (or_right (is_built_in e.name.number) (is_among a.reach e.name) (among-Contains a.reach e.name (subst (Contains a.reach) (sym named) reached)))
 
-only_reached : (c : List Article) (rows : List Row) (a : Article) (e : Export) → is_built_in e.name.number ≡ false → row_at rows (place_of c e.name) ≡ Accepted e → (is_built_in e.name.number ≡ true) ⊎ (has_name a.reach e.name ≡ true) → Contains (built_in_exports ++ exports_of rows (all_rows c a)) e
+only_reached : (c : List Article) (rows : List Row) (a : Article) (e : Export) → is_built_in e.name.number ≡ false → row_at rows (place_of c e.name) ≡ Accepted e → (is_built_in e.name.number ≡ true) ⊎ (is_among a.reach e.name ≡ true) → Contains (built_in_exports ++ exports_of rows (all_rows c a)) e
 only_reached c rows a e own is (inl built) = absurd (true_false (is_built_in e.name.number) built own)
 only_reached c rows a e own is (inr named) =
-    Contains-append_right built_in_exports (exports_of rows (all_rows c a)) e (export_in c rows a.reach e.name e is (contains_named a.reach e.name named))
+    Contains-append_right built_in_exports (exports_of rows (all_rows c a)) e (export_in c rows a.reach e.name e is (Contains-among a.reach e.name named))
 
-only_used : (is_outcome : OutcomeRelation) → AnswersName is_outcome → (c : List Article) → AreArticles c → (rows : List Row) → Good is_outcome c rows → (a : Article) (e : Export) → IsFrom rows e → (is_built_in e.name.number ≡ true) ⊎ (has_name a.reach e.name ≡ true) → Contains (built_in_exports ++ exports_of rows (all_rows c a)) e
+only_used : (is_outcome : OutcomeRelation) → AnswersName is_outcome → (c : List Article) → AreArticles c → (rows : List Row) → Good is_outcome c rows → (a : Article) (e : Export) → IsFrom rows e → (is_built_in e.name.number ≡ true) ⊎ (is_among a.reach e.name ≡ true) → Contains (built_in_exports ++ exports_of rows (all_rows c a)) e
 only_used is_outcome names c corpus rows g a e (inl built) used = Contains-append_left built_in_exports (exports_of rows (all_rows c a)) e built
 only_used is_outcome names c corpus rows g a e (inr (q, is)) used =
     let row = named_row is_outcome names c rows g q e is in
@@ -166,12 +164,12 @@ environment_is is_outcome names c corpus rows g a at = record {
   has =
       All-append (Contains (environment rows a)) built_in_exports (exports_of rows (all_rows c a))
       (all_from (Contains (environment rows a)) built_in_exports (λ e h.
-      in_filter (is_used_by a) (library_of rows) e (built_in_library rows e h) (or_left (is_built_in e.name.number) (has_name a.reach e.name) (built_in_named e h))))
+      in_filter (is_used_by a) (library_of rows) e (built_in_library rows e h) (or_left (is_built_in e.name.number) (is_among a.reach e.name) (built_in_named e h))))
       (all_from (Contains (environment rows a)) (exports_of rows (all_rows c a)) (λ e h.
       used_export is_outcome names c corpus rows g a at e (from_exports c rows a.reach e h)));
   only =
       all_from (Contains (built_in_exports ++ exports_of rows (all_rows c a))) (environment rows a) (λ e h.
       only_used is_outcome names c corpus rows g a e
       (from_library rows e (from_filter (is_used_by a) (library_of rows) e h))
-      (or_cases (is_built_in e.name.number) (has_name a.reach e.name) (filter_holds (is_used_by a) (library_of rows) e h)));
+      (or_cases (is_built_in e.name.number) (is_among a.reach e.name) (filter_holds (is_used_by a) (library_of rows) e h)));
 }

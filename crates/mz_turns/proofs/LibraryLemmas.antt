@@ -1,13 +1,13 @@
 -- What the library of rows has, and how it changes with them.
 use Rattle.std.proofs.Common.{◌≡◌, ◌<◌, ◌≤◌, ◌+◌, ◌⊎◌, inl, inr, ℕ, zero, suc, Bool, true, false, List, [], ◌∷◌, map, length, refl, sym, ap, ◌∙◌, arith, subst}
-use Rattle.std.specs.Prelude.{Option, Some, None, slice_get, slice_set, Contains}
+use Rattle.std.specs.Prelude.{Option, Some, None, slice_set, Contains}
 use Rattle.mz_core.specs.declared.export.Export.{Export}
 use Rattle.mz_axioms.specs.BuiltIn.{built_in_exports}
 use Rattle.mz_axioms.specs.Library.{added}
 use Rattle.mz_axioms.proofs.AddedLemmas.{has_new, has_old, new_or_old, length-added}
-use Rattle.mz_corpus.specs.Article.{Article}
+use Rattle.mz_corpus.specs.Article.{Article, is_cyclic}
 use Rattle.mz_turns.specs.Row.{Row, Waiting, Claimed, Accepted, Rejected, Blocked, Cyclic, Missing, is_accepted, freed, row_at}
-use Rattle.mz_turns.specs.Dependencies.{start_of, is_cyclic, start_row}
+use Rattle.mz_turns.specs.Dependencies.{start_of, start_row}
 use Rattle.mz_turns.specs.Library.{add_row, library_of, IsFreshIn}
 use Rattle.mz_turns.specs.Machine.{Blocks, end, block}
 use Rattle.mz_turns.proofs.ExportLemmas.{added_commutes}

@@ -1,11 +1,10 @@
 -- After any turns that are allowed, each settled row is the verdict of its article.
-use Rattle.std.proofs.Common.{◌≡◌, ◌<◌, ℕ, zero, suc, List, [], ◌∷◌, ◌++◌, map, length, refl, ap, sym, ◌∙◌, subst, Bool, true, false, inl, inr, length-set}
+use Rattle.std.proofs.Common.{◌≡◌, ◌<◌, ℕ, List, [], ◌∷◌, ◌++◌, map, length, refl, ap, sym, ◌∙◌, subst, Bool, true, false, inl, inr, length-set}
 use Rattle.std.proofs.lemmas.List.{length-map}
-use Rattle.std.specs.Prelude.{◌⊎◌, Option, Some, None, slice_get, slice_set, Contains}
+use Rattle.std.specs.Prelude.{◌⊎◌, Option, Some, None, slice_get, slice_set}
 use Rattle.std.proofs.lemmas.Option.{same_Some, none-some, slice_get_within}
 use Rattle.std.proofs.lemmas.Bool.{cases_eq}
 use Rattle.mz_base.specs.Name.{is_built_in}
-use Rattle.mz_base.specs.declared.name.Name.{Name}
 use Rattle.mz_base.proofs.NameEqual.{Name-equal}
 use Rattle.mz_core.specs.declared.export.Export.{Export}
 use Rattle.mz_core.specs.declared.outcome.Outcome.{Outcome}
@@ -14,18 +13,17 @@ use Rattle.mz_axioms.specs.Library.{AreInOrder, HasName, added}
 use Rattle.mz_axioms.specs.Checker.{OutcomeRelation, AnswersName}
 use Rattle.mz_axioms.proofs.AddedLemmas.{in_order_added}
 use Rattle.mz_axioms.proofs.BuiltInLemmas.{built_in_order, built_in_named}
-use Rattle.mz_corpus.specs.Article.{Article}
+use Rattle.mz_corpus.specs.Article.{Article, is_cyclic}
 use Rattle.mz_turns.proofs.NameLemmas.{AreArticles}
-use Rattle.mz_turns.specs.Row.{Row, Waiting, Claimed, Accepted, Rejected, Blocked, is_settled, is_accepted, export_of, freed, row_of, row_at}
-use Rattle.mz_turns.specs.Dependencies.{direct_rows, all_rows, is_cyclic, start_row}
+use Rattle.mz_turns.specs.Row.{Row, Waiting, Claimed, Accepted, Rejected, Blocked, is_settled, is_accepted, freed, row_of, row_at}
+use Rattle.mz_turns.specs.Dependencies.{direct_rows, all_rows, start_row}
 use Rattle.mz_turns.specs.Library.{library_of, environment}
 use Rattle.mz_turns.specs.Verdicts.{HasVerdict, unchecked, blocked, checked, FirstUnaccepted, here, later, AllAccepted, none, more}
-use Rattle.mz_turns.specs.Machine.{and_then, unless_accepted, all_settled, all_accepted, first_unaccepted, exports_of, IsReady, IsBlockedBy, NoneIsBlocked, Blocks, end, block, Step, take, publish, reclaim, Replays, start, turn}
+use Rattle.mz_turns.specs.Machine.{and_then, unless_accepted, all_settled, all_accepted, first_unaccepted, IsReady, NoneIsBlocked, Blocks, end, block, Step, take, publish, reclaim, Replays, start, turn}
 use Rattle.mz_turns.specs.declared.turn.Turn.{Turn}
-use Rattle.mz_turns.specs.declared.turn.Turn.TheVariants.{Take, Publish, Reclaim}
-use Rattle.mz_turns.proofs.RowLemmas.{true_false, same_article, both, from_both, settled_freed, accepted_freed, freed_settled, freed_claimed, freed_waiting, accepted_settled, accepted_is, not_settled, start_waits, start_claimed, put_same, put_other, at_map, at_start, from_start, outcome_settled, twice, unsettled_unaccepted, start_not_accepted}
+use Rattle.mz_turns.proofs.RowLemmas.{export_of, exports_of, true_false, same_article, both, from_both, settled_freed, accepted_freed, freed_settled, freed_claimed, freed_waiting, accepted_settled, accepted_is, not_settled, start_waits, start_claimed, put_same, put_other, at_map, at_start, from_start, outcome_settled, twice, unsettled_unaccepted, start_not_accepted}
 use Rattle.mz_turns.proofs.NameLemmas.{contained}
-use Rattle.mz_turns.proofs.LibraryLemmas.{IsFrom, from_library, library_same, library_put, library_freed, library_start, library_blocks}
+use Rattle.mz_turns.proofs.LibraryLemmas.{IsFrom, from_library, library_same, library_put, library_freed, library_start}
 use Rattle.mz_turns.proofs.GoodLemmas.{Good, named_row, reach_accepted, environment_is}
 
 -- what was settled stays

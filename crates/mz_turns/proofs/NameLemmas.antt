@@ -1,6 +1,6 @@
 -- Names in lists, and the rows of named articles.
-use Rattle.std.proofs.Common.{◌≡◌, ◌<◌, ◌⊎◌, inl, inr, ℕ, zero, suc, Bool, true, false, List, [], ◌∷◌, map, length, refl, sym, ap, ◌∙◌, arith, subst}
-use Rattle.std.specs.Prelude.{◌==◌, ◌||◌, Option, Some, None, slice_get, slice_index_or, AllPairs, Contains}
+use Rattle.std.proofs.Common.{◌≡◌, ◌<◌, ◌⊎◌, inl, inr, ℕ, zero, suc, Bool, true, false, List, [], ◌∷◌, map, length, refl, sym, ap, ◌∙◌, arith}
+use Rattle.std.specs.Prelude.{◌==◌, ◌||◌, Some, slice_get, slice_index_or, AllPairs, Contains}
 use Rattle.std.proofs.lemmas.Bool.Decides.{nat_tests}
 use Rattle.std.proofs.lemmas.List.{length-map}
 use Rattle.std.proofs.lemmas.Option.{same_Some, none-some, slice_get_within, get_or_from_slice_get, slice_get-get_or}
@@ -9,9 +9,8 @@ use Rattle.mz_base.specs.declared.name.Name.{Name}
 use Rattle.mz_base.proofs.NameEqual.{Name-equal}
 use Rattle.mz_axioms.proofs.AddedLemmas.{here, there, first_or_later}
 use Rattle.mz_corpus.specs.Article.{Article}
-use Rattle.mz_corpus.specs.Link.{Link}
-use Rattle.mz_corpus.specs.Corpus.{Corpus, names_of, link_of, links_of, DependsOn, IsCorpus}
-use Rattle.mz_turns.specs.Dependencies.{has_name, next_place, place_of}
+use Rattle.mz_corpus.specs.Corpus.{Corpus, names_of, links_of, DependsOn, IsCorpus}
+use Rattle.mz_turns.specs.Dependencies.{next_place, place_of}
 
 pub equal_numbers : (m n : ℕ) → (m == n) ≡ true → m ≡ n
 equal_numbers m n h = grind (arith, nat_tests)
@@ -33,23 +32,6 @@ or_cases false b h = inr h
 
 pub in_none : {X : Type 0} (x : X) → Contains [] x → ⊥
 in_none x h = let lt : h.0 < 0 = h.1 in omega arith
-
--- a name in a list
-named_if : (b : Bool) (m : Name) (ns : List Name) (n : Name) → (m.number == n.number) ≡ b → (b || has_name ns n) ≡ true → (has_name ns n ≡ true → Contains ns n) → Contains (m ∷ ns) n
-named_if true m ns n e h k = subst (λ x. Contains (m ∷ ns) x) (Name-equal m n (equal_numbers m.number n.number e)) (here m ns)
-named_if false m ns n e h k = there m n ns (k h)
-
-pub contains_named : (ns : List Name) (n : Name) → has_name ns n ≡ true → Contains ns n
-contains_named [] n h = absurd cc
-contains_named (m ∷ ns) n h = named_if (m.number == n.number) m ns n refl h (contains_named ns n)
-
-has_named_if : (m : Name) (ns : List Name) (n : Name) → (n ≡ m) ⊎ Contains ns n → (Contains ns n → has_name ns n ≡ true) → ((m.number == n.number) || has_name ns n) ≡ true
-has_named_if m ns n (inl e) k = or_left (m.number == n.number) (has_name ns n) (numbers_equal m.number n.number (ap (λ x. x.number) (sym e)))
-has_named_if m ns n (inr h) k = or_right (m.number == n.number) (has_name ns n) (k h)
-
-pub has_named : (ns : List Name) (n : Name) → Contains ns n → has_name ns n ≡ true
-has_named [] n h = absurd (in_none n h)
-has_named (m ∷ ns) n h = has_named_if m ns n (first_or_later m n ns h) (has_named ns n)
 
 -- articles and their rows
 -- the list has an article of the name

@@ -1,7 +1,7 @@
 -- The verdicts made one after another are those of the articles, in each order.
-use Rattle.std.proofs.Common.{◌≡◌, ◌<◌, ◌≤◌, ℕ, zero, suc, ◌+◌, List, [], ◌∷◌, ◌++◌, map, length, refl, ap, sym, ◌∙◌, subst, arith, Bool, true, false, inl, inr, length-set}
-use Rattle.std.specs.Prelude.{◌⊎◌, ◌==◌, Option, Some, None, slice_get, slice_set}
-use Rattle.std.proofs.lemmas.Option.{same_Some, none-some, slice_get_within}
+use Rattle.std.proofs.Common.{◌≡◌, ◌<◌, ◌≤◌, ℕ, ◌+◌, List, [], ◌∷◌, ◌++◌, map, length, refl, ap, sym, ◌∙◌, subst, arith, Bool, true, false, inl, inr}
+use Rattle.std.specs.Prelude.{◌⊎◌, ◌==◌, Some, slice_get, slice_set}
+use Rattle.std.proofs.lemmas.Option.{slice_get_within}
 use Rattle.std.proofs.lemmas.List.{ext_get_or}
 use Rattle.std.proofs.lemmas.Bool.{cases_eq}
 use Rattle.mz_core.specs.declared.export.Export.{Export}
@@ -9,15 +9,15 @@ use Rattle.mz_core.specs.declared.outcome.Outcome.{Outcome}
 use Rattle.mz_axioms.specs.Checker.{OutcomeRelation, HasOneOutcome, AnswersName}
 use Rattle.mz_corpus.specs.Article.{Article}
 use Rattle.mz_turns.proofs.NameLemmas.{AreArticles}
-use Rattle.mz_turns.specs.Row.{Row, Waiting, Claimed, Accepted, Blocked, is_settled, is_accepted, export_of, freed, row_of, row_at}
+use Rattle.mz_turns.specs.Row.{Row, Waiting, Claimed, Accepted, is_settled, is_accepted, freed, row_of, row_at}
 use Rattle.mz_turns.specs.Dependencies.{direct_rows, all_rows, start_row}
-use Rattle.mz_turns.specs.Library.{IsLibrary, library_of, environment}
+use Rattle.mz_turns.specs.Library.{environment}
 use Rattle.mz_turns.specs.Verdicts.{HasVerdict, unchecked, blocked, checked, FirstUnaccepted, here, later, AllAccepted, none, more, AreVerdicts}
-use Rattle.mz_turns.specs.Machine.{and_then, unless_accepted, all_settled, all_accepted, first_unaccepted, exports_of, Blocks, Step, take, publish, reclaim, Replays, start, turn}
+use Rattle.mz_turns.specs.Machine.{unless_accepted, all_settled, all_accepted, first_unaccepted, Blocks, Step, take, publish, reclaim, Replays, start, turn}
 use Rattle.mz_turns.specs.Order.{Judges, is_blocked, is_checked, Folds, done, next, IsSettled, FoldsAll, IsOrder, ends, goes, one_if, publications}
 use Rattle.mz_turns.specs.declared.turn.Turn.{Turn}
 use Rattle.mz_turns.specs.declared.turn.Turn.TheVariants.{Take, Publish, Reclaim}
-use Rattle.mz_turns.proofs.RowLemmas.{true_false, same_article, both, from_both, put_same, put_other, from_start, accepted_settled, outcome_settled}
+use Rattle.mz_turns.proofs.RowLemmas.{export_of, exports_of, true_false, same_article, both, from_both, put_same, put_other, from_start, accepted_settled, outcome_settled}
 use Rattle.mz_turns.proofs.NameLemmas.{equal_numbers, numbers_equal, contained}
 use Rattle.mz_turns.proofs.ExportLemmas.{library_once}
 use Rattle.mz_turns.proofs.VerdictLemmas.{verdict_once}

@@ -1,5 +1,5 @@
 -- Small facts on rows.
-use Rattle.std.proofs.Common.{◌≡◌, ◌<◌, ℕ, zero, suc, List, [], ◌∷◌, map, length, refl, ap, sym, ◌∙◌, Bool, true, false, inl, inr}
+use Rattle.std.proofs.Common.{◌≡◌, ◌<◌, ℕ, zero, suc, List, [], ◌∷◌, ◌++◌, map, length, refl, ap, sym, ◌∙◌, Bool, true, false, inl, inr}
 use Rattle.std.specs.Prelude.{◌⊎◌, Option, Some, None, slice_get, slice_set}
 use Rattle.std.proofs.lemmas.Option.{same_Some, none-some}
 use Rattle.std.proofs.lemmas.List.{get_or-set_same, get_or-set_other}
@@ -7,9 +7,24 @@ use Rattle.mz_core.specs.declared.export.Export.{Export}
 use Rattle.mz_core.specs.declared.outcome.Outcome.{Outcome}
 use Rattle.mz_core.specs.declared.outcome.Outcome.TheVariants as outcome
 use Rattle.mz_corpus.specs.Article.{Article}
-use Rattle.mz_turns.specs.Row.{Row, Waiting, Claimed, Accepted, Rejected, Blocked, Cyclic, Missing, is_settled, is_accepted, export_of, freed, row_of, row_at}
+use Rattle.mz_turns.specs.Row.{Row, Waiting, Claimed, Accepted, Rejected, Blocked, Cyclic, Missing, is_settled, is_accepted, freed, row_of, row_at}
 use Rattle.mz_turns.specs.Dependencies.{start_of, start_row}
 use Rattle.mz_turns.specs.Machine.{and_then}
+
+-- the export of an accepted row
+abbrev pub export_of : Row → List Export
+export_of Waiting = []
+export_of (Claimed w) = []
+export_of (Accepted e) = e ∷ []
+export_of (Rejected fs) = []
+export_of (Blocked n) = []
+export_of Cyclic = []
+export_of Missing = []
+
+-- the exports of those of the rows with these numbers that are accepted
+abbrev pub exports_of : List Row → List ℕ → List Export
+exports_of rows [] = []
+exports_of rows (d ∷ ds) = export_of (row_at rows d) ++ exports_of rows ds
 
 pub same_export : (e f : Export) → Accepted e ≡ Accepted f → e ≡ f
 same_export e f h = cc

@@ -1,7 +1,6 @@
 -- After any turns the library is sound.
-use Rattle.std.proofs.Common.{◌≡◌, ℕ, List, [], ◌∷◌, ◌++◌, map, refl, ap, sym, ◌∙◌, subst, Bool, true, false}
+use Rattle.std.proofs.Common.{◌≡◌, ℕ, List, map, refl, ap, sym, ◌∙◌, subst, false}
 use Rattle.std.specs.Prelude.{Some, slice_get, slice_set, Contains}
-use Rattle.mz_core.specs.declared.export.Export.{Export}
 use Rattle.mz_core.specs.declared.outcome.Outcome.{Outcome}
 use Rattle.mz_core.specs.declared.outcome.Outcome.TheVariants as outcome
 use Rattle.mz_axioms.specs.Library.{Sound, AreExportsOf, added}
@@ -9,7 +8,7 @@ use Rattle.mz_axioms.specs.Checker.{OutcomeRelation, AnswersName, KeepsSound}
 use Rattle.mz_axioms.proofs.BuiltInLemmas.{built_in_sound}
 use Rattle.mz_corpus.specs.Article.{Article}
 use Rattle.mz_turns.proofs.NameLemmas.{AreArticles}
-use Rattle.mz_turns.specs.Row.{Row, Waiting, Claimed, Accepted, Rejected, is_settled, is_accepted, freed, row_of, row_at}
+use Rattle.mz_turns.specs.Row.{Row, Claimed, Accepted, Rejected, is_settled, is_accepted, row_of, row_at}
 use Rattle.mz_turns.specs.Dependencies.{start_row}
 use Rattle.mz_turns.specs.Library.{library_of, is_used_by, environment}
 use Rattle.mz_turns.specs.Machine.{Blocks, Step, take, publish, reclaim, Replays, start, turn}

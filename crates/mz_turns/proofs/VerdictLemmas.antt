@@ -1,15 +1,13 @@
 -- Each article has one verdict at most, where a checker has one outcome at most.
-use Rattle.std.proofs.Common.{◌≡◌, ◌<◌, ℕ, List, [], ◌∷◌, length, refl, ap, sym, ◌∙◌, subst, Bool, true, false}
+use Rattle.std.proofs.Common.{◌≡◌, ℕ, List, ◌∷◌, refl, ap, sym, ◌∙◌, subst, true}
 use Rattle.std.specs.Prelude.{Some, slice_get}
 use Rattle.std.proofs.lemmas.Option.{same_Some}
-use Rattle.mz_base.specs.NamedText.{NamedText}
 use Rattle.mz_core.specs.declared.export.Export.{Export}
 use Rattle.mz_core.specs.declared.outcome.Outcome.{Outcome}
 use Rattle.mz_axioms.specs.Checker.{OutcomeRelation, HasOneOutcome}
 use Rattle.mz_corpus.specs.Article.{Article}
-use Rattle.mz_turns.specs.Row.{Row, Waiting, Accepted, Blocked, is_settled, is_accepted, row_of}
+use Rattle.mz_turns.specs.Row.{Row, Waiting, Accepted, Blocked, is_settled, row_of}
 use Rattle.mz_turns.specs.Dependencies.{direct_rows, all_rows, start_row}
-use Rattle.mz_turns.specs.Library.{IsLibrary}
 use Rattle.mz_turns.specs.Verdicts.{HasVerdict, unchecked, blocked, checked, FirstUnaccepted, here, later, AllAccepted, none, more}
 use Rattle.mz_turns.proofs.RowLemmas.{true_false, same_article, not_accepted, same_export}
 use Rattle.mz_turns.proofs.ExportLemmas.{library_once}

@@ -1,13 +1,8 @@
 -- The rows of an article's dependencies, and how an article stands before any is checked.
 use Rattle.std.specs.Prelude.{ℕ, suc, Bool, true, false, ◌==◌, List, [], ◌∷◌, map, Option, Some, None}
-use Rattle.std.specs.List.{list_any}
 use Rattle.mz_base.specs.declared.name.Name.{Name}
-use Rattle.mz_corpus.specs.Article.{Article}
+use Rattle.mz_corpus.specs.Article.{Article, is_cyclic}
 use Rattle.mz_turns.specs.Row.{Row, Waiting, Cyclic, Missing}
-
--- the name is in the list
-abbrev pub has_name : List Name → Name → Bool
-has_name ns n = list_any (λ m. m.number == n.number) ns
 
 abbrev pub next_place : Bool → ℕ → ℕ
 next_place true k = 0
@@ -25,10 +20,6 @@ direct_rows c a = map (place_of c) a.direct
 -- the rows of all dependencies, direct or by others, in the order of names
 abbrev pub all_rows : List Article → Article → List ℕ
 all_rows c a = map (place_of c) a.reach
-
--- the article is among its own dependencies
-abbrev pub is_cyclic : Article → Bool
-is_cyclic a = has_name a.reach a.name
 
 abbrev pub start_of : Option (List ℕ) → Bool → Row
 start_of None cyclic = Missing

@@ -6,8 +6,8 @@ use Rattle.mz_core.specs.declared.export.Export.{Export}
 use Rattle.mz_axioms.specs.BuiltIn.{built_in_exports}
 use Rattle.mz_axioms.specs.Library.{AreInOrder, added}
 use Rattle.mz_corpus.specs.Article.{Article}
+use Rattle.mz_corpus.specs.Names.{is_among}
 use Rattle.mz_turns.specs.Row.{Row, Waiting, Claimed, Accepted, Rejected, Blocked, Cyclic, Missing, row_at}
-use Rattle.mz_turns.specs.Dependencies.{has_name}
 
 -- the library has the built-in exports and these, in the order of names, and no others
 pub record IsLibrary (es library : List Export) : Type 0 where
@@ -31,7 +31,7 @@ library_of (x ∷ rows) = add_row x (library_of rows)
 
 -- the export is built in, or that of a dependency of the article, taken transitively
 abbrev pub is_used_by : Article → Export → Bool
-is_used_by a e = is_built_in e.name.number || has_name a.reach e.name
+is_used_by a e = is_built_in e.name.number || is_among a.reach e.name
 
 -- the exports from which the article is checked
 abbrev pub environment : List Row → Article → List Export

@@ -1,11 +1,10 @@
 -- The machine: the rows of all articles, and the turns that change them.
 use Rattle.std.specs.Prelude.{◌≡◌, ℕ, Bool, true, false, List, [], ◌∷◌, ◌++◌, map, Option, Some, None, slice_get, slice_set}
-use Rattle.mz_core.specs.declared.export.Export.{Export}
 use Rattle.mz_core.specs.declared.outcome.Outcome.{Outcome}
 use Rattle.mz_base.specs.declared.name.Name.{Name}
 use Rattle.mz_axioms.specs.Checker.{OutcomeRelation}
 use Rattle.mz_corpus.specs.Article.{Article}
-use Rattle.mz_turns.specs.Row.{Row, Waiting, Claimed, Blocked, is_settled, is_accepted, export_of, freed, row_of, row_at}
+use Rattle.mz_turns.specs.Row.{Row, Waiting, Claimed, Blocked, is_settled, is_accepted, freed, row_of, row_at}
 use Rattle.mz_turns.specs.Dependencies.{direct_rows, start_row}
 use Rattle.mz_turns.specs.Library.{environment}
 use Rattle.mz_turns.specs.declared.turn.Turn.{Turn}
@@ -33,11 +32,6 @@ unless_accepted false d o = Some d
 abbrev pub first_unaccepted : List Row → List ℕ → Option ℕ
 first_unaccepted rows [] = None
 first_unaccepted rows (d ∷ ds) = unless_accepted (is_accepted (row_at rows d)) d (first_unaccepted rows ds)
-
--- the exports of those that are accepted
-abbrev pub exports_of : List Row → List ℕ → List Export
-exports_of rows [] = []
-exports_of rows (d ∷ ds) = export_of (row_at rows d) ++ exports_of rows ds
 
 -- the row waits and its direct dependencies are all settled
 pub record IsReady (c : List Article) (rows : List Row) (r : ℕ) : Type 0 where

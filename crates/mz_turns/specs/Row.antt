@@ -1,5 +1,5 @@
 -- How an article stands.
-use Rattle.std.specs.Prelude.{◌≡◌, ℕ, Bool, true, false, List, [], ◌∷◌, slice_index_or}
+use Rattle.std.specs.Prelude.{ℕ, Bool, true, false, List, slice_index_or}
 use Rattle.mz_base.specs.declared.name.Name.{Name}
 use Rattle.mz_core.specs.declared.export.Export.{Export}
 use Rattle.mz_core.specs.declared.fault.Fault.{Fault}
@@ -52,16 +52,6 @@ is_accepted (Rejected fs) = false
 is_accepted (Blocked n) = false
 is_accepted Cyclic = false
 is_accepted Missing = false
-
--- the export of an accepted row
-abbrev pub export_of : Row → List Export
-export_of Waiting = []
-export_of (Claimed w) = []
-export_of (Accepted e) = e ∷ []
-export_of (Rejected fs) = []
-export_of (Blocked n) = []
-export_of Cyclic = []
-export_of Missing = []
 
 -- the row without a claim
 abbrev pub freed : Row → Row

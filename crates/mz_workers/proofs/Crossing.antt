@@ -59,7 +59,6 @@ use Rattle.mz_base.proofs.name.Name.TheSendSync as NameS
 use Rattle.mz_base.proofs.names.Names.TheSendSync as NamesS
 use Rattle.mz_core.specs.contracts.export.Export as Export
 use Rattle.mz_axioms.specs.contracts.exports.Exports as Exports
-use Rattle.mz_corpus.proofs.link.Links.TheSendSync as LinksS
 use Rattle.mz_rows.specs.contracts.standing.Standing as Standing
 use Rattle.mz_core.proofs.verdict.Verdicts.TheSendSync as VerdictsS
 use Rattle.mz_rows.specs.contracts.table.Table as Table
@@ -596,10 +595,10 @@ pub Standing-field-sync : IsSync Standing.the_field.row
 Standing-field-sync = search (Export-send, Export-sync, NameS.the_field_sync, crosses, sendable) depth 60 fits 20000
 
 pub Table-send : IsSend Table.the_row
-Table-send = search (CorpusS.the_send, CorpusS.the_sync, Exports-send, LinksS.the_send, Standing-send, VerdictsS.the_send, crosses, sendable) depth 60 fits 20000
+Table-send = search (CorpusS.the_send, CorpusS.the_sync, Exports-send, Standing-send, VerdictsS.the_send, crosses, sendable) depth 60 fits 20000
 
 pub Table-sync : IsSync Table.the_row
-Table-sync = search (CorpusS.the_send, CorpusS.the_sync, Exports-sync, LinksS.the_sync, Standing-sync, VerdictsS.the_sync, crosses, sendable) depth 60 fits 20000
+Table-sync = search (CorpusS.the_send, CorpusS.the_sync, Exports-sync, Standing-sync, VerdictsS.the_sync, crosses, sendable) depth 60 fits 20000
 
 pub turns-send : IsSend (Vec.the_row Turn.the_row Global.the_row ghosts)
 turns-send = search (TurnS.the_send, crosses, sendable) depth 60 fits 20000

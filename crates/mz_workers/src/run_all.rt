@@ -1,10 +1,11 @@
 //! All the work.
-ghost use Rattle.std.specs.Prelude.{◌≡◌, ◌≤◌, ◌<◌, ◌^◌, IfOk};
+ghost use Rattle.std.specs.Prelude.{◌≡◌, ◌≤◌, ◌<◌, ◌^◌, IfOk, OnOk};
 ghost use Rattle.std.specs.Arc.{arc_value};
 ghost use Rattle.mz_axioms.specs.Library.{Sound};
 ghost use Rattle.mz_turns.specs.Library.{library_of};
 ghost use Rattle.mz_turns.specs.Verdicts.{AreVerdicts};
-ghost use Rattle.mz_desk.specs.Desk.{AllAreSettled};
+ghost use Rattle.mz_desk.specs.Job.{Done};
+ghost use Rattle.mz_desk.specs.Desk.{AllAreSettled, Stands, Publishes};
 
 use crate::work::work;
 use mz_axioms::checker::Checker;
@@ -12,6 +13,7 @@ use mz_corpus::corpus::Corpus;
 use mz_desk::claim::Claim;
 use mz_desk::desk::Desk;
 use mz_desk::job::Job;
+use mz_desk::laws::answers_law;
 use mz_io::gate::Gate;
 use std::alloc::{AllocError, Global};
 use std::sync::{Arc, Condvar, Mutex, Wait};
@@ -41,7 +43,7 @@ fn run_workers<C: Checker, G: Gate, R: Threads + Wait + Sync>(
     desk.into_inner()
 }
 
-/// Checks a job and publishes its result.
+/// Checks a job and publishes its result, where it stands.
 fn check_one<C: Checker, R: Threads + Wait + Sync>(
     rt: &R,
     alloc: Global,
@@ -49,8 +51,10 @@ fn check_one<C: Checker, R: Threads + Wait + Sync>(
     job: Job,
     checker: &C,
 ) -> Result<(), AllocError>
-    ensures { desk.new.corpus ≡ desk.old.corpus }
+    ensures corpus { desk.new.corpus ≡ desk.old.corpus }
+    ensures published { OnOk result (Stands desk.old.corpus.articles desk.old.rows job → (d : Done) × (d.job ≡ job) × Publishes desk.old desk.new d) }
 {
+    answers_law();
     match job.check(rt, alloc, checker) {
         Ok(done) => {
             let _ = desk.publish(done);
@@ -91,7 +95,8 @@ fn over<C: Checker>(
     desk: Desk<C>,
     corpus: Arc<Corpus>,
 ) -> Result<Desk<C>, AllocError>
-    ensures { IfOk result (λ s. s.corpus ≡ arc_value corpus) }
+    ensures corpus { IfOk result (λ s. s.corpus ≡ arc_value corpus) }
+    ensures kept { desk.corpus ≡ arc_value corpus → IfOk result (λ s. s ≡ desk) }
 {
     if desk.corpus().is_same(&corpus) {
         Ok(desk)

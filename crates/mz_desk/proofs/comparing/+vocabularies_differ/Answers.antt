@@ -1,7 +1,6 @@
-use Rattle.std.proofs.Common.{◌≡◌, ◌∙◌, ◌<◌, ap, sym, arith}
-use Rattle.std.specs.Prelude.{IsTrue}
+use Rattle.std.proofs.Common.{◌≡◌, ◌<◌, ap, sym, arith}
 use Rattle.mz_desk.specs.Difference.{number_of_text, text_of}
-use Rattle.mz_desk.proofs.DifferenceLemmas.{nil_is, only_first, only_second, first_lower, second_lower, first_value, rest_matches, same_number_of, same_text}
+use Rattle.mz_desk.proofs.DifferenceLemmas.{nil_is, only_first, only_second, first_lower, second_lower, first_value, rest_matches, same_text}
 use Rattle.mz_desk.proofs.comparing.+vocabularies_differ.Goals as goal
 
 pub returns-in-Some-split_first : goal.returns-in-Some-split_first

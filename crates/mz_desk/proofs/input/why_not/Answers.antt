@@ -1,22 +1,20 @@
-use Rattle.std.proofs.Common.{◌≡◌, ◌∙◌, ◌<◌, ◌≤◌, map, length, refl, ap, sym, subst, arith}
-use Rattle.std.specs.Prelude.{Some, slice_get}
-use Rattle.std.specs.Arc.{arc_value}
+use Rattle.std.proofs.Common.{◌∙◌, ◌<◌, length, ap, sym, subst, arith}
+use Rattle.std.specs.Prelude.{slice_get}
 use Rattle.std.specs.List.{filter}
-use Rattle.std.specs.Option.{option_map}
 use Rattle.std.proofs.lemmas.Option.{slice_get_within}
 use Rattle.mz_corpus.specs.Corpus.{IsCorpus}
 use Rattle.mz_turns.specs.Row.{row_at}
 use Rattle.mz_turns.specs.Dependencies.{place_of}
-use Rattle.mz_turns.specs.Library.{library_of, is_used_by}
+use Rattle.mz_turns.specs.Library.{is_used_by}
 use Rattle.mz_turns.proofs.RowLemmas.{same_article}
 use Rattle.mz_turns.proofs.NameLemmas.{from_map, found, placed}
 use Rattle.mz_rows.specs.Standing.{state_of}
 use Rattle.mz_rows.specs.declared.standing.RowState.TheVariants as state
 use Rattle.mz_rows.proofs.StandingLemmas.{state_claimed}
 use Rattle.mz_desk.specs.Difference.{AreRising, number_of_export}
-use Rattle.mz_desk.specs.Desk.{IsJobOf, IsClaimedFor}
+use Rattle.mz_desk.specs.Desk.{IsClaimedFor}
 use Rattle.mz_desk.proofs.DifferenceLemmas.{article_texts, environment_rising}
-use Rattle.mz_desk.proofs.InputLemmas.{strays_from, both_ok}
+use Rattle.mz_desk.proofs.InputLemmas.{strays_from}
 use Rattle.mz_desk.proofs.DeskLemmas.{named_at}
 use Rattle.mz_desk.proofs.input.why_not.Goals as goal
 

@@ -1,4 +1,4 @@
-use Rattle.std.proofs.Common.{◌≡◌, ◌∙◌, ap, sym, arith}
+use Rattle.std.proofs.Common.{ap, arith}
 use Rattle.std.specs.Arc.{arc_value}
 use Rattle.mz_desk.proofs.DifferenceLemmas.{nil_is}
 use Rattle.mz_desk.proofs.LookLemmas.{none_named, first_named, later_named}

@@ -1,4 +1,4 @@
-use Rattle.std.proofs.Common.{◌≡◌, map}
+use Rattle.std.proofs.Common.{map}
 use Rattle.std.specs.Arc.{arc_value}
 use Rattle.mz_base.proofs.NameEqual.{Name-equal}
 use Rattle.mz_desk.proofs.LookLemmas.{not_missing}

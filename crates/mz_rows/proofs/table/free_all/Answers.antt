@@ -1,6 +1,5 @@
-use Rattle.std.proofs.Common.{◌≡◌, ◌∙◌, ap, sym, arith, ◌<◌, length, true, false}
-use Rattle.mz_rows.specs.Standing.{is_claimed_state, standing_state, standing_at}
-use Rattle.mz_rows.proofs.StandingLemmas.{freed_to, freed_next_claimed, freed_next_other, freed_whole, freed_length}
+use Rattle.std.proofs.Common.{◌∙◌, ap, sym, arith, ◌<◌, length}
+use Rattle.mz_rows.proofs.StandingLemmas.{freed_next_claimed, freed_next_other, freed_length}
 use Rattle.mz_rows.proofs.table.free_all.Goals.{then-is_claimed_at, else-is_claimed_at}
 use Rattle.mz_rows.proofs.table.free_all.Goals as goal
 

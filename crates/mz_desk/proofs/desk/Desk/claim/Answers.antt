@@ -1,19 +1,3 @@
-use Rattle.std.proofs.Common.{◌≡◌, ◌∙◌, ◌<◌, ◌≤◌, ◌+◌, ◌++◌, ◌∷◌, [], ℕ, true, false, length, map, refl, ap, sym, subst, arith}
-use Rattle.std.specs.Prelude.{slice_get, slice_set}
-use Rattle.std.specs.Arc.{arc_value}
-use Rattle.std.specs.List.{sum_by}
-use Rattle.mz_axioms.specs.Library.{Sound}
-use Rattle.mz_corpus.specs.Corpus.{IsCorpus}
-use Rattle.mz_turns.specs.Row.{Claimed, is_settled, is_claimed, freed, row_at, row_of, claim_weight}
-use Rattle.mz_turns.specs.Dependencies.{place_of}
-use Rattle.mz_turns.specs.Library.{library_of}
-use Rattle.mz_turns.specs.Machine.{Blocks, Replays}
-use Rattle.mz_turns.specs.declared.turn.Turn.TheVariants.{Take, Publish, Reclaim}
-use Rattle.mz_rows.specs.Table.{is_ready}
-use Rattle.mz_rows.proofs.ReadyLemmas.{ready_is}
-use Rattle.mz_desk.specs.Found.{IsFreshFor, outcome_from}
-use Rattle.mz_desk.specs.Desk.{NoneIsReady, AllAreSettled, Stands}
-use Rattle.mz_desk.proofs.DeskLemmas.{good, taken_turn, taken_count, ready_text, published_turn, published_count, published_fresh, reclaimed_turn, some_claim, freed_count, all_finished}
 use Rattle.mz_desk.proofs.desk.Desk.claim.Goals as goal
 
 pub returns-in-None-clause-ok : goal.returns-in-None-clause-ok

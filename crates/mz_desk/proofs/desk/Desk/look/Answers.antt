@@ -1,4 +1,4 @@
-use Rattle.std.proofs.Common.{◌≡◌, ◌∙◌, ap, sym, subst, true, false}
+use Rattle.std.proofs.Common.{◌≡◌, ◌∙◌, sym, subst, true, false}
 use Rattle.mz_axioms.specs.Library.{Sound}
 use Rattle.mz_desk.specs.Look.{TellsExport, IsLook}
 use Rattle.mz_desk.proofs.desk.Desk.look.Goals as goal

@@ -1,4 +1,4 @@
-use Rattle.std.proofs.Common.{◌≡◌, ◌∙◌, map, ap, sym, subst, arith}
+use Rattle.std.proofs.Common.{◌∙◌, map, ap, sym, subst, arith}
 use Rattle.std.specs.Arc.{arc_value}
 use Rattle.std.specs.List.{sum_by}
 use Rattle.mz_turns.specs.Row.{claim_weight}

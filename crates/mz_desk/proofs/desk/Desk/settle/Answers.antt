@@ -1,20 +1,15 @@
-use Rattle.std.proofs.Common.{◌≡◌, ◌∙◌, ◌<◌, ◌≤◌, ◌+◌, ◌++◌, ◌∷◌, [], ℕ, true, false, length, map, refl, ap, sym, subst, arith}
-use Rattle.std.specs.Prelude.{slice_get, slice_set}
-use Rattle.std.specs.Arc.{arc_value}
+use Rattle.std.proofs.Common.{◌∙◌, ◌<◌, ◌+◌, ◌++◌, ◌∷◌, [], length, ap, sym, subst, arith}
+use Rattle.std.specs.Prelude.{slice_set}
 use Rattle.std.proofs.lemmas.Option.{slice_get_within}
 use Rattle.std.specs.List.{sum_by}
-use Rattle.mz_axioms.specs.Library.{Sound}
 use Rattle.mz_corpus.specs.Corpus.{IsCorpus}
-use Rattle.mz_turns.specs.Row.{Claimed, is_settled, is_claimed, freed, row_at, row_of, claim_weight}
+use Rattle.mz_turns.specs.Row.{is_settled, row_at, row_of, claim_weight}
 use Rattle.mz_turns.specs.Dependencies.{place_of}
-use Rattle.mz_turns.specs.Library.{library_of}
 use Rattle.mz_turns.specs.Machine.{Blocks, Replays}
-use Rattle.mz_turns.specs.declared.turn.Turn.TheVariants.{Take, Publish, Reclaim}
-use Rattle.mz_rows.specs.Table.{is_ready}
-use Rattle.mz_rows.proofs.ReadyLemmas.{ready_is}
-use Rattle.mz_desk.specs.Found.{IsFreshFor, outcome_from}
-use Rattle.mz_desk.specs.Desk.{NoneIsReady, AllAreSettled, Stands}
-use Rattle.mz_desk.proofs.DeskLemmas.{good, taken_turn, taken_count, ready_text, published_turn, published_count, published_fresh, reclaimed_turn, some_claim, freed_count, all_finished}
+use Rattle.mz_turns.specs.declared.turn.Turn.TheVariants.{Publish}
+use Rattle.mz_desk.specs.Found.{outcome_from}
+use Rattle.mz_desk.specs.Desk.{Stands}
+use Rattle.mz_desk.proofs.DeskLemmas.{good, published_turn, published_count, published_fresh}
 use Rattle.mz_desk.proofs.desk.Desk.settle.Goals as goal
 
 pub settle_row-requires-clause-within : goal.settle_row-requires-clause-within

@@ -1,14 +1,10 @@
-use Rattle.std.proofs.Common.{◌≡◌, ◌∙◌, ◌<◌, ◌≤◌, [], length, refl, ap, sym, subst, arith}
-use Rattle.std.specs.Prelude.{Some, slice_get, slice_set, false}
+use Rattle.std.proofs.Common.{◌≡◌, ◌∙◌, ◌<◌, length, refl, ap, sym, subst, arith}
+use Rattle.std.specs.Prelude.{slice_get, slice_set}
 use Rattle.std.specs.Arc.{arc_value}
-use Rattle.mz_core.specs.declared.verdict.Verdict.TheVariants as verdict
-use Rattle.mz_axioms.specs.Library.{added}
-use Rattle.mz_turns.specs.Row.{Waiting, Claimed, Accepted, Rejected, Blocked, is_settled, row_at}
-use Rattle.mz_turns.specs.Library.{library_of, IsFreshIn}
+use Rattle.mz_turns.specs.Row.{Waiting, Blocked, is_settled, row_at}
 use Rattle.mz_rows.specs.declared.standing.Standing.TheVariants as standing
-use Rattle.mz_rows.specs.Standing.{rows_from}
 use Rattle.mz_rows.specs.Entries.{entry_of}
-use Rattle.mz_rows.proofs.StoredLemmas.{IsPut, stored_entries, stored_put, stored_claim, library_kept, library_added, room}
+use Rattle.mz_rows.proofs.StoredLemmas.{stored_entries, stored_put, library_kept}
 use Rattle.mz_rows.proofs.table.Table.block.Goals as goal
 
 pub put_entry-requires : goal.put_entry-requires

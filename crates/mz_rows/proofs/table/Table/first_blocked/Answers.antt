@@ -1,5 +1,5 @@
-use Rattle.std.proofs.Common.{◌≡◌, ◌∙◌, ◌<◌, length, ap, sym, subst, arith}
-use Rattle.std.specs.Prelude.{Some, slice_get}
+use Rattle.std.proofs.Common.{◌∙◌, ◌<◌, length, ap, sym, subst, arith}
+use Rattle.std.specs.Prelude.{slice_get}
 use Rattle.mz_corpus.specs.Corpus.{IsCorpus}
 use Rattle.mz_rows.proofs.ReadyLemmas.{bad_within, blocked_by}
 use Rattle.mz_rows.proofs.table.Table.first_blocked.Goals as goal

@@ -1,4 +1,4 @@
-use Rattle.std.proofs.Common.{◌≡◌, ◌∙◌, map, ap}
+use Rattle.std.proofs.Common.{◌∙◌, map, ap}
 use Rattle.std.specs.Arc.{arc_value}
 use Rattle.mz_turns.specs.Row.{freed}
 use Rattle.mz_rows.specs.Standing.{rows_from}

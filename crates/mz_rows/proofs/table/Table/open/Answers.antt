@@ -1,4 +1,4 @@
-use Rattle.std.proofs.Common.{◌≡◌, ◌∙◌, map, ap}
+use Rattle.std.proofs.Common.{◌∙◌, map, ap}
 use Rattle.std.specs.Arc.{arc_value}
 use Rattle.mz_turns.specs.Dependencies.{start_row, direct_rows}
 use Rattle.mz_rows.specs.Entries.{start_entry}

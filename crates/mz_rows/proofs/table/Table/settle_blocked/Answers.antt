@@ -1,4 +1,4 @@
-use Rattle.std.proofs.Common.{◌≡◌, ◌∙◌, ◌<◌, ◌+◌, length, ap, sym, subst, arith}
+use Rattle.std.proofs.Common.{◌∙◌, ap, subst, arith}
 use Rattle.std.specs.List.{sum_by}
 use Rattle.mz_turns.specs.Row.{Waiting, Blocked, claim_weight, wait_weight}
 use Rattle.mz_turns.specs.Machine.{Blocks, IsBlockedBy, NoneIsBlocked, block, end}

@@ -1,4 +1,4 @@
-use Rattle.std.proofs.Common.{◌≡◌, ℕ, List}
+use Rattle.std.proofs.Common.{◌≡◌, List}
 use Rattle.std.specs.List.{sum_by}
 use Rattle.mz_turns.specs.Row.{Row, claim_weight, wait_weight}
 use Rattle.mz_turns.specs.Machine.{Blocks}

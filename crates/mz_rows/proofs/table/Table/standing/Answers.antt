@@ -1,4 +1,4 @@
-use Rattle.std.proofs.Common.{◌≡◌, ◌∙◌, ◌<◌, length, ap, sym, subst}
+use Rattle.std.proofs.Common.{◌∙◌, ◌<◌, length, ap, sym, subst}
 use Rattle.std.specs.Prelude.{slice_get}
 use Rattle.mz_turns.specs.Row.{row_at}
 use Rattle.mz_rows.specs.Standing.{IsRowOf}

@@ -1,4 +1,4 @@
-use Rattle.std.proofs.Common.{◌≡◌, ◌∙◌, ap}
+use Rattle.std.proofs.Common.{◌∙◌, ap}
 use Rattle.mz_turns.specs.Row.{row_at}
 use Rattle.mz_rows.specs.Standing.{standing_state, standing_at, state_of}
 use Rattle.mz_rows.proofs.StandingLemmas.{state_at}
