@@ -1,0 +1,5 @@
+pub mod Classes
+pub mod Row
+pub mod Forms
+pub mod Quantified
+pub mod Inside
