@@ -23,10 +23,26 @@ fn are_vocabularies<R: Abort>(rt: &R, alloc: Global, corpus: &Corpus, line: &str
     is_line(rt, alloc, names.as_slice(), line)
 }
 
-/// Articles by their names and texts, the words, the articles that are gathered, and the vocabularies.
+/// Articles with these names and texts.
+fn articles<R: Abort>(rt: &R, alloc: Global, rows: &[(&str, &str)]) -> FileList {
+    let mut files = FileList::new(alloc);
+    for (name, text) in rows {
+        add(
+            rt,
+            alloc,
+            &mut files,
+            FileKind::Article,
+            name,
+            text.as_bytes(),
+        );
+    }
+    files
+}
+
+/// Articles by their names and texts, the words, and the articles that are gathered, without vocabularies.
 #[test]
 fn gathers_in_turn(rt: HostRuntime) {
-    let rows: [(&[(&str, &str)], &str, &str, &str); 5] = [
+    let rows: [(&[(&str, &str)], &str, &str); 3] = [
         (
             &[
                 ("A", "environ theorems B; begin"),
@@ -36,7 +52,6 @@ fn gathers_in_turn(rt: HostRuntime) {
             ],
             "A B C D",
             "A B C D",
-            "",
         ),
         (
             &[
@@ -45,8 +60,21 @@ fn gathers_in_turn(rt: HostRuntime) {
             ],
             "B14",
             "B14 A14",
-            "",
         ),
+        (&[], "NOFILE", "NOFILE"),
+    ];
+    for (row, line, expected) in rows {
+        let files = articles(&rt, rt.alloc(), row);
+        let corpus = gathered(&rt, rt.alloc(), files, 0, line).expect(&rt, "a corpus");
+        assert!(rt; are_names(&rt, rt.alloc(), &corpus, expected));
+        assert!(rt; are_vocabularies(&rt, rt.alloc(), &corpus, ""));
+    }
+}
+
+/// Articles by their names and texts, the words, the articles that are gathered, and the vocabularies.
+#[test]
+fn gathers_vocabularies(rt: HostRuntime) {
+    let rows: [(&[(&str, &str)], &str, &str, &str); 2] = [
         (
             &[(
                 "B14",
@@ -69,20 +97,9 @@ fn gathers_in_turn(rt: HostRuntime) {
             "Z Y X W",
             "V W U",
         ),
-        (&[], "NOFILE", "NOFILE", ""),
     ];
     for (row, line, expected, vocabularies) in rows {
-        let mut files = FileList::new(rt.alloc());
-        for (name, text) in row {
-            add(
-                &rt,
-                rt.alloc(),
-                &mut files,
-                FileKind::Article,
-                name,
-                text.as_bytes(),
-            );
-        }
+        let files = articles(&rt, rt.alloc(), row);
         let corpus = gathered(&rt, rt.alloc(), files, 0, line).expect(&rt, "a corpus");
         assert!(rt; are_names(&rt, rt.alloc(), &corpus, expected));
         assert!(rt; are_vocabularies(&rt, rt.alloc(), &corpus, vocabularies));
@@ -92,23 +109,14 @@ fn gathers_in_turn(rt: HostRuntime) {
 /// Four articles are fetched, and the fetch with this number fails.
 #[test]
 fn a_failed_fetch_ends_it(rt: HostRuntime) {
+    let rows = [
+        ("DD", "environ theorems DB, DC; begin"),
+        ("DB", "environ theorems DA; begin"),
+        ("DC", "environ theorems DA; begin"),
+        ("DA", "environ begin"),
+    ];
     for (fail, read) in [(1, true), (2, true), (3, true), (4, true), (5, false)] {
-        let mut files = FileList::new(rt.alloc());
-        for (name, text) in [
-            ("DD", "environ theorems DB, DC; begin"),
-            ("DB", "environ theorems DA; begin"),
-            ("DC", "environ theorems DA; begin"),
-            ("DA", "environ begin"),
-        ] {
-            add(
-                &rt,
-                rt.alloc(),
-                &mut files,
-                FileKind::Article,
-                name,
-                text.as_bytes(),
-            );
-        }
+        let files = articles(&rt, rt.alloc(), rows.as_slice());
         match gathered(&rt, rt.alloc(), files, fail, "DD") {
             Ok(corpus) => {
                 assert!(rt; !read);
