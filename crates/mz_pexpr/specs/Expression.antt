@@ -17,6 +17,7 @@ use Rattle.mz_pexpr.specs.declared.forms.Form.TheVariants as forms
 
 -- Which marked tokens spell which tree. No selector stands without `of`, since no field's type is read.
 abbrev pub grammar_of : rust.Form → Form MarkedToken
+grammar_of forms.Formula = grammar.formula false
 grammar_of forms.Term = grammar.term false
 grammar_of forms.Terms = grammar.terms false
 grammar_of forms.TypeForm = grammar.type_form false
@@ -25,6 +26,7 @@ grammar_of forms.Declarations = grammar.declarations false
 
 -- the expression that is this tree
 abbrev pub expression_of : (form : rust.Form) → (grammar_of form).Tree → Expression
+expression_of forms.Formula tree = expressions.Formula tree
 expression_of forms.Term tree = expressions.Term tree
 expression_of forms.Terms tree = expressions.Terms tree
 expression_of forms.TypeForm tree = expressions.TypeForm tree

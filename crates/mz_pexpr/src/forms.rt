@@ -1,9 +1,12 @@
 //! The forms of expressions, and their trees.
-use mz_tree::expressions::{AdjectivesTree, DeclarationsTree, TermTree, TermsTree, TypeTree};
+use mz_tree::expressions::{
+    AdjectivesTree, DeclarationsTree, FormulaTree, TermTree, TermsTree, TypeTree,
+};
 
 /// The forms of expressions.
 #[derive(Clone, Copy, Debug, PartialEq, Eq)]
 pub enum Form {
+    Formula,
     Term,
     /// Terms with list commas between them.
     Terms,
@@ -17,6 +20,7 @@ pub enum Form {
 /// A tree of one of the forms.
 #[derive(Drop)]
 pub enum Expression {
+    Formula(FormulaTree),
     Term(TermTree),
     Terms(TermsTree),
     TypeForm(TypeTree),

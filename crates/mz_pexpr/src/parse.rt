@@ -9,9 +9,12 @@ use crate::forms::{Expression, Form};
 use crate::marking::marked_tokens;
 use mz_base::place::Place;
 use mz_base::token::{MarkedToken, Tokens};
+use mz_pformula::parse::formula;
 use mz_pterm::parse::{ParseFault, term, terms};
 use mz_ptype::parse::{adjectives, declarations, whole_type};
-use mz_tree::expressions::{AdjectivesTree, DeclarationsTree, TermTree, TermsTree, TypeTree};
+use mz_tree::expressions::{
+    AdjectivesTree, DeclarationsTree, FormulaTree, TermTree, TermsTree, TypeTree,
+};
 use std::alloc::Global;
 
 /// The longest expression of this form from the token with this number on, and the number of the token behind it. Each
@@ -48,12 +51,26 @@ pub fn read(
     ensures { IsRead form tokens.now end at result }
 {
     match form {
+        Form::Formula => read_formula(alloc, tokens, end, at),
         Form::Term => read_term(alloc, tokens, end, at),
         Form::Terms => read_terms(alloc, tokens, end, at),
         Form::TypeForm => read_type(alloc, tokens, end, at),
         Form::Adjectives => read_adjectives(alloc, tokens, end, at),
         Form::Declarations => read_declarations(alloc, tokens, end, at),
     }
+}
+
+fn read_formula(
+    alloc: Global,
+    tokens: &[MarkedToken],
+    end: Place,
+    at: usize,
+) -> Result<(Expression, usize), ParseFault>
+    requires { at ≤ length tokens.now }
+    ensures { IsRead forms.Formula tokens.now end at result }
+{
+    let (node, behind) = formula(alloc, tokens, end, at, false)?;
+    Ok((Expression::Formula(FormulaTree::from_node(node)), behind))
 }
 
 fn read_term(
