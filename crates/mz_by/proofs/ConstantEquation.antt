@@ -13,11 +13,11 @@ use Rattle.mz_logic.specs.Capped.{capped}
 use Rattle.mz_nf.specs.Problem.{parts_of, has_constant}
 use Rattle.mz_nf.specs.Count.{count_of}
 use Rattle.mz_nf.specs.Splits as splits
-use Rattle.mz_nf.specs.Splits.{SplitsAll, AreDisjuncts}
+use Rattle.mz_nf.specs.Splits.{AreDisjuncts}
 use Rattle.mz_nf.proofs.OneListLemmas.{all_splits_once}
 use Rattle.mz_ground.specs.declared.clause.Clause.{Clause}
-use Rattle.mz_ground.specs.Piece as piece
-use Rattle.mz_ground.specs.Piece.{Piece, TermPiece, AtomPiece, IsAtomPiece, Has, IsWithin}
+use Rattle.mz_ground.specs.GroundExpression as expression
+use Rattle.mz_ground.specs.GroundExpression.{GroundExpression, TermExpression, AtomExpression, IsAtomExpression, Has, IsWithin}
 use Rattle.mz_ground.specs.Layers as layers
 use Rattle.mz_ground.specs.Layers.{InLayer}
 use Rattle.mz_ground.specs.Facts as facts
@@ -68,12 +68,12 @@ IsEmpty cs = (c : Clause) → Contains cs c → ⊥
 mutual
   shape_of : (d : Disjunct) (cs : List Clause) (a b : ℕ) → IsOnly a b d → IsEmpty cs → (l : Literal) → Fact d cs l → Shape a b l
   shape_of d cs a b o e l (facts.given k c i) = subst (Shape a b) (o k c) (inl (refl, refl))
-  shape_of d cs a b o e l (facts.itself t i) = refl
-  shape_of d cs a b o e l (facts.exchanged t u f) = sym (shape_of d cs a b o e (Eq true t u) f)
-  shape_of d cs a b o e l (facts.chained t u v f g) = shape_of d cs a b o e (Eq true t u) f ∙ shape_of d cs a b o e (Eq true u v) g
-  shape_of d cs a b o e l (facts.alike s ts us i j es) = ap (λ xs. App s (terms_of xs)) (equal_of d cs a b o e ts us es)
-  shape_of d cs a b o e l (facts.carried positive s ts us f i es) = shape_of d cs a b o e (Atom positive s ts) f
-  shape_of d cs a b o e l (facts.turned t u f) = turned_shape a b t u (shape_of d cs a b o e (Eq false t u) f)
+  shape_of d cs a b o e l (facts.reflexive t i) = refl
+  shape_of d cs a b o e l (facts.symmetric t u f) = sym (shape_of d cs a b o e (Eq true t u) f)
+  shape_of d cs a b o e l (facts.transitive t u v f g) = shape_of d cs a b o e (Eq true t u) f ∙ shape_of d cs a b o e (Eq true u v) g
+  shape_of d cs a b o e l (facts.congruent s ts us i j es) = ap (λ xs. App s (terms_of xs)) (equal_of d cs a b o e ts us es)
+  shape_of d cs a b o e l (facts.atom_congruence positive s ts us f i es) = shape_of d cs a b o e (Atom positive s ts) f
+  shape_of d cs a b o e l (facts.reversed t u f) = turned_shape a b t u (shape_of d cs a b o e (Eq false t u) f)
   shape_of d cs a b o e l (facts.fired c ts m n t p i fs) = absurd (e c m)
 
   equal_of : (d : Disjunct) (cs : List Clause) (a b : ℕ) → IsOnly a b d → IsEmpty cs → (ts us : List Term) → AreEqual d cs ts us → ts ≡ us
@@ -83,18 +83,18 @@ mutual
 shape-Fact : (a b : ℕ) (l : Literal) → Fact (only a b) [] l → Shape a b l
 shape-Fact a b l f = shape_of (only a b) [] a b (λ k c. one_member (Eq false (Const a) (Const b)) k c) (λ k c. no_member k c) l f
 
--- the pieces of the ground part
+-- the expressions of the ground part
 abbrev the_terms : ℕ → ℕ → List Term
 the_terms a b = Const 0 ∷ Const a ∷ Const b ∷ []
 
-abbrev IsThere : ℕ → ℕ → Piece → Type 0
-IsThere a b (TermPiece t) = Contains (the_terms a b) t
-IsThere a b (AtomPiece s ts) = ⊥
-IsThere a b (piece.EquationPiece t u) = Unit {0}
+abbrev IsThere : ℕ → ℕ → GroundExpression → Type 0
+IsThere a b (TermExpression t) = Contains (the_terms a b) t
+IsThere a b (AtomExpression s ts) = ⊥
+IsThere a b (expression.EquationExpression t u) = Unit {0}
 
 within_constant : (c : ℕ) (t v : Term) → IsWithin v t → t ≡ Const c → v ≡ Const c
-within_constant c t v piece.whole e = e
-within_constant c t v (piece.argument s ts u k i) e = cc
+within_constant c t v expression.whole e = e
+within_constant c t v (expression.argument s ts u k i) e = cc
 
 abbrev left_of : Formula → Term
 left_of Truth = Const 0
@@ -120,33 +120,33 @@ negated_part (Not f) = f
 negated_part (And f g) = Truth
 negated_part (All f) = Truth
 
-in_equation : (a b : ℕ) (f : Formula) (p : Piece) → Has f p → f ≡ equation_of a b → IsThere a b p
-in_equation a b f p (piece.the_atom s ts) e = cc
-in_equation a b f p (piece.the_equation t u) e = tt
-in_equation a b f p (piece.in_atom s ts t u c i) e = cc
-in_equation a b f p (piece.in_left t u v i) e =
+in_equation : (a b : ℕ) (f : Formula) (p : GroundExpression) → Has f p → f ≡ equation_of a b → IsThere a b p
+in_equation a b f p (expression.the_atom s ts) e = cc
+in_equation a b f p (expression.the_equation t u) e = tt
+in_equation a b f p (expression.in_atom s ts t u c i) e = cc
+in_equation a b f p (expression.in_left t u v i) e =
     let same : t ≡ Const a = ap left_of e in
     (1, omega arith, sym (within_constant a t v i same))
-in_equation a b f p (piece.in_right t u v i) e =
+in_equation a b f p (expression.in_right t u v i) e =
     let same : u ≡ Const b = ap right_of e in
     (2, omega arith, sym (within_constant b u v i same))
-in_equation a b f p (piece.in_negation g q h) e = cc
-in_equation a b f p (piece.in_first g k q h) e = cc
-in_equation a b f p (piece.in_second g k q h) e = cc
-in_equation a b f p (piece.in_body g q h) e = cc
+in_equation a b f p (expression.in_negation g q h) e = cc
+in_equation a b f p (expression.in_first g k q h) e = cc
+in_equation a b f p (expression.in_second g k q h) e = cc
+in_equation a b f p (expression.in_body g q h) e = cc
 
-in_disequation : (a b : ℕ) (f : Formula) (p : Piece) → Has f p → f ≡ Not (equation_of a b) → IsThere a b p
-in_disequation a b f p (piece.the_atom s ts) e = cc
-in_disequation a b f p (piece.the_equation t u) e = cc
-in_disequation a b f p (piece.in_atom s ts t u c i) e = cc
-in_disequation a b f p (piece.in_left t u v i) e = cc
-in_disequation a b f p (piece.in_right t u v i) e = cc
-in_disequation a b f p (piece.in_negation g q h) e = in_equation a b g q h (ap negated_part e)
-in_disequation a b f p (piece.in_first g k q h) e = cc
-in_disequation a b f p (piece.in_second g k q h) e = cc
-in_disequation a b f p (piece.in_body g q h) e = cc
+in_disequation : (a b : ℕ) (f : Formula) (p : GroundExpression) → Has f p → f ≡ Not (equation_of a b) → IsThere a b p
+in_disequation a b f p (expression.the_atom s ts) e = cc
+in_disequation a b f p (expression.the_equation t u) e = cc
+in_disequation a b f p (expression.in_atom s ts t u c i) e = cc
+in_disequation a b f p (expression.in_left t u v i) e = cc
+in_disequation a b f p (expression.in_right t u v i) e = cc
+in_disequation a b f p (expression.in_negation g q h) e = in_equation a b g q h (ap negated_part e)
+in_disequation a b f p (expression.in_first g k q h) e = cc
+in_disequation a b f p (expression.in_second g k q h) e = cc
+in_disequation a b f p (expression.in_body g q h) e = cc
 
-there-InLayer : (a b n : ℕ) (p : Piece) → InLayer (only a b) [] n p → IsThere a b p
+there-InLayer : (a b n : ℕ) (p : GroundExpression) → InLayer (only a b) [] n p → IsThere a b p
 there-InLayer a b n p layers.first_constant = (0, omega arith, refl)
 there-InLayer a b n p (layers.of_literal l q c h e) =
     in_disequation a b (literal_formula l) q h (ap literal_formula (sym (one_member (Eq false (Const a) (Const b)) l c)))
@@ -157,27 +157,27 @@ there-InLayer a b n p (layers.added m c ts l q k i t z j h e) = absurd (no_membe
 few_terms : (a b n : ℕ) → HasTooManyTerms (only a b) [] n → ⊥
 few_terms a b n h =
     let p = h.passes in
-    let le : length p.0 ≤ 3 = length-le_distinct p.0 (the_terms a b) p.1 (λ t c. there-InLayer a b n (TermPiece t) (All-contains (λ u. InLayer (only a b) [] n (TermPiece u)) p.0 t p.2 c)) in
+    let le : length p.0 ≤ 3 = length-le_distinct p.0 (the_terms a b) p.1 (λ t c. there-InLayer a b n (TermExpression t) (All-contains (λ u. InLayer (only a b) [] n (TermExpression u)) p.0 t p.2 c)) in
     omega (arith, le, p.3)
 
-no_atom : (a b n : ℕ) (p : Piece) → IsAtomPiece p → InLayer (only a b) [] n p → ⊥
-no_atom a b n (TermPiece t) h i = h
-no_atom a b n (AtomPiece s ts) h i = there-InLayer a b n (AtomPiece s ts) i
-no_atom a b n (piece.EquationPiece t u) h i = h
+no_atom : (a b n : ℕ) (p : GroundExpression) → IsAtomExpression p → InLayer (only a b) [] n p → ⊥
+no_atom a b n (TermExpression t) h i = h
+no_atom a b n (AtomExpression s ts) h i = there-InLayer a b n (AtomExpression s ts) i
+no_atom a b n (expression.EquationExpression t u) h i = h
 
--- no pieces
-abbrev none_of : List Piece → List Piece
+-- no expressions
+abbrev none_of : List GroundExpression → List GroundExpression
 none_of ps = []
 
 few_atoms : (a b n : ℕ) → HasTooManyAtoms (only a b) [] n → ⊥
 few_atoms a b n h =
     let p = h.passes in
     let le : length p.0 ≤ 0 =
-    length-le_distinct p.0 (none_of p.0) p.1 (λ q c. let m = All-contains (λ r. IsAtomPiece r × InLayer (only a b) [] n r) p.0 q p.2 c in absurd (no_atom a b n q m.0 m.1)) in
+    length-le_distinct p.0 (none_of p.0) p.1 (λ q c. let m = All-contains (λ r. IsAtomExpression r × InLayer (only a b) [] n r) p.0 q p.2 c in absurd (no_atom a b n q m.0 m.1)) in
     omega (arith, le, p.3)
 
 -- closed exactly where both constants are the same
-up : (d : Disjunct) (p : Piece) → InLayer d [] 0 p → InLayer d [] 4 p
+up : (d : Disjunct) (p : GroundExpression) → InLayer d [] 0 p → InLayer d [] 4 p
 up d p i = layers.earlier 3 p (layers.earlier 2 p (layers.earlier 1 p (layers.earlier 0 p i)))
 
 from_shape : (a b : ℕ) (t u : Term) → t ≡ u → Shape a b (Eq false t u) → Const a ≡ Const b
@@ -196,9 +196,9 @@ same_closed a b e =
     let d : Disjunct = only a b in
     let l : Literal = Eq false (Const a) (Const b) in
     let here : Contains d.literals l = (0, omega arith, refl) in
-    let term : layers.IsGroundTerm d [] (Const a) = up d (TermPiece (Const a)) (layers.of_literal l (TermPiece (Const a)) here (piece.in_negation (equation_of a b) (TermPiece (Const a)) (piece.in_left (Const a) (Const b) (Const a) piece.whole)) refl) in
-    let equation : layers.IsGroundLiteral d [] l = up d (piece.EquationPiece (Const a) (Const b)) (layers.of_literal l (piece.EquationPiece (Const a) (Const b)) here (piece.in_negation (equation_of a b) (piece.EquationPiece (Const a) (Const b)) (piece.the_equation (Const a) (Const b))) refl) in
-    closes.contradiction (facts.on_equation (Const a) (Const b) (subst (λ t. Fact d [] (Eq true (Const a) t)) e (facts.itself (Const a) term)) (facts.given l here equation))
+    let term : layers.IsGroundTerm d [] (Const a) = up d (TermExpression (Const a)) (layers.of_literal l (TermExpression (Const a)) here (expression.in_negation (equation_of a b) (TermExpression (Const a)) (expression.in_left (Const a) (Const b) (Const a) expression.whole)) refl) in
+    let equation : layers.IsGroundLiteral d [] l = up d (expression.EquationExpression (Const a) (Const b)) (layers.of_literal l (expression.EquationExpression (Const a) (Const b)) here (expression.in_negation (equation_of a b) (expression.EquationExpression (Const a) (Const b)) (expression.the_equation (Const a) (Const b))) refl) in
+    closes.contradiction (facts.on_equation (Const a) (Const b) (subst (λ t. Fact d [] (Eq true (Const a) t)) e (facts.reflexive (Const a) term)) (facts.given l here equation))
 
 closed_same : (a b : ℕ) → IsClosed (only a b) [] → Const a ≡ Const b
 closed_same a b (closes.contradiction (facts.on_atom s ts f g)) = absurd (shape-Fact a b (Atom true s ts) f)

@@ -13,15 +13,15 @@ use Rattle.mz_nf.specs.Count.{count_of}
 use Rattle.mz_nf.specs.Splits.{AreDisjuncts}
 use Rattle.mz_nf.specs.Refuses.{Refuses}
 use Rattle.mz_ground.specs.declared.clause.Clause.{Clause}
-use Rattle.mz_ground.specs.declared.ground.Ground.{Ground}
+use Rattle.mz_ground.specs.declared.ground_part.Ground.{Ground}
 use Rattle.mz_ground.specs.declared.ground_term.GroundTerm.{GroundTerm}
 use Rattle.mz_ground.specs.declared.ground_atom.GroundAtom.{GroundAtom}
 use Rattle.mz_ground.specs.declared.ground_fault.GroundFault.{GroundFault}
 use Rattle.mz_ground.specs.declared.ground_fault.GroundFault.TheVariants.{TooManyTerms, TooManyAtoms}
-use Rattle.mz_ground.specs.Piece.{Piece, TermPiece, AtomPiece, EquationPiece, IsAtomPiece}
+use Rattle.mz_ground.specs.GroundExpression.{GroundExpression, TermExpression, AtomExpression, EquationExpression, IsAtomExpression}
 use Rattle.mz_ground.specs.Layers.{InLayer, further_layers}
 use Rattle.mz_ground.specs.Facts.{IsContradictory}
-use Rattle.mz_ground.specs.Ground.{IsDistinct, IsGround, IsGroundWithinLimits, IsWithinTerms, IsWithinAtoms, GroundFails, terms_after, term_of_entry, ground_terms, ground_atoms, atom_piece, end_of, most_terms, most_atoms}
+use Rattle.mz_ground.specs.Ground.{IsDistinct, IsGround, IsGroundWithinLimits, IsWithinTerms, IsWithinAtoms, GroundFails, terms_after, term_of_entry, ground_terms, ground_atoms, atom_expression, end_of, most_terms, most_atoms}
 use Rattle.mz_refute.specs.Closes.{IsClosed, contradiction, refutation}
 use Rattle.mz_by.specs.declared.by_verdict.ByVerdict.{ByVerdict}
 use Rattle.mz_by.specs.declared.by_verdict.ByVerdict.TheVariants.{Closed, Open, Over}
@@ -69,15 +69,15 @@ from_map f [] y c = absurd (omega (arith, c.1))
 from_map f (x ∷ xs) y (zero, lt, e) = (x, e)
 from_map f (x ∷ xs) y (suc k, lt, e) = from_map f xs y (k, omega arith, e)
 
-atom_of : (ts : List term.Term) (atoms : List GroundAtom) (n : ℕ) (p : Piece) → Contains (take n (map (atom_piece ts) atoms)) p → IsAtomPiece p
+atom_of : (ts : List term.Term) (atoms : List GroundAtom) (n : ℕ) (p : GroundExpression) → Contains (take n (map (atom_expression ts) atoms)) p → IsAtomExpression p
 atom_of ts atoms n p c =
-    let from = from_map (atom_piece ts) atoms p (from_take (map (atom_piece ts) atoms) n p c) in
-    subst IsAtomPiece from.1 tt
+    let from = from_map (atom_expression ts) atoms p (from_take (map (atom_expression ts) atoms) n p c) in
+    subst IsAtomExpression from.1 tt
 
-atoms_there : (d : Disjunct) (cs : List Clause) (g : Ground) (n : ℕ) → IsGround d cs g → n ≤ further_layers → (p : Piece) → (Contains (take (end_of g n).atoms (ground_atoms g)) p ↔ (IsAtomPiece p × InLayer d cs n p))
-atoms_there d cs g n h le (TermPiece t) = (λ c. absurd (atom_of (ground_terms g) g.atoms (end_of g n).atoms (TermPiece t) c), λ i. absurd i.0)
-atoms_there d cs g n h le (AtomPiece s ts) = (λ c. (tt, (h.atoms n s ts le).0 c), λ i. (h.atoms n s ts le).1 i.1)
-atoms_there d cs g n h le (EquationPiece t u) = (λ c. absurd (atom_of (ground_terms g) g.atoms (end_of g n).atoms (EquationPiece t u) c), λ i. absurd i.0)
+atoms_there : (d : Disjunct) (cs : List Clause) (g : Ground) (n : ℕ) → IsGround d cs g → n ≤ further_layers → (p : GroundExpression) → (Contains (take (end_of g n).atoms (ground_atoms g)) p ↔ (IsAtomExpression p × InLayer d cs n p))
+atoms_there d cs g n h le (TermExpression t) = (λ c. absurd (atom_of (ground_terms g) g.atoms (end_of g n).atoms (TermExpression t) c), λ i. absurd i.0)
+atoms_there d cs g n h le (AtomExpression s ts) = (λ c. (tt, (h.atoms n s ts le).0 c), λ i. (h.atoms n s ts le).1 i.1)
+atoms_there d cs g n h le (EquationExpression t u) = (λ c. absurd (atom_of (ground_terms g) g.atoms (end_of g n).atoms (EquationExpression t u) c), λ i. absurd i.0)
 
 terms_within : (d : Disjunct) (cs : List Clause) (g : Ground) → IsGroundWithinLimits d cs g → (n : ℕ) → n ≤ further_layers → IsWithinTerms d cs n
 terms_within d cs g h n le =
@@ -89,9 +89,9 @@ terms_within d cs g h n le =
 
 atoms_within : (d : Disjunct) (cs : List Clause) (g : Ground) → IsGroundWithinLimits d cs g → (n : ℕ) → n ≤ further_layers → IsWithinAtoms d cs n
 atoms_within d cs g h n le =
-    let ps : List Piece = take (end_of g n).atoms (ground_atoms g) in
+    let ps : List GroundExpression = take (end_of g n).atoms (ground_atoms g) in
     let shorter : length ps ≤ length (ground_atoms g) = shorter_take (end_of g n).atoms (ground_atoms g) in
-    let all : length (ground_atoms g) ≡ length g.atoms = length-map (atom_piece (ground_terms g)) g.atoms in
+    let all : length (ground_atoms g) ≡ length g.atoms = length-map (atom_expression (ground_terms g)) g.atoms in
     let limit : length g.atoms ≤ most_atoms = h.2 in
     (ps, record { members = λ p. atoms_there d cs g n h.0 le p; distinct = AllPairs-take (ground_atoms g) (end_of g n).atoms h.0.distinct_atoms }, omega (arith, shorter, all, limit))
 

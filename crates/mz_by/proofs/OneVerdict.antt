@@ -10,7 +10,7 @@ use Rattle.mz_nf.specs.declared.problem.Problem.{Problem}
 use Rattle.mz_nf.specs.Problem.{parts_of, has_constant}
 use Rattle.mz_nf.proofs.OneListLemmas.{all_splits_once}
 use Rattle.mz_ground.specs.declared.clause.Clause.{Clause}
-use Rattle.mz_ground.specs.Piece.{TermPiece, IsAtomPiece}
+use Rattle.mz_ground.specs.GroundExpression.{TermExpression, IsAtomExpression}
 use Rattle.mz_ground.specs.Layers.{InLayer}
 use Rattle.mz_ground.specs.Ground.{IsWithinTerms, IsWithinAtoms, PassesTerms, PassesAtoms, HasTooManyTerms, HasTooManyAtoms}
 use Rattle.mz_refute.specs.Work.{most_work}
@@ -25,13 +25,13 @@ use Rattle.mz_by.specs.Verdict.{KeepsLimits, IsClosedWithin, HasFirstWork, Decid
 not_both_terms : (d : Disjunct) (cs : List Clause) (n : ℕ) → IsWithinTerms d cs n → PassesTerms d cs n → ⊥
 not_both_terms d cs n w p =
     let le : length p.0 ≤ length w.0 =
-    length-le_distinct p.0 w.0 p.1 (λ t c. (w.1.members t).1 (All-contains (λ u. InLayer d cs n (TermPiece u)) p.0 t p.2 c)) in
+    length-le_distinct p.0 w.0 p.1 (λ t c. (w.1.members t).1 (All-contains (λ u. InLayer d cs n (TermExpression u)) p.0 t p.2 c)) in
     omega (arith, le, w.2, p.3)
 
 not_both_atoms : (d : Disjunct) (cs : List Clause) (n : ℕ) → IsWithinAtoms d cs n → PassesAtoms d cs n → ⊥
 not_both_atoms d cs n w p =
     let le : length p.0 ≤ length w.0 =
-    length-le_distinct p.0 w.0 p.1 (λ t c. (w.1.members t).1 (All-contains (λ u. IsAtomPiece u × InLayer d cs n u) p.0 t p.2 c)) in
+    length-le_distinct p.0 w.0 p.1 (λ t c. (w.1.members t).1 (All-contains (λ u. IsAtomExpression u × InLayer d cs n u) p.0 t p.2 c)) in
     omega (arith, le, w.2, p.3)
 
 not_terms : (d : Disjunct) (cs : List Clause) (n : ℕ) → KeepsLimits d cs → HasTooManyTerms d cs n → ⊥

@@ -1,5 +1,5 @@
 //! The decision of a problem.
-ghost use Rattle.std.specs.Prelude.{◌≡◌, ◌<◌, ◌≤◌, ◌^◌, IfOk, MatchOption, length, suc};
+ghost use Rattle.std.specs.Prelude.{◌≡◌, ◌<◌, ◌≤◌, ◌^◌, IfOk, MatchOption, length, suc, take};
 ghost use Rattle.mz_by.specs.Laws.{HaveNoConstants, IsDerived};
 ghost use Rattle.mz_by.specs.Verdict.{IsClosedWithin, Decides, DecidesAll, IsVerdict};
 ghost use Rattle.mz_ground.specs.Ground.{IsGroundWithinLimits};
@@ -9,11 +9,12 @@ use crate::examination::Examination;
 use crate::examine::examine;
 use mz_base::limit::Limit;
 use mz_classes::close_classes::close_classes;
+use mz_ground::clause::Clause;
 use mz_ground::clauses::Clauses;
 use mz_ground::fact_set::FactSet;
-use mz_ground::ground::Ground;
+use mz_ground::ground::ground;
 use mz_ground::ground_fault::GroundFault;
-use mz_ground::making::ground;
+use mz_ground::ground_part::Ground;
 use mz_logic::disjunct::Disjunct;
 use mz_logic::disjuncts::Disjuncts;
 use mz_nf::disjuncts::disjuncts;
@@ -27,17 +28,31 @@ use std::alloc::{AllocError, Global};
 /// than 1,024 disjuncts, and else the first disjunct that isn't closed decides. The only other answer is want of
 /// memory. Where it is closed and the clauses have no constants, the conclusion derives from the premises and the
 /// clauses.
-#[tactic(auto, using(crate::proofs::ClosedSound::closed_derived))]
 pub fn by(alloc: Global, p: &Problem, clauses: &Clauses) -> Result<ByVerdict, AllocError>
     ensures verdict { IfOk result (λ v. IsVerdict p.now clauses.now v) }
     ensures derived { IfOk result (λ v. v ≡ ByVerdict.Closed → HaveNoConstants clauses.now → IsDerived p.now clauses.now) }
 {
-    let verdict = decide_problem(alloc, p, clauses)?;
+    let verdict = decide_problem(alloc, p, clauses.as_slice())?;
+    Ok(verdict)
+}
+
+/// Decides a problem by the first `count` of the clauses, as `by` does by all of them; where there are no more, by
+/// all. None is copied.
+pub fn by_first(
+    alloc: Global,
+    p: &Problem,
+    clauses: &Clauses,
+    count: usize,
+) -> Result<ByVerdict, AllocError>
+    ensures verdict { IfOk result (λ v. IsVerdict p.now (take count clauses.now) v) }
+    ensures derived { IfOk result (λ v. v ≡ ByVerdict.Closed → HaveNoConstants (take count clauses.now) → IsDerived p.now (take count clauses.now)) }
+{
+    let verdict = decide_problem(alloc, p, clauses.first(count))?;
     Ok(verdict)
 }
 
 /// The verdict on a problem.
-fn decide_problem(alloc: Global, p: &Problem, clauses: &Clauses) -> Result<ByVerdict, AllocError>
+fn decide_problem(alloc: Global, p: &Problem, clauses: &[Clause]) -> Result<ByVerdict, AllocError>
     ensures { IfOk result (λ v. IsVerdict p.now clauses.now v) }
 {
     match disjuncts(alloc, p) {
@@ -54,7 +69,7 @@ fn decide_problem(alloc: Global, p: &Problem, clauses: &Clauses) -> Result<ByVer
 }
 
 /// The verdict on the disjuncts of a problem.
-fn decide_all(alloc: Global, ds: &Disjuncts, clauses: &Clauses) -> Result<ByVerdict, AllocError>
+fn decide_all(alloc: Global, ds: &Disjuncts, clauses: &[Clause]) -> Result<ByVerdict, AllocError>
     requires { length ds.now ≤ 1024 }
     ensures { IfOk result (λ v. DecidesAll clauses.now 1 ds.now v) }
 {
@@ -72,7 +87,7 @@ fn decide_all(alloc: Global, ds: &Disjuncts, clauses: &Clauses) -> Result<ByVerd
 fn decide(
     alloc: Global,
     d: &Disjunct,
-    clauses: &Clauses,
+    clauses: &[Clause],
     number: u32,
 ) -> Result<Option<ByVerdict>, AllocError>
     ensures { IfOk result (λ o. MatchOption o (IsClosedWithin d.now clauses.now) (Decides d.now clauses.now number)) }
@@ -95,7 +110,7 @@ fn decide(
 fn decide_ground(
     alloc: Global,
     d: &Disjunct,
-    clauses: &Clauses,
+    clauses: &[Clause],
     g: &Ground,
     number: u32,
 ) -> Result<Option<ByVerdict>, AllocError>

@@ -1,14 +1,10 @@
 -- What the lists of numbers tell of the facts.
 use Rattle.std.proofs.Common.{◌≡◌, ◌<◌, ◌≤◌, ℕ, List, [], ◌∷◌, length, map, refl, ap, sym, ◌∙◌, subst, arith, true, false, Bool, inl, inr}
-use Rattle.std.specs.Prelude.{slice_get, slice_index, Contains, Option, Some, None, nat_eq, ◌&&◌, ◌↔◌}
-use Rattle.std.specs.List.Sorted.{IsStrictlyIncreasing}
+use Rattle.std.specs.Prelude.{slice_get, slice_index, Option, Some, None, ◌&&◌, ◌↔◌}
 use Rattle.std.proofs.lemmas.Bool.{eqb-true, eq-eqb}
-use Rattle.std.proofs.lemmas.Option.{slice_get_within}
 use Rattle.mz_logic.specs.Sym.{same_sym}
 use Rattle.mz_logic.specs.declared.sym.Sym.{Sym}
-use Rattle.mz_logic.specs.Term.{Term}
-use Rattle.mz_logic.specs.declared.literal.Literal.{Literal}
-use Rattle.mz_logic.specs.declared.literal.Literal.TheVariants.{Atom, Eq}
+use Rattle.mz_logic.specs.declared.literal.Literal.TheVariants.{Atom}
 use Rattle.mz_logic.specs.declared.disjunct.Disjunct.{Disjunct}
 use Rattle.mz_ground.specs.Ground.{term_at, ground_terms}
 use Rattle.mz_ground.specs.Facts.{Fact}
@@ -16,13 +12,12 @@ use Rattle.mz_ground.specs.Facts as facts
 use Rattle.mz_ground.specs.FactSet.{FactView, HasFacts}
 use Rattle.mz_ground.specs.declared.clause.Clause.{Clause}
 use Rattle.mz_ground.specs.declared.ground_atom.GroundAtom.{GroundAtom}
-use Rattle.mz_congruence.proofs.ListLemmas.{some_same, none_some}
 use Rattle.mz_congruence.proofs.RootLemmas.{cases_lt}
 use Rattle.mz_congruence.proofs.ClosingLemmas.{both_left, both_right}
 use Rattle.mz_classes.specs.Numbers.{first_of, list_at, numbers_where}
 use Rattle.mz_classes.specs.SymLists.{sym_list}
 use Rattle.mz_classes.specs.Indexed.{has_label, has_sym, has_sign, AreMemberLists, AreSignedLists, AreWithin}
-use Rattle.mz_classes.specs.Classes.{numbered_term, AreEqualTerms, IsClassOf, AreMembers, IsSignedAtom, AreSignedAtoms, DecidesClass, DecidesMembers, DecidesSigned}
+use Rattle.mz_classes.specs.Classes.{numbered_term, AreEqualTerms, IsClassOf, AreMembers, IsSignedAtom, DecidesClass, DecidesMembers, DecidesSigned}
 use Rattle.mz_classes.specs.declared.sym_lists.SymLists.{SymLists}
 use Rattle.mz_classes.proofs.NumberLemmas.{where_within, where_has, where_ascending, IsFirstNumber, first_number, no_number}
 use Rattle.mz_classes.proofs.SymListLemmas.{same_sym_true, same_sym_itself}
@@ -76,8 +71,8 @@ same_class d cs v ps m n class e c =
     let u = numbered_term v.part ps n in
     record {
       within = c.within;
-      equal = facts.chained (numbered_term v.part ps class) u t c.equal (facts.exchanged t u e);
-      least = λ k lt q. c.least k lt (facts.chained (numbered_term v.part ps k) t u q e);
+      equal = facts.transitive (numbered_term v.part ps class) u t c.equal (facts.symmetric t u e);
+      least = λ k lt q. c.least k lt (facts.transitive (numbered_term v.part ps k) t u q e);
     }
 
 one_class : (d : Disjunct) (cs : List Clause) (v : FactView) (ps : List ℕ) (m class other : ℕ) → IsClassOf d cs v.part ps m class → IsClassOf d cs v.part ps m other → class ≡ other
@@ -93,7 +88,7 @@ members_listed v ps class w lt c = λ d cs h. record {
   ascending = where_ascending (has_label v ps (its_label v ps class)) (length v.part.terms);
   members = λ m. (
     λ q. let x = where_within (has_label v ps (its_label v ps class)) (length v.part.terms) m q in (x.0, same_class d cs v ps m class class (label_equal v ps d cs h w m class x.0 lt x.1) (c d cs h)),
-    λ p. where_has (has_label v ps (its_label v ps class)) (length v.part.terms) m p.0 (equal_label v ps d cs h w m class p.0 lt (facts.exchanged (numbered_term v.part ps class) (numbered_term v.part ps m) p.1.equal)),
+    λ p. where_has (has_label v ps (its_label v ps class)) (length v.part.terms) m p.0 (equal_label v ps d cs h w m class p.0 lt (facts.symmetric (numbered_term v.part ps class) (numbered_term v.part ps m) p.1.equal)),
   );
 }
 
@@ -121,7 +116,7 @@ unfolding DecidesClass
 told_other v ps class other ns e c ne = no_members v ps class ns e (λ d cs h m q.
     let t = numbered_term v.part ps class in
     let u = numbered_term v.part ps m in
-    let here : IsClassOf d cs v.part ps class class = record { within = q.within; equal = facts.chained t u t q.equal (facts.exchanged t u q.equal); least = λ k less r. q.least k less (facts.chained (numbered_term v.part ps k) t u r q.equal) } in
+    let here : IsClassOf d cs v.part ps class class = record { within = q.within; equal = facts.transitive t u t q.equal (facts.symmetric t u q.equal); least = λ k less r. q.least k less (facts.transitive (numbered_term v.part ps k) t u r q.equal) } in
     ne (one_class d cs v ps class other class (c d cs h) here))
 
 -- atoms with a sign

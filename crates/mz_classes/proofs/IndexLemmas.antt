@@ -1,10 +1,9 @@
 -- One term or atom more in the lists.
-use Rattle.std.proofs.Common.{◌≡◌, ◌<◌, ◌+◌, ℕ, suc, List, [], ◌∷◌, ◌++◌, refl, ap, sym, ◌∙◌, subst, arith, true, false, Bool, inl, inr}
-use Rattle.std.specs.Prelude.{slice_get, slice_index, Option, Some, None, Result, Ok, Err, OnOk, nat_eq, ◌&&◌, if◌then◌else◌}
+use Rattle.std.proofs.Common.{◌≡◌, ◌<◌, ◌+◌, ℕ, List, [], ◌∷◌, ◌++◌, refl, ap, sym, ◌∙◌, subst, arith, true, false, Bool}
+use Rattle.std.specs.Prelude.{slice_get, slice_index, Option, Some, Result, Ok, Err, OnOk, nat_eq, ◌&&◌, if◌then◌else◌}
 use Rattle.std.proofs.lemmas.Bool.{eqb-true, eq-eqb}
 use Rattle.std.proofs.lemmas.List.{append-nil}
 use Rattle.mz_logic.specs.Sym.{same_sym}
-use Rattle.mz_logic.specs.declared.sym.Sym.{Sym}
 use Rattle.mz_ground.specs.declared.ground_atom.GroundAtom.{GroundAtom}
 use Rattle.mz_ground.specs.FactSet.{FactView}
 use Rattle.mz_congruence.specs.declared.fact_table.FactTable.{FactTable}

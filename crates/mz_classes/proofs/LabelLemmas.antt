@@ -1,6 +1,6 @@
 -- Nodes with one label stay equal when equal nodes' labels are made one, and become equal by what is tested.
-use Rattle.std.proofs.Common.{◌≡◌, ◌<◌, ◌≤◌, ℕ, zero, suc, List, [], ◌∷◌, length, map, refl, ap, sym, ◌∙◌, subst, arith, set, true, false, Bool, inl, inr, ◌⊎◌}
-use Rattle.std.specs.Prelude.{slice_index, slice_get, Some, Contains, Result, Ok, Err, OnOk, IfOk, nat_lt, nat_eq, ◌&&◌}
+use Rattle.std.proofs.Common.{◌≡◌, ◌<◌, ◌≤◌, ℕ, zero, suc, List, [], ◌∷◌, length, map, refl, ap, sym, ◌∙◌, subst, arith, set, true, inl, inr, ◌⊎◌}
+use Rattle.std.specs.Prelude.{slice_index, slice_get, Some, Contains, Result, Ok, Err, OnOk, nat_lt, ◌&&◌}
 use Rattle.std.specs.List.{list_all}
 use Rattle.std.proofs.lemmas.Bool.{eqb-true, ltb-true}
 use Rattle.std.proofs.lemmas.Bool.Decides.{eqb_tells}
@@ -10,7 +10,7 @@ use Rattle.mz_congruence.specs.declared.node.Node.{Node}
 use Rattle.mz_congruence.specs.declared.pair.Pair.{Pair}
 use Rattle.mz_congruence.specs.declared.rule.Rule.{Rule}
 use Rattle.mz_congruence.specs.Congruence.{Equal, AllEqual, reflexive, symmetric, transitive, congruent, applied, none, more, left_of, right_of}
-use Rattle.mz_congruence.specs.Classes.{after_steps, root, Descends, Sound}
+use Rattle.mz_congruence.specs.Classes.{after_steps, root, Descends}
 use Rattle.mz_congruence.specs.Closing.{same, below, pair_below, IsWithin, State}
 use Rattle.mz_congruence.proofs.ClosingLemmas.{both_left, both_right, contains_from}
 use Rattle.mz_congruence.proofs.RootLemmas.{index_set_same, index_set_other, past_end, cases_lt}

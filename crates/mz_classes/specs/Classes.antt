@@ -9,7 +9,7 @@ use Rattle.mz_ground.specs.Ground.{term_at, ground_terms}
 use Rattle.mz_ground.specs.Facts.{Fact}
 use Rattle.mz_ground.specs.FactSet.{FactView, HasFacts}
 use Rattle.mz_ground.specs.declared.clause.Clause.{Clause}
-use Rattle.mz_ground.specs.declared.ground.Ground.{Ground}
+use Rattle.mz_ground.specs.declared.ground_part.Ground.{Ground}
 use Rattle.mz_ground.specs.declared.ground_atom.GroundAtom.{GroundAtom}
 
 -- the term with a number, where the places are in the order of the numbers

@@ -3,4 +3,4 @@ pub mod Numbers
 pub mod SymLists
 pub mod Indexed
 pub mod Classes
-pub mod ClassFacts
+pub mod ClassView

@@ -1,20 +1,20 @@
-//! What class facts answer.
+//! What numbered classes answer.
 ghost use Rattle.std.specs.Prelude.{◌≡◌, ◌<◌, length, slice_index};
 ghost use Rattle.mz_classes.specs.Classes.{DecidesClass, DecidesMembers, DecidesSigned};
-ghost use Rattle.mz_classes.specs.ClassFacts.{class_view};
+ghost use Rattle.mz_classes.specs.ClassView.{class_view};
 ghost use Rattle.mz_classes.specs.Indexed.{AreSignedLists};
 
-use crate::class_facts::ClassFacts;
+use crate::classes::Classes;
 use crate::labels::label_of;
 use crate::numbers::Numbers;
 use crate::sym_lists::SymLists;
 use mz_ground::fact_set::FactSet;
-use mz_ground::ground::Ground;
+use mz_ground::ground_part::Ground;
 use mz_logic::literal::Literal;
 use mz_logic::sym::Sym;
 use mz_logic::term::Term;
 
-impl FactSet for ClassFacts {
+impl FactSet for Classes {
     ghost view = { class_view };
 
     fn ground(&self) -> &Ground {
@@ -46,7 +46,7 @@ impl FactSet for ClassFacts {
     }
 }
 
-impl ClassFacts {
+impl Classes {
     /// The least number of a term that is equal to the term with this number.
     #[tactic(auto, using(crate::proofs::ClassLemmas::class_rules))]
     pub fn class_of(&self, term: u32) -> u32

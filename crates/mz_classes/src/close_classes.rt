@@ -3,10 +3,10 @@ ghost use Rattle.std.specs.Prelude.{◌≡◌, ◌≤◌, ℕ, length, slice_ind
 ghost use Rattle.mz_ground.specs.Ground.{IsGround};
 ghost use Rattle.mz_ground.specs.FactSet.{HasFacts};
 ghost use Rattle.mz_numbering.specs.Numbering.{IsNumbering};
-ghost use Rattle.mz_classes.specs.ClassFacts.{class_view};
+ghost use Rattle.mz_classes.specs.ClassView.{class_view};
 ghost use Rattle.mz_classes.specs.Indexed.{AreWithin};
 
-use crate::class_facts::ClassFacts;
+use crate::classes::Classes;
 use crate::member_lists::member_lists;
 use crate::numbers::Numbers;
 use crate::propagate::propagated_labels;
@@ -15,8 +15,8 @@ use crate::signed_lists::signed_lists;
 use mz_congruence::fact_table::{FactTable, facts_of};
 use mz_congruence::ground_graph::graph_of;
 use mz_congruence::settle::settle;
-use mz_ground::clauses::Clauses;
-use mz_ground::ground::Ground;
+use mz_ground::clause::Clause;
+use mz_ground::ground_part::Ground;
 use mz_logic::disjunct::Disjunct;
 use mz_numbering::numbering::{Numbering, numbering_of};
 use std::alloc::{AllocError, Global};
@@ -27,8 +27,8 @@ pub fn close_classes(
     alloc: Global,
     g: &Ground,
     d: &Disjunct,
-    clauses: &Clauses,
-) -> Result<ClassFacts, AllocError>
+    clauses: &[Clause],
+) -> Result<Classes, AllocError>
     requires { IsGround d.now clauses.now g.now }
     ensures kept { IfOk result (λ f. (class_view f).part ≡ g.now) }
     ensures facts { IfOk result (λ f. HasFacts d.now clauses.now (class_view f)) }
@@ -44,7 +44,7 @@ pub fn close_classes(
 }
 
 // The table with its lists.
-fn indexed(alloc: Global, table: FactTable, numbering: Numbering) -> Result<ClassFacts, AllocError>
+fn indexed(alloc: Global, table: FactTable, numbering: Numbering) -> Result<Classes, AllocError>
     requires classes { (k : ℕ) → slice_index table.classes.items k ≤ k }
     requires terms { AreWithin (length table.ground.terms) numbering.terms.items }
     requires atoms { AreWithin (length table.ground.atoms) numbering.atoms.items }
@@ -54,7 +54,7 @@ fn indexed(alloc: Global, table: FactTable, numbering: Numbering) -> Result<Clas
     let members = member_lists(alloc, &table, terms)?;
     let positive = signed_lists(alloc, &table, atoms, true)?;
     let negative = signed_lists(alloc, &table, atoms, false)?;
-    Ok(ClassFacts {
+    Ok(Classes {
         table,
         numbering,
         members,

@@ -3,7 +3,7 @@
 #![tactic(auto)]
 
 mod answers;
-pub mod class_facts;
+pub mod classes;
 pub mod close_classes;
 mod labels;
 mod lists;

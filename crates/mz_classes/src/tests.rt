@@ -1,11 +1,15 @@
 //! Problems with their facts, classes and signed atoms, worked out by hand from the rules.
-use crate::class_facts::ClassFacts;
+use crate::classes::Classes;
 use crate::close_classes::close_classes;
 use crate::numbers::Numbers;
+use crate::propagate::propagated_labels;
+use crate::roots::roots_of;
+use mz_congruence::ground_graph::graph_of;
+use mz_congruence::settle::settle;
 use mz_ground::clause::Clause;
 use mz_ground::clauses::Clauses;
 use mz_ground::fact_set::FactSet;
-use mz_ground::making::ground;
+use mz_ground::ground::ground;
 use mz_ground::trigger::Trigger;
 use mz_logic::disjunct::Disjunct;
 use mz_logic::formula::Formula;
@@ -39,9 +43,13 @@ const C3: T = (0, 3, false);
 
 const C4: T = (0, 4, false);
 
+const C5: T = (0, 5, false);
+
 const F1: T = (1, 1, false);
 
 const F2: T = (1, 2, false);
+
+const F5: T = (1, 5, false);
 
 const FF1: T = (2, 1, false);
 
@@ -124,24 +132,34 @@ fn clause(rt: &impl Abort, alloc: Global, r: R) -> Clause {
     Clause::new(1, trigger, premises, conclusion).expect(rt, "its variable is in the trigger")
 }
 
-// The facts of the literals under the clauses, where the other literals are ground.
-fn closed(rt: &impl Abort, alloc: Global, ls: &[L], others: &[L], rs: &[R]) -> ClassFacts {
+fn clauses(rt: &impl Abort, alloc: Global, rs: &[R]) -> Clauses {
+    let mut out = Clauses::new(alloc);
+    for r in rs {
+        out.push(clause(rt, alloc, *r)).expect(rt, "memory");
+    }
+    out
+}
+
+// The disjunct with the literals, where the other literals are ground.
+fn disjunct(rt: &impl Abort, alloc: Global, ls: &[L], others: &[L]) -> Disjunct {
     let mut universals = Formulas::new(alloc);
     for l in others {
         let body = literal(rt, alloc, *l).formula(alloc).expect(rt, "memory");
         let universal = Formula::all(alloc, body).expect(rt, "memory");
         universals.push(universal).expect(rt, "memory");
     }
-    let mut clauses = Clauses::new(alloc);
-    for r in rs {
-        clauses.push(clause(rt, alloc, *r)).expect(rt, "memory");
-    }
-    let d = Disjunct {
+    Disjunct {
         literals: literals(rt, alloc, ls),
         universals,
-    };
-    let g = ground(alloc, &d, &clauses).expect(rt, "a ground part");
-    close_classes(alloc, &g, &d, &clauses).expect(rt, "memory")
+    }
+}
+
+// The facts of the literals under the clauses, where the other literals are ground.
+fn closed(rt: &impl Abort, alloc: Global, ls: &[L], others: &[L], rs: &[R]) -> Classes {
+    let clauses = clauses(rt, alloc, rs);
+    let d = disjunct(rt, alloc, ls, others);
+    let g = ground(alloc, &d, clauses.as_slice()).expect(rt, "a ground part");
+    close_classes(alloc, &g, &d, clauses.as_slice()).expect(rt, "memory")
 }
 
 fn are(numbers: &Numbers, wanted: &[u32]) -> bool {
@@ -177,7 +195,7 @@ fn classes_of_a_chain(rt: HostRuntime) {
     assert!(&rt; are(f.signed(predicate(b'E'), false), &[]), "E false");
 }
 
-/// The atoms P[1], P[2], P[3] and Q[2], where c1 = c2, P[1] and not Q[2].
+/// The atoms P[1], P[2], P[3], Q[1] and Q[2], where c1 = c2, P[1] and not Q[2].
 #[test]
 fn atoms_by_sign(rt: HostRuntime) {
     let f = closed(
@@ -319,6 +337,21 @@ const CASES: [Case; 6] = [
     ),
 ];
 
+const JOINS: [[L; 4]; 2] = [
+    [
+        (true, b'=', &[C1, C2]),
+        (true, b'=', &[C3, C4]),
+        (true, b'=', &[C4, C5]),
+        (true, b'=', &[C2, C3]),
+    ],
+    [
+        (true, b'=', &[C2, C3]),
+        (true, b'=', &[C4, C5]),
+        (true, b'=', &[C3, C4]),
+        (true, b'=', &[C1, C2]),
+    ],
+];
+
 #[test]
 fn facts_of_problems(rt: HostRuntime) {
     for (number, case) in CASES.iter().enumerate() {
@@ -333,5 +366,36 @@ fn facts_of_problems(rt: HostRuntime) {
             assert!(&rt; !found, "{number}");
         }
         assert_eq!(&rt; f.contradictory(), contradictory, "{number}");
+    }
+}
+
+// Whether the passes find nothing that the work list left.
+#[tactic(auto, using(crate::proofs::CloseLemmas::close_rules))]
+fn is_complete(rt: &impl Abort, alloc: Global, d: &Disjunct, clauses: &Clauses) -> bool {
+    let g = ground(alloc, d, clauses.as_slice()).expect(rt, "a ground part");
+    let graph = graph_of(alloc, &g, d, clauses.as_slice()).expect(rt, "memory");
+    let labels = propagated_labels(alloc, &graph.graph).expect(rt, "memory");
+    let found = roots_of(alloc, labels.as_slice()).expect(rt, "memory");
+    let mut all = roots_of(alloc, labels.as_slice()).expect(rt, "memory");
+    settle(alloc, &graph.graph, all.as_mut_slice()).expect(rt, "memory");
+    found.as_slice() == all.as_slice()
+}
+
+/// The facts of a graph are found by the work list alone: of each case above, and of two classes that are joined, both
+/// with a term above one of their members, in both orders.
+#[test]
+fn the_work_list_finds_all(rt: HostRuntime) {
+    let alloc = rt.alloc();
+    for (number, case) in CASES.iter().enumerate() {
+        let d = disjunct(&rt, alloc, case.0, case.1);
+        let clauses = clauses(&rt, alloc, case.2);
+        assert!(&rt; is_complete(&rt, alloc, &d, &clauses), "{number}");
+    }
+    for (number, ls) in JOINS.iter().enumerate() {
+        let d = disjunct(&rt, alloc, ls, &[(true, b'P', &[F1]), (true, b'P', &[F5])]);
+        assert!(&rt;
+            is_complete(&rt, alloc, &d, &Clauses::new(alloc)),
+            "{number}"
+        );
     }
 }

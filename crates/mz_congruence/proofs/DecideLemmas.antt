@@ -1,22 +1,23 @@
 -- What the calls on facts tell.
-use Rattle.std.proofs.Common.{◌≡◌, ◌<◌, ◌≤◌, ℕ, List, [], ◌∷◌, length, map, refl, ap, sym, ◌∙◌, subst, arith, true, false, Bool, inl, inr, ◌⊎◌}
-use Rattle.std.specs.Prelude.{slice_index, slice_get, Some, nat_eq, ◌&&◌, ◌↔◌, Option, None}
+use Rattle.std.proofs.Common.{◌≡◌, ◌<◌, ◌≤◌, ℕ, List, [], length, map, refl, ap, sym, ◌∙◌, subst, arith, true, false, Bool, inl, inr, ◌⊎◌}
+use Rattle.std.specs.Prelude.{slice_index, slice_get, Some, nat_eq, ◌↔◌, Option, None}
 use Rattle.std.proofs.lemmas.Bool.{eqb-true, eq-eqb}
 use Rattle.std.proofs.lemmas.Option.{slice_get_within}
 use Rattle.mz_logic.specs.declared.sym.Sym.{Sym}
-use Rattle.mz_logic.specs.Sym.{same_sym}
 use Rattle.mz_logic.specs.Term as term
 use Rattle.mz_logic.specs.Term.{Term, terms_of}
 use Rattle.mz_logic.specs.declared.literal.Literal.{Literal}
 use Rattle.mz_logic.specs.declared.literal.Literal.TheVariants.{Atom, Eq}
 use Rattle.mz_logic.specs.declared.disjunct.Disjunct.{Disjunct}
+use Rattle.mz_logic.proofs.ValueLaws.{substitute-no_values}
 use Rattle.mz_ground.specs.Layers.{IsGroundLiteral}
-use Rattle.mz_ground.specs.Instance.{filled, conclusion_at}
+use Rattle.mz_logic.specs.Substitution.{substitute, value_at}
+use Rattle.mz_ground.specs.Instance.{conclusion_at}
 use Rattle.mz_ground.specs.Ground.{term_at, ground_terms, IsGround}
 use Rattle.mz_ground.specs.Facts as facts
 use Rattle.mz_ground.specs.Facts.{Fact, IsContradictory}
 use Rattle.mz_ground.specs.declared.clause.Clause.{Clause}
-use Rattle.mz_ground.specs.declared.ground.Ground.{Ground}
+use Rattle.mz_ground.specs.declared.ground_part.Ground.{Ground}
 use Rattle.mz_ground.specs.declared.ground_atom.GroundAtom.{GroundAtom}
 use Rattle.mz_ground.specs.declared.ground_equation.GroundEquation.{GroundEquation}
 use Rattle.mz_congruence.specs.declared.fact_table.FactTable.{FactTable}
@@ -26,8 +27,6 @@ use Rattle.mz_congruence.specs.Classes.{Descends, Flat}
 use Rattle.mz_congruence.specs.Closing.{Exact}
 use Rattle.mz_congruence.specs.Nodes.{nodes_of, atom_place, disequal_place, yes_place}
 use Rattle.mz_congruence.specs.Codes.{IsTermPlace, IsAtomPlace, IsEquationPlace, IsGraph}
-use Rattle.mz_congruence.specs.Pairing.{AllWithin, terms_at}
-use Rattle.mz_congruence.specs.Stands.{stands}
 use Rattle.mz_ground.specs.FactSet.{HasFacts, DecidesFact, DecidesContradiction}
 use Rattle.mz_congruence.specs.FactTable.{flag_at, signed_at, table_view}
 use Rattle.std.specs.Prelude.{Result, Ok, Err, IfOk}
@@ -35,11 +34,10 @@ use Rattle.mz_congruence.specs.GroundGraph.{HasFactsOf}
 use Rattle.mz_congruence.specs.declared.ground_graph.GroundGraph.{GroundGraph}
 use Rattle.mz_congruence.specs.OfClasses.{IsOfClasses, AtomClash, EquationClash, DecidesDisequal}
 use Rattle.mz_congruence.proofs.RootLemmas.{cases_lt, past_end}
-use Rattle.mz_congruence.proofs.ListLemmas.{some_same, get_some, get_contains, not_contains_nil}
+use Rattle.mz_congruence.proofs.ListLemmas.{get_some}
 use Rattle.mz_congruence.proofs.GroundLemmas.{term_place, atom_found, equation_found, equation_unique, equation_within}
 use Rattle.mz_congruence.proofs.NodeLemmas.{term_within, atom_within, disequal_within, yes_within}
-use Rattle.mz_congruence.proofs.StandLemmas.{filled_nil}
-use Rattle.mz_congruence.proofs.LookupLemmas.{nil_within, filled_all_nil}
+use Rattle.mz_congruence.proofs.LookupLemmas.{nil_within, all-no_values}
 use Rattle.mz_congruence.specs.Lookup.{IsTermFound, IsAtomFound, IsEquationFound, FindsTerm, FindsAtom, FindsEquation}
 use Rattle.mz_congruence.proofs.UpLemmas.{exact_terms, exact_atom, exact_disequal}
 
@@ -59,15 +57,15 @@ literal_placed d cs g gr (Eq false t u) h = let p = equation_found d cs g gr t u
 
 pub fact_placed : (d : Disjunct) (cs : List Clause) (g : Ground) → IsGround d cs g → (l : Literal) → Fact d cs l → Placed g l
 fact_placed d cs g gr l (facts.given m mem h) = literal_placed d cs g gr m h
-fact_placed d cs g gr l (facts.itself t h) = let p = term_place d cs g gr t h in (p, p)
-fact_placed d cs g gr l (facts.exchanged t u f) = let p = fact_placed d cs g gr (Eq true t u) f in (p.1, p.0)
-fact_placed d cs g gr l (facts.chained t u v f e) =
+fact_placed d cs g gr l (facts.reflexive t h) = let p = term_place d cs g gr t h in (p, p)
+fact_placed d cs g gr l (facts.symmetric t u f) = let p = fact_placed d cs g gr (Eq true t u) f in (p.1, p.0)
+fact_placed d cs g gr l (facts.transitive t u v f e) =
     let p = fact_placed d cs g gr (Eq true t u) f in
     let q = fact_placed d cs g gr (Eq true u v) e in
     (p.0, q.1)
-fact_placed d cs g gr l (facts.alike s ts us gt gu es) = (term_place d cs g gr (term.App s (terms_of ts)) gt, term_place d cs g gr (term.App s (terms_of us)) gu)
-fact_placed d cs g gr l (facts.carried positive s ts us f gu es) = atom_found d cs g gr s us gu
-fact_placed d cs g gr l (facts.turned t u f) =
+fact_placed d cs g gr l (facts.congruent s ts us gt gu es) = (term_place d cs g gr (term.App s (terms_of ts)) gt, term_place d cs g gr (term.App s (terms_of us)) gu)
+fact_placed d cs g gr l (facts.atom_congruence positive s ts us f gu es) = atom_found d cs g gr s us gu
+fact_placed d cs g gr l (facts.reversed t u f) =
     let p = fact_placed d cs g gr (Eq false t u) f in
     (p.0, p.1, elim p.2 [ inl x ↦ inr x | inr x ↦ inl x ])
 fact_placed d cs g gr l (facts.fired c ts mem len trigger gps gp fs) = literal_placed d cs g gr (conclusion_at c ts) gp
@@ -137,7 +135,7 @@ false_not_true e = cc
 -- equal terms
 term_nil : (d : Disjunct) (cs : List Clause) (g : Ground) → IsGround d cs g → (t : Term) (r : Option ℕ) → FindsTerm g [] t r → IsTermFound g t r
 unfolding FindsTerm
-term_nil d cs g gr t r h = subst (λ (u : Term). IsTermFound g u r) (filled_nil t) (h d cs gr (nil_within g))
+term_nil d cs g gr t r h = subst (λ (u : Term). IsTermFound g u r) (substitute-no_values 0 t) (h d cs gr (nil_within g))
 
 pub told_same : (f : FactTable) (t u : Term) (i j : ℕ) (b : Bool) → FindsTerm f.ground [] t (Some i) → FindsTerm f.ground [] u (Some j) → b ≡ nat_eq (slice_index f.classes.items i) (slice_index f.classes.items j) → DecidesFact (table_view f) (Eq true t u) b
 unfolding DecidesFact
@@ -166,7 +164,7 @@ told_no_right f t u n d cs h = (
 -- atoms
 atom_nil : (d : Disjunct) (cs : List Clause) (g : Ground) → IsGround d cs g → (s : Sym) (us : List Term) (r : Option ℕ) → FindsAtom g [] s us r → IsAtomFound g s us r
 unfolding FindsAtom
-atom_nil d cs g gr s us r h = subst (λ (ts : List Term). IsAtomFound g s ts r) (filled_all_nil us) (h d cs gr (nil_within g))
+atom_nil d cs g gr s us r h = subst (λ (ts : List Term). IsAtomFound g s ts r) (all-no_values us) (h d cs gr (nil_within g))
 
 pub told_signed : (f : FactTable) (positive : Bool) (s : Sym) (us : List Term) (k : ℕ) (b : Bool) → FindsAtom f.ground [] s us (Some k) → b ≡ signed_at f positive k → DecidesFact (table_view f) (Atom positive s us) b
 unfolding DecidesFact
@@ -185,7 +183,7 @@ told_no_atom f positive s us n d cs h = (
 -- equations that fail
 equation_nil : (d : Disjunct) (cs : List Clause) (g : Ground) → IsGround d cs g → (t u : Term) (r : Option ℕ) → FindsEquation g [] t u r → IsEquationFound g t u r
 unfolding FindsEquation
-equation_nil d cs g gr t u r h = subst (λ (v : Term). IsEquationFound g v u r) (filled_nil t) (subst (λ (v : Term). IsEquationFound g (filled [] t) v r) (filled_nil u) (h d cs gr (nil_within g)))
+equation_nil d cs g gr t u r h = subst (λ (v : Term). IsEquationFound g v u r) (substitute-no_values 0 t) (subst (λ (v : Term). IsEquationFound g (substitute 0 (value_at []) t) v r) (substitute-no_values 0 u) (h d cs gr (nil_within g)))
 
 pub told_disequal : (f : FactTable) (t u : Term) (k : ℕ) (b : Bool) → FindsEquation f.ground [] t u (Some k) → b ≡ flag_at f.disequal.items k → DecidesDisequal f t u b
 unfolding DecidesDisequal
@@ -210,14 +208,14 @@ told_first_disequal f t u false e a d cs h = absurd (false_not_true e)
 pub told_second_disequal : (f : FactTable) (t u : Term) (b c : Bool) → b ≡ false → DecidesDisequal f t u b → DecidesDisequal f u t c → DecidesFact (table_view f) (Eq false t u) c
 unfolding DecidesFact DecidesDisequal
 told_second_disequal f t u true c e a y d cs h = absurd (no_both refl e)
-told_second_disequal f t u false true e a y d cs h = let x = y d cs h.ground in (λ q. facts.turned u t ((disequal_fact d cs f h u t x.0 x.1 x.2).0 x.3), λ z. refl)
+told_second_disequal f t u false true e a y d cs h = let x = y d cs h.ground in (λ q. facts.reversed u t ((disequal_fact d cs f h u t x.0 x.1 x.2).0 x.3), λ z. refl)
 told_second_disequal f t u false false e a y d cs h = (
   λ q. absurd (false_not_true q),
   λ x.
       let p = fact_placed d cs f.ground h.ground (Eq false t u) x in
       elim p.2 [
         | inl q ↦ absurd (a d cs h.ground p.0 p.1 q ((disequal_fact d cs f h t u p.0 p.1 q).1 x))
-        | inr q ↦ absurd (y d cs h.ground p.0 p.1 q ((disequal_fact d cs f h u t p.0 p.1 q).1 (facts.turned t u x)))
+        | inr q ↦ absurd (y d cs h.ground p.0 p.1 q ((disequal_fact d cs f h u t p.0 p.1 q).1 (facts.reversed t u x)))
       ],
 )
 
@@ -247,7 +245,7 @@ no_clash d cs f h a q (facts.on_equation t u x y) =
     let p = fact_placed d cs f.ground h.ground (Eq false t u) y in
     elim p.2 [
       | inl r ↦ no_equation_clash d cs f h q p.0 p.1 t u r x y
-      | inr r ↦ no_equation_clash d cs f h q p.0 p.1 u t r (facts.exchanged t u x) (facts.turned t u y)
+      | inr r ↦ no_equation_clash d cs f h q p.0 p.1 u t r (facts.symmetric t u x) (facts.reversed t u y)
     ]
 
 pub told_equation_clash : (f : FactTable) (b c : Bool) → b ≡ false → AtomClash f b → EquationClash f c → DecidesContradiction (table_view f) c

@@ -4,8 +4,7 @@ use Rattle.std.specs.Prelude.{slice_get, Some, None, Option, Contains, All}
 use Rattle.std.proofs.lemmas.Option.{get_or_from_slice_get}
 use Rattle.mz_logic.specs.declared.sym.Sym.{Sym}
 use Rattle.mz_logic.specs.Term as term
-use Rattle.mz_logic.specs.Term.{Term, terms_of, list_of}
-use Rattle.mz_logic.specs.TermStorage.{list_of-terms_of}
+use Rattle.mz_logic.specs.Term.{Term, terms_of}
 use Rattle.mz_logic.specs.declared.literal.Literal.{Literal}
 use Rattle.mz_logic.specs.declared.literal.Literal.TheVariants.{Atom, Eq}
 use Rattle.mz_logic.specs.declared.disjunct.Disjunct.{Disjunct}
@@ -15,7 +14,7 @@ use Rattle.mz_ground.specs.Ground.{term_at, ground_terms, IsGround}
 use Rattle.mz_ground.specs.Facts as facts
 use Rattle.mz_ground.specs.Facts.{Fact, AreEqual, AreFacts}
 use Rattle.mz_ground.specs.declared.clause.Clause.{Clause}
-use Rattle.mz_ground.specs.declared.ground.Ground.{Ground}
+use Rattle.mz_ground.specs.declared.ground_part.Ground.{Ground}
 use Rattle.mz_ground.specs.declared.ground_equation.GroundEquation.{GroundEquation}
 use Rattle.mz_congruence.specs.declared.head.Head.{Head}
 use Rattle.mz_congruence.specs.declared.head.Head.TheVariants.{Constant, Function, Positive, Negative, Disequal, Yes}
@@ -55,12 +54,12 @@ MeansAll d cs g (i ∷ is) [] = ⊥
 MeansAll d cs g (i ∷ is) (j ∷ js) = Means d cs (key_at g i) (key_at g j) × MeansAll d cs g is js
 
 means_itself : (d : Disjunct) (cs : List Clause) (k : Key) → ((t : Term) → k ≡ OfTerm t → IsGroundTerm d cs t) → Means d cs k k
-means_itself d cs (OfTerm t) h = facts.itself t (h t refl)
+means_itself d cs (OfTerm t) h = facts.reflexive t (h t refl)
 means_itself d cs (OfLiteral l) h = (λ x. x, λ x. x)
 means_itself d cs OfTruth h = (λ x. x, λ x. x)
 
 means_exchanged : (d : Disjunct) (cs : List Clause) (k l : Key) → Means d cs k l → Means d cs l k
-means_exchanged d cs (OfTerm t) (OfTerm u) h = facts.exchanged t u h
+means_exchanged d cs (OfTerm t) (OfTerm u) h = facts.symmetric t u h
 means_exchanged d cs (OfTerm t) (OfLiteral m) h = h
 means_exchanged d cs (OfTerm t) OfTruth h = h
 means_exchanged d cs (OfLiteral l) (OfTerm u) h = h
@@ -103,7 +102,7 @@ chained_statement d cs k l m s h i =
     means_from d cs k m s c.0 (λ x. c.1.0 (a.1.0 x), λ x. a.1.1 (c.1.1 x))
 
 means_chained : (d : Disjunct) (cs : List Clause) (k l m : Key) → Means d cs k l → Means d cs l m → Means d cs k m
-means_chained d cs (OfTerm t) (OfTerm u) (OfTerm v) h i = facts.chained t u v h i
+means_chained d cs (OfTerm t) (OfTerm u) (OfTerm v) h i = facts.transitive t u v h i
 means_chained d cs (OfTerm t) (OfTerm u) (OfLiteral n) h i = absurd i
 means_chained d cs (OfTerm t) (OfTerm u) OfTruth h i = absurd i
 means_chained d cs (OfTerm t) (OfLiteral l) m h i = absurd h
@@ -124,24 +123,24 @@ equal_terms d cs g gr (i ∷ is) (j ∷ js) a b m =
 
 equal_exchanged : (d : Disjunct) (cs : List Clause) (ts us : List Term) → AreEqual d cs ts us → AreEqual d cs us ts
 equal_exchanged d cs ts us facts.no_terms = facts.no_terms
-equal_exchanged d cs ts us (facts.and_terms t u vs ws f es) = facts.and_terms u t ws vs (facts.exchanged t u f) (equal_exchanged d cs vs ws es)
+equal_exchanged d cs ts us (facts.and_terms t u vs ws f es) = facts.and_terms u t ws vs (facts.symmetric t u f) (equal_exchanged d cs vs ws es)
 
 alike_means : (d : Disjunct) (cs : List Clause) (g : Ground) → IsGround d cs g → (h : Head) (xs ys : List ℕ) → NodeStands d cs g (record { head = h; args = xs }) → NodeStands d cs g (record { head = h; args = ys }) → MeansAll d cs g xs ys → Means d cs (key (ground_terms g) h xs) (key (ground_terms g) h ys)
-alike_means d cs g gr (Constant number) xs ys a b m = facts.itself (term.Const number) (a.of_term (term.Const number) refl)
+alike_means d cs g gr (Constant number) xs ys a b m = facts.reflexive (term.Const number) (a.of_term (term.Const number) refl)
 alike_means d cs g gr (Function s) xs ys a b m =
     let ts : List Term = map (term_at (ground_terms g)) xs in
     let us : List Term = map (term_at (ground_terms g)) ys in
-    facts.alike s ts us (a.of_term (term.App s (terms_of ts)) refl) (b.of_term (term.App s (terms_of us)) refl) (equal_terms d cs g gr xs ys a.within b.within m)
+    facts.congruent s ts us (a.of_term (term.App s (terms_of ts)) refl) (b.of_term (term.App s (terms_of us)) refl) (equal_terms d cs g gr xs ys a.within b.within m)
 alike_means d cs g gr (Positive s) xs ys a b m =
     let ts : List Term = map (term_at (ground_terms g)) xs in
     let us : List Term = map (term_at (ground_terms g)) ys in
     let e : AreEqual d cs ts us = equal_terms d cs g gr xs ys a.within b.within m in
-    (λ f. facts.carried true s ts us f (b.of_atom true s us refl) e, λ f. facts.carried true s us ts f (a.of_atom true s ts refl) (equal_exchanged d cs ts us e))
+    (λ f. facts.atom_congruence true s ts us f (b.of_atom true s us refl) e, λ f. facts.atom_congruence true s us ts f (a.of_atom true s ts refl) (equal_exchanged d cs ts us e))
 alike_means d cs g gr (Negative s) xs ys a b m =
     let ts : List Term = map (term_at (ground_terms g)) xs in
     let us : List Term = map (term_at (ground_terms g)) ys in
     let e : AreEqual d cs ts us = equal_terms d cs g gr xs ys a.within b.within m in
-    (λ f. facts.carried false s ts us f (b.of_atom false s us refl) e, λ f. facts.carried false s us ts f (a.of_atom false s ts refl) (equal_exchanged d cs ts us e))
+    (λ f. facts.atom_congruence false s ts us f (b.of_atom false s us refl) e, λ f. facts.atom_congruence false s us ts f (a.of_atom false s ts refl) (equal_exchanged d cs ts us e))
 alike_means d cs g gr (Disequal e) xs ys a b m = (λ x. x, λ x. x)
 alike_means d cs g gr Yes xs ys a b m = (λ x. x, λ x. x)
 
@@ -222,7 +221,7 @@ rule_means d cs g gr r (of_exchange k n e f at bt p q) m =
     let u : Term = term_at (ground_terms g) e.right in
     let ke : key_at g (disequal_place g k) ≡ OfLiteral (Eq false t u) = disequal_key g k e at in
     let kf : key_at g (disequal_place g n) ≡ OfLiteral (Eq false u t) = disequal_key g n f bt ∙ (λ i. OfLiteral (Eq false (term_at (ground_terms g) (sym q i)) (term_at (ground_terms g) (sym p i)))) in
-    subst (λ (x : Key). Means d cs x (key_at g (disequal_place g n))) (sym ke) (subst (λ (y : Key). Means d cs (OfLiteral (Eq false t u)) y) (sym kf) (λ x. facts.turned t u x, λ x. facts.turned u t x))
+    subst (λ (x : Key). Means d cs x (key_at g (disequal_place g n))) (sym ke) (subst (λ (y : Key). Means d cs (OfLiteral (Eq false t u)) y) (sym kf) (λ x. facts.reversed t u x, λ x. facts.reversed u t x))
 rule_means d cs g gr r (of_instance c ts ps i j mem len trigger cps cp) m =
     fact_means d cs g gr (conclusion_at c ts) i j cp
     (facts.fired c ts mem len trigger (all_from d cs (premises_at c ts) (codes_all_ground d cs g gr (premises_at c ts) ps cps)) (codes_ground d cs g gr (conclusion_at c ts) i j cp) (means_facts d cs g gr (premises_at c ts) ps cps m))

@@ -4,7 +4,7 @@ use Rattle.std.specs.Prelude.{Contains, ◌↔◌}
 use Rattle.mz_logic.specs.declared.disjunct.Disjunct.{Disjunct}
 use Rattle.mz_ground.specs.Ground.{IsGround}
 use Rattle.mz_ground.specs.declared.clause.Clause.{Clause}
-use Rattle.mz_ground.specs.declared.ground.Ground.{Ground}
+use Rattle.mz_ground.specs.declared.ground_part.Ground.{Ground}
 use Rattle.mz_congruence.specs.declared.layout.Layout.{Layout}
 use Rattle.mz_congruence.specs.declared.node.Node.{Node}
 use Rattle.mz_congruence.specs.declared.rule.Rule.{Rule}

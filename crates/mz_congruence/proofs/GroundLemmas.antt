@@ -6,12 +6,12 @@ use Rattle.mz_logic.specs.declared.sym.Sym.{Sym}
 use Rattle.mz_logic.specs.Term as term
 use Rattle.mz_logic.specs.Term.{Term, terms_of}
 use Rattle.mz_logic.specs.declared.disjunct.Disjunct.{Disjunct}
-use Rattle.mz_ground.specs.Piece.{Piece, AtomPiece, EquationPiece}
-use Rattle.mz_ground.specs.Layers.{further_layers, IsGroundPiece, IsGroundTerm, IsGroundAtom}
-use Rattle.mz_ground.specs.Ground.{term_or_zero, term_at, term_of_entry, terms_after, ground_terms, atom_piece, equation_piece, ground_atoms, ground_equations, end_of, IsGround}
+use Rattle.mz_ground.specs.GroundExpression.{GroundExpression, AtomExpression, EquationExpression}
+use Rattle.mz_ground.specs.Layers.{further_layers, IsGroundExpression, IsGroundTerm, IsGroundAtom}
+use Rattle.mz_ground.specs.Ground.{term_or_zero, term_at, term_of_entry, terms_after, ground_terms, atom_expression, equation_expression, ground_atoms, ground_equations, end_of, IsGround}
 use Rattle.mz_ground.specs.declared.layer_end.LayerEnd.{LayerEnd}
 use Rattle.mz_ground.specs.declared.clause.Clause.{Clause}
-use Rattle.mz_ground.specs.declared.ground.Ground.{Ground}
+use Rattle.mz_ground.specs.declared.ground_part.Ground.{Ground}
 use Rattle.mz_ground.specs.declared.ground_term.GroundTerm.{GroundTerm}
 use Rattle.mz_ground.specs.declared.ground_term.GroundTerm.TheVariants.{Const, App}
 use Rattle.mz_ground.specs.declared.ground_atom.GroundAtom.{GroundAtom}
@@ -85,19 +85,19 @@ all_terms d cs g gr t =
     let all : take (end_of g further_layers).terms (ground_terms g) ≡ ground_terms g = take_all (end_of g further_layers).terms (ground_terms g) (omega (arith, n, terms_length g)) in
     subst (λ (ts : List Term). Contains ts t ↔ IsGroundTerm d cs t) all (gr.terms further_layers t (omega arith))
 
-pub all_atoms : (d : Disjunct) (cs : List Clause) (g : Ground) → IsGround d cs g → (s : Sym) (ts : List Term) → Contains (ground_atoms g) (AtomPiece s ts) ↔ IsGroundAtom d cs s ts
+pub all_atoms : (d : Disjunct) (cs : List Clause) (g : Ground) → IsGround d cs g → (s : Sym) (ts : List Term) → Contains (ground_atoms g) (AtomExpression s ts) ↔ IsGroundAtom d cs s ts
 all_atoms d cs g gr s ts =
     let n : (end_of g further_layers).atoms ≡ length g.atoms = ap (λ (e : LayerEnd). e.atoms) gr.all in
-    let m : length (ground_atoms g) ≡ length g.atoms = length-map g.atoms (atom_piece (ground_terms g)) in
+    let m : length (ground_atoms g) ≡ length g.atoms = length-map g.atoms (atom_expression (ground_terms g)) in
     let all : take (end_of g further_layers).atoms (ground_atoms g) ≡ ground_atoms g = take_all (end_of g further_layers).atoms (ground_atoms g) (omega (arith, n, m)) in
-    subst (λ (ps : List Piece). Contains ps (AtomPiece s ts) ↔ IsGroundAtom d cs s ts) all (gr.atoms further_layers s ts (omega arith))
+    subst (λ (ps : List GroundExpression). Contains ps (AtomExpression s ts) ↔ IsGroundAtom d cs s ts) all (gr.atoms further_layers s ts (omega arith))
 
-pub all_equations : (d : Disjunct) (cs : List Clause) (g : Ground) → IsGround d cs g → (t u : Term) → Contains (ground_equations g) (EquationPiece t u) ↔ IsGroundPiece d cs (EquationPiece t u)
+pub all_equations : (d : Disjunct) (cs : List Clause) (g : Ground) → IsGround d cs g → (t u : Term) → Contains (ground_equations g) (EquationExpression t u) ↔ IsGroundExpression d cs (EquationExpression t u)
 all_equations d cs g gr t u =
     let n : (end_of g further_layers).equations ≡ length g.equations = ap (λ (e : LayerEnd). e.equations) gr.all in
-    let m : length (ground_equations g) ≡ length g.equations = length-map g.equations (equation_piece (ground_terms g)) in
+    let m : length (ground_equations g) ≡ length g.equations = length-map g.equations (equation_expression (ground_terms g)) in
     let all : take (end_of g further_layers).equations (ground_equations g) ≡ ground_equations g = take_all (end_of g further_layers).equations (ground_equations g) (omega (arith, n, m)) in
-    subst (λ (ps : List Piece). Contains ps (EquationPiece t u) ↔ IsGroundPiece d cs (EquationPiece t u)) all (gr.equations further_layers t u (omega arith))
+    subst (λ (ps : List GroundExpression). Contains ps (EquationExpression t u) ↔ IsGroundExpression d cs (EquationExpression t u)) all (gr.equations further_layers t u (omega arith))
 
 -- terms
 pub term_found : (g : Ground) (i : ℕ) → i < length g.terms → slice_get (ground_terms g) i ≡ Some (term_at (ground_terms g) i)
@@ -120,45 +120,45 @@ term_unique d cs g gr i j t p q =
 -- atoms
 pub atom_ground : (d : Disjunct) (cs : List Clause) (g : Ground) → IsGround d cs g → (k : ℕ) (a : GroundAtom) → slice_get g.atoms k ≡ Some a → IsGroundAtom d cs a.sym (map (term_at (ground_terms g)) a.args)
 atom_ground d cs g gr k a at =
-    (all_atoms d cs g gr a.sym (map (term_at (ground_terms g)) a.args)).0 (get_contains (ground_atoms g) k (atom_piece (ground_terms g) a) (get_map (atom_piece (ground_terms g)) g.atoms k a at))
+    (all_atoms d cs g gr a.sym (map (term_at (ground_terms g)) a.args)).0 (get_contains (ground_atoms g) k (atom_expression (ground_terms g) a) (get_map (atom_expression (ground_terms g)) g.atoms k a at))
 
-atom_parts : {s r : Sym} {ts us : List Term} → AtomPiece s ts ≡ AtomPiece r us → (s ≡ r) × (ts ≡ us)
+atom_parts : {s r : Sym} {ts us : List Term} → AtomExpression s ts ≡ AtomExpression r us → (s ≡ r) × (ts ≡ us)
 atom_parts e = (cc, cc)
 
 pub atom_found : (d : Disjunct) (cs : List Clause) (g : Ground) → IsGround d cs g → (s : Sym) (ts : List Term) → IsGroundAtom d cs s ts → (k : ℕ) × IsAtomPlace g k s ts
 atom_found d cs g gr s ts h =
-    let p = contains_get (ground_atoms g) (AtomPiece s ts) ((all_atoms d cs g gr s ts).1 h) in
-    let q = get_unmap (atom_piece (ground_terms g)) g.atoms p.0 (AtomPiece s ts) p.2 in
+    let p = contains_get (ground_atoms g) (AtomExpression s ts) ((all_atoms d cs g gr s ts).1 h) in
+    let q = get_unmap (atom_expression (ground_terms g)) g.atoms p.0 (AtomExpression s ts) p.2 in
     let e = atom_parts q.2 in
     (p.0, (q.0, q.1, e.0, e.1))
 
 pub atom_unique : (d : Disjunct) (cs : List Clause) (g : Ground) → IsGround d cs g → (k m : ℕ) (s : Sym) (ts : List Term) → IsAtomPlace g k s ts → IsAtomPlace g m s ts → k ≡ m
 atom_unique d cs g gr k m s ts p q =
-    let at : (n : ℕ) → IsAtomPlace g n s ts → slice_get (ground_atoms g) n ≡ Some (AtomPiece s ts)
-    = λ n h. get_map (atom_piece (ground_terms g)) g.atoms n h.0 h.1 ∙ (λ i. Some (AtomPiece (h.2 i) (h.3 i))) in
-    place_unique (ground_atoms g) gr.distinct_atoms k m (AtomPiece s ts) (at k p) (at m q)
+    let at : (n : ℕ) → IsAtomPlace g n s ts → slice_get (ground_atoms g) n ≡ Some (AtomExpression s ts)
+    = λ n h. get_map (atom_expression (ground_terms g)) g.atoms n h.0 h.1 ∙ (λ i. Some (AtomExpression (h.2 i) (h.3 i))) in
+    place_unique (ground_atoms g) gr.distinct_atoms k m (AtomExpression s ts) (at k p) (at m q)
 
 -- equations
-pub equation_ground : (d : Disjunct) (cs : List Clause) (g : Ground) → IsGround d cs g → (k : ℕ) (e : GroundEquation) (t u : Term) → IsEquationPlace g k e t u → IsGroundPiece d cs (EquationPiece t u)
+pub equation_ground : (d : Disjunct) (cs : List Clause) (g : Ground) → IsGround d cs g → (k : ℕ) (e : GroundEquation) (t u : Term) → IsEquationPlace g k e t u → IsGroundExpression d cs (EquationExpression t u)
 equation_ground d cs g gr k e t u h =
-    let at : slice_get (ground_equations g) k ≡ Some (EquationPiece t u) = get_map (equation_piece (ground_terms g)) g.equations k e h.0 ∙ (λ i. Some (EquationPiece (h.1 i) (h.2 i))) in
-    (all_equations d cs g gr t u).0 (get_contains (ground_equations g) k (EquationPiece t u) at)
+    let at : slice_get (ground_equations g) k ≡ Some (EquationExpression t u) = get_map (equation_expression (ground_terms g)) g.equations k e h.0 ∙ (λ i. Some (EquationExpression (h.1 i) (h.2 i))) in
+    (all_equations d cs g gr t u).0 (get_contains (ground_equations g) k (EquationExpression t u) at)
 
-equation_parts : {t u v w : Term} → EquationPiece t u ≡ EquationPiece v w → (t ≡ v) × (u ≡ w)
+equation_parts : {t u v w : Term} → EquationExpression t u ≡ EquationExpression v w → (t ≡ v) × (u ≡ w)
 equation_parts e = (cc, cc)
 
-pub equation_found : (d : Disjunct) (cs : List Clause) (g : Ground) → IsGround d cs g → (t u : Term) → IsGroundPiece d cs (EquationPiece t u) → (k : ℕ) × (e : GroundEquation) × IsEquationPlace g k e t u
+pub equation_found : (d : Disjunct) (cs : List Clause) (g : Ground) → IsGround d cs g → (t u : Term) → IsGroundExpression d cs (EquationExpression t u) → (k : ℕ) × (e : GroundEquation) × IsEquationPlace g k e t u
 equation_found d cs g gr t u h =
-    let p = contains_get (ground_equations g) (EquationPiece t u) ((all_equations d cs g gr t u).1 h) in
-    let q = get_unmap (equation_piece (ground_terms g)) g.equations p.0 (EquationPiece t u) p.2 in
+    let p = contains_get (ground_equations g) (EquationExpression t u) ((all_equations d cs g gr t u).1 h) in
+    let q = get_unmap (equation_expression (ground_terms g)) g.equations p.0 (EquationExpression t u) p.2 in
     let e = equation_parts q.2 in
     (p.0, q.0, (q.1, e.0, e.1))
 
 pub equation_unique : (d : Disjunct) (cs : List Clause) (g : Ground) → IsGround d cs g → (k m : ℕ) (e f : GroundEquation) (t u : Term) → IsEquationPlace g k e t u → IsEquationPlace g m f t u → k ≡ m
 equation_unique d cs g gr k m e f t u p q =
-    let at : (n : ℕ) (e : GroundEquation) → IsEquationPlace g n e t u → slice_get (ground_equations g) n ≡ Some (EquationPiece t u)
-    = λ n e h. get_map (equation_piece (ground_terms g)) g.equations n e h.0 ∙ (λ i. Some (EquationPiece (h.1 i) (h.2 i))) in
-    place_unique (ground_equations g) gr.distinct_equations k m (EquationPiece t u) (at k e p) (at m f q)
+    let at : (n : ℕ) (e : GroundEquation) → IsEquationPlace g n e t u → slice_get (ground_equations g) n ≡ Some (EquationExpression t u)
+    = λ n e h. get_map (equation_expression (ground_terms g)) g.equations n e h.0 ∙ (λ i. Some (EquationExpression (h.1 i) (h.2 i))) in
+    place_unique (ground_equations g) gr.distinct_equations k m (EquationExpression t u) (at k e p) (at m f q)
 
 pub equation_within : (d : Disjunct) (cs : List Clause) (g : Ground) → IsGround d cs g → (k : ℕ) (e : GroundEquation) → slice_get g.equations k ≡ Some e → (e.left < length g.terms) × (e.right < length g.terms)
 equation_within d cs g gr k e at = gr.equations_within e (get_contains g.equations k e at)

@@ -6,12 +6,10 @@ pub mod GroundLemmas
 pub mod NodeLemmas
 pub mod FactLemmas
 pub mod UpLemmas
-pub mod StandLemmas
+pub mod InstanceAtLemmas
 pub mod LookupLemmas
 pub mod DecideLemmas
 pub mod PairLemmas
-pub mod ValueLemmas
-pub mod MatchingLemmas
 pub mod RuleLemmas
 pub mod PlaceLemmas
 pub mod GraphLemmas

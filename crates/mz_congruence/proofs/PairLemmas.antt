@@ -7,11 +7,10 @@ use Rattle.mz_logic.specs.Term.{Term}
 use Rattle.mz_logic.specs.declared.literal.Literal.{Literal}
 use Rattle.mz_logic.specs.declared.literal.Literal.TheVariants.{Atom, Eq}
 use Rattle.mz_logic.specs.declared.disjunct.Disjunct.{Disjunct}
-use Rattle.mz_ground.specs.Instance.{literal_filled}
+use Rattle.mz_ground.specs.Instance.{literal_at}
 use Rattle.mz_ground.specs.Ground.{IsGround}
 use Rattle.mz_ground.specs.declared.clause.Clause.{Clause}
-use Rattle.mz_ground.specs.declared.ground.Ground.{Ground}
-use Rattle.mz_ground.specs.declared.ground_atom.GroundAtom.{GroundAtom}
+use Rattle.mz_ground.specs.declared.ground_part.Ground.{Ground}
 use Rattle.mz_ground.specs.declared.ground_equation.GroundEquation.{GroundEquation}
 use Rattle.mz_congruence.specs.declared.pair.Pair.{Pair}
 use Rattle.mz_congruence.specs.Nodes.{atom_place, disequal_place, yes_place}
@@ -84,13 +83,13 @@ pairs_nil g args d cs gr w = tt
 pub pairs_more : (g : Ground) (args : List ℕ) (ls : List Literal) (ps qs : List Pair) (k : ℕ) (l : Literal) (p : Pair) → PairsOf g args (take k ls) (Some ps) → slice_get ls k ≡ Some l → PairOf g args l (Some p) → qs ≡ ps ++ p ∷ [] → PairsOf g args (take (k + 1) ls) (Some qs)
 unfolding PairOf PairsOf
 pairs_more g args ls ps qs k l p a at c e d cs gr w =
-    let f : Literal → Literal = literal_filled (terms_at g args) in
+    let f : Literal → Literal = literal_at (terms_at g args) in
     rw (add-one, e, map_take_more f ls k l at) (codes_push g (map f (take k ls)) ps (f l) p (a d cs gr w) (c d cs gr w))
 
 pub pairs_none : (g : Ground) (args : List ℕ) (ls : List Literal) (k : ℕ) (l : Literal) → slice_get ls k ≡ Some l → PairOf g args l None → PairsOf g args ls None
 unfolding PairOf PairsOf
 pairs_none g args ls k l at n d cs gr w = λ ps c.
-    let f : Literal → Literal = literal_filled (terms_at g args) in
+    let f : Literal → Literal = literal_at (terms_at g args) in
     let p = codes_get g (map f ls) ps k (f l) c (map_get f ls k l at) in
     n d cs gr w p.0 p.1 p.2
 

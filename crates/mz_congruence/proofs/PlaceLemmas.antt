@@ -1,28 +1,22 @@
 -- The rules of a clause at the places where its head stands are all of its rules.
-use Rattle.std.proofs.Common.{◌≡◌, ◌<◌, ◌≤◌, ◌+◌, ℕ, List, [], ◌∷◌, ◌++◌, length, map, take, get_or, refl, ap, sym, ◌∙◌, subst, arith, inl, inr, ◌⊎◌}
-use Rattle.std.specs.Prelude.{slice_get, Some, Contains}
+use Rattle.std.proofs.Common.{◌≡◌, ◌<◌, ◌≤◌, ◌+◌, ℕ, List, [], ◌∷◌, ◌++◌, length, take, get_or, ap, sym, ◌∙◌, subst, arith, inl, inr}
+use Rattle.std.specs.Prelude.{Contains}
 use Rattle.std.proofs.lemmas.List.{take_more, take_all}
 use Rattle.std.proofs.lemmas.List.Elements.{Contains-append_left, Contains-push, Contains-push_cases, Contains-get_or}
-use Rattle.mz_logic.specs.Term.{Term}
-use Rattle.mz_logic.specs.declared.disjunct.Disjunct.{Disjunct}
-use Rattle.mz_ground.specs.Piece.{Piece, TermPiece}
-use Rattle.mz_ground.specs.Instance.{filled, trigger_filled}
-use Rattle.mz_ground.specs.Ground.{term_at, ground_terms, atom_piece, IsGround}
-use Rattle.mz_ground.specs.Growth.{IsNumbered}
 use Rattle.mz_ground.specs.Heads.{AreTriggerPlaces, candidates}
-use Rattle.mz_ground.specs.Instances.{piece_or_zero, piece_at, place_like, IsBetween, IsEndIn, IsSpan}
+use Rattle.mz_ground.specs.Instances.{place_like, IsBetween, IsEndIn, IsSpan}
 use Rattle.mz_ground.specs.Making.{no_layer, whole_end}
 use Rattle.mz_ground.specs.declared.clause.Clause.{Clause}
 use Rattle.mz_ground.specs.declared.trigger.Trigger.{Trigger}
 use Rattle.mz_ground.specs.declared.trigger.Trigger.TheVariants as trigger
-use Rattle.mz_ground.specs.declared.ground.Ground.{Ground}
+use Rattle.mz_ground.specs.declared.ground_part.Ground.{Ground}
 use Rattle.mz_ground.specs.declared.layer_end.LayerEnd.{LayerEnd}
 use Rattle.mz_ground.specs.declared.trigger_places.TriggerPlaces.{TriggerPlaces}
 use Rattle.mz_ground.proofs.HeadLemmas.{candidates_only, candidates_listed}
 use Rattle.mz_ground.proofs.LayerLemmas.{numbered_from_ground}
-use Rattle.mz_ground.proofs.ListLemmas.{contains_none, get_map}
+use Rattle.mz_ground.proofs.ListLemmas.{contains_none}
 use Rattle.mz_congruence.specs.declared.rule.Rule.{Rule}
-use Rattle.mz_congruence.specs.Pairing.{Adds, AddsRules, AreWholePlaces, Among, Below, IsPieceAt, IsPlaceRule, places_for}
+use Rattle.mz_congruence.specs.Pairing.{Adds, AddsRules, AreWholePlaces, Among, Below, IsPlaceRule, places_for}
 use Rattle.mz_congruence.proofs.RuleLemmas.{adds_none, adds_iff}
 
 -- one place after another
@@ -79,18 +73,13 @@ whole_in g x h = record {
   equations = omega (arith, ap (λ (e : LayerEnd). e.equations) h.end);
 }
 
-piece_like : (g : Ground) (r : Trigger) (k : ℕ) (p : Piece) → IsPieceAt g r k p → p ≡ piece_at g (place_like r k)
-piece_like g (trigger.Term t) k p h = h.1
-piece_like g (trigger.Atom s us) k p h = h.2 ∙ sym (ap piece_or_zero (get_map (atom_piece (ground_terms g)) g.atoms k h.0 h.1))
-
 pub told_candidates : (g : Ground) (x : TriggerPlaces) (c : Clause) (ks : List ℕ) (xs ys : List Rule) → AreWholePlaces g x → ks ≡ candidates x c.trigger → AddsRules g (Among (IsPlaceRule g c) ks) xs ys → AddsRules g (Below (IsPlaceRule g c) (places_for g c.trigger)) xs ys
 unfolding AddsRules
 told_candidates g x c ks xs ys h e a d cs gr =
     adds_iff (Among (IsPlaceRule g c) ks) (Below (IsPlaceRule g c) (places_for g c.trigger)) xs ys
     (λ r q. (q.0, whole_between g x h c.trigger q.0 (candidates_only g x h.places c.trigger q.0 (subst (λ (js : List ℕ). Contains js q.0) e q.1)), q.2))
     (λ r q.
-    let there : trigger_filled q.2.1 c.trigger ≡ piece_at g (place_like c.trigger q.0) = q.2.4 ∙ piece_like g c.trigger q.0 q.2.0 q.2.2 in
-    (q.0, subst (λ (js : List ℕ). Contains js q.0) (sym e) (candidates_listed g x (numbered_from_ground d cs g gr) (whole_in g x h) h.places q.2.1 c.trigger q.0 (between_whole g x h c.trigger q.0 q.1) there), q.2))
+    (q.0, subst (λ (js : List ℕ). Contains js q.0) (sym e) (candidates_listed g x (numbered_from_ground d cs g gr) (whole_in g x h) h.places q.2.0 c.trigger q.0 (between_whole g x h c.trigger q.0 q.1) q.2.2), q.2))
     (a d cs gr)
 
 pub candidate_place : (g : Ground) (x : TriggerPlaces) (c : Clause) (ks : List ℕ) → AreWholePlaces g x → ks ≡ candidates x c.trigger → (k : ℕ) → Contains ks k → k < places_for g c.trigger

@@ -1,34 +1,41 @@
 -- The rules that are put together are exactly those of the ground part.
 use Rattle.std.proofs.Common.{◌≡◌, ◌<◌, ◌≤◌, ◌+◌, ℕ, zero, suc, List, [], ◌∷◌, ◌++◌, length, map, refl, ap, sym, ◌∙◌, subst, arith, inl, inr, ◌⊎◌}
-use Rattle.std.specs.Prelude.{slice_get, Some, None, Option, MatchOption, Contains, ◌↔◌}
+use Rattle.std.specs.Prelude.{slice_get, slice_index_or, Some, None, Option, MatchOption, Contains, ◌↔◌}
 use Rattle.mz_congruence.proofs.SignatureLemmas.{equation_equal}
-use Rattle.std.proofs.lemmas.Option.{slice_get_within}
+use Rattle.std.proofs.lemmas.Option.{slice_get_within, slice_get_read}
 use Rattle.std.proofs.lemmas.Bool.Decides.{eqb_tells}
 use Rattle.std.proofs.lemmas.List.{length-map}
 use Rattle.mz_logic.specs.Term.{Term}
 use Rattle.mz_logic.specs.declared.literal.Literal.{Literal}
 use Rattle.mz_logic.specs.declared.literal.Literal.TheVariants.{Atom, Eq}
 use Rattle.mz_logic.specs.declared.disjunct.Disjunct.{Disjunct}
-use Rattle.mz_ground.specs.Piece.{Piece, TermPiece, AtomPiece}
-use Rattle.mz_ground.specs.Layers.{IsGroundPiece}
-use Rattle.mz_ground.specs.Instance.{filled, literal_filled, trigger_filled, premises_at, conclusion_at}
-use Rattle.mz_ground.specs.Ground.{term_at, ground_terms, atom_piece, IsGround}
+use Rattle.mz_logic.proofs.ValueLaws.{substitute-no_values}
+use Rattle.mz_ground.specs.GroundExpression.{GroundExpression, TermExpression, AtomExpression}
+use Rattle.mz_ground.specs.Layers.{IsGroundExpression}
+use Rattle.mz_logic.specs.Substitution.{substitute, value_at}
+use Rattle.mz_ground.specs.Instance.{literal_at, trigger_at, premises_at, conclusion_at}
+use Rattle.mz_ground.specs.Ground.{term_at, ground_terms, atom_expression, IsGround}
+use Rattle.mz_ground.specs.Growth.{IsNumbered}
+use Rattle.mz_ground.specs.Instances.{expression_or_zero, expression_at, place_like, IsExpressionPlace, IsMatch}
 use Rattle.mz_ground.specs.declared.clause.Clause.{Clause}
 use Rattle.mz_ground.specs.declared.trigger.Trigger.{Trigger}
 use Rattle.mz_ground.specs.declared.trigger.Trigger.TheVariants as trigger
-use Rattle.mz_ground.specs.declared.ground.Ground.{Ground}
+use Rattle.mz_ground.specs.declared.ground_part.Ground.{Ground}
+use Rattle.mz_ground.specs.declared.ground_atom.GroundAtom.{GroundAtom}
 use Rattle.mz_ground.specs.declared.ground_equation.GroundEquation.{GroundEquation}
+use Rattle.mz_ground.specs.declared.expression_place.ExpressionPlace.{ExpressionPlace}
+use Rattle.mz_ground.specs.declared.expression_place.ExpressionPlace.TheVariants as place
+use Rattle.mz_ground.proofs.LayerLemmas.{numbered_from_ground}
 use Rattle.mz_congruence.specs.declared.pair.Pair.{Pair}
 use Rattle.mz_congruence.specs.declared.rule.Rule.{Rule}
 use Rattle.mz_congruence.specs.Nodes.{disequal_place}
 use Rattle.mz_congruence.specs.Codes.{Codes, rule_of, IsRule, of_literal, of_exchange, of_instance}
-use Rattle.mz_congruence.specs.Pairing.{terms_at, PairOf, PairsOf, Adds, AddsRules, AddsInstance, Below, IsLiteralRule, IsExchangeRule, IsInstanceRule, IsPieceAt, IsPlaceRule, IsClauseRule, Matched, places_for}
+use Rattle.mz_congruence.specs.Pairing.{terms_at, PairOf, PairsOf, Adds, AddsRules, AddsInstance, Below, IsLiteralRule, IsExchangeRule, IsInstanceRule, IsPlaceRule, IsClauseRule, places_for}
 use Rattle.mz_congruence.proofs.RootLemmas.{cases_lt}
-use Rattle.mz_congruence.proofs.ListLemmas.{some_same, none_some, get_left, get_right, get_some, get_contains, contains_get, not_contains_nil}
+use Rattle.mz_congruence.proofs.ListLemmas.{some_same, none_some, get_left, get_right, get_some, get_map, get_contains, contains_get, not_contains_nil}
 use Rattle.mz_congruence.proofs.GroundLemmas.{term_ground, term_place, atom_ground, atom_found, equation_unique}
 use Rattle.mz_congruence.proofs.PairLemmas.{codes_unique, codes_all_unique}
-use Rattle.mz_congruence.proofs.LookupLemmas.{filled_all_nil, nil_within}
-use Rattle.mz_congruence.proofs.StandLemmas.{filled_nil}
+use Rattle.mz_congruence.proofs.LookupLemmas.{all-no_values, nil_within}
 
 -- a rule at the end of a list
 push_old : (xs : List Rule) (y r : Rule) → Contains xs r → Contains (xs ++ y ∷ []) r
@@ -107,9 +114,9 @@ pub adds_end : (g : Ground) (Q : ℕ → Rule → Type 0) (k n : ℕ) (xs ys : L
 adds_end g Q k n xs ys e a = subst (λ (m : ℕ). AddsRules g (Below Q m) xs ys) (sym e) a
 
 -- the rule of a literal
-literal_nil : (l : Literal) → literal_filled [] l ≡ l
-literal_nil (Atom positive s us) = ap (λ vs. Atom positive s vs) (filled_all_nil us)
-literal_nil (Eq positive t u) = λ i. Eq positive (filled_nil t i) (filled_nil u i)
+literal_nil : (l : Literal) → literal_at [] l ≡ l
+literal_nil (Atom positive s us) = ap (λ vs. Atom positive s vs) (all-no_values us)
+literal_nil (Eq positive t u) = λ i. Eq positive (substitute-no_values 0 t i) (substitute-no_values 0 u i)
 
 rule_same : (ps qs : List Pair) (i j i' j' : ℕ) → ps ≡ qs → i ≡ i' → j ≡ j' → rule_of ps i j ≡ rule_of qs i' j'
 rule_same ps qs i j i' j' e f g = λ t. rule_of (e t) (f t) (g t)
@@ -131,7 +138,7 @@ unfolding PairOf AddsRules
 told_no_literal g ls k l xs at n d cs gr =
     adds_none (IsLiteralRule g ls k) xs (λ r q.
     let same : q.0 ≡ l = some_same (sym q.3 ∙ at) in
-    let other : Codes g (literal_filled [] l) q.1 q.2 = subst (λ (m : Literal). Codes g m q.1 q.2) (same ∙ sym (literal_nil l)) q.4 in
+    let other : Codes g (literal_at [] l) q.1 q.2 = subst (λ (m : Literal). Codes g m q.1 q.2) (same ∙ sym (literal_nil l)) q.4 in
     n d cs gr (nil_within g) q.1 q.2 other)
 
 -- the rule of an exchange
@@ -179,33 +186,25 @@ unfolding PairOf AddsInstance
 told_no_conclusion g args c xs n d cs gr w = adds_none (IsInstanceRule g c (terms_at g args)) xs (λ r h. n d cs gr w h.1 h.2 h.4)
 
 -- the rule at a place
-piece_same : (g : Ground) (t : Trigger) (k : ℕ) (p q : Piece) → IsPieceAt g t k p → IsPieceAt g t k q → p ≡ q
-piece_same g (trigger.Term t) k p q a b = a.1 ∙ sym b.1
-piece_same g (trigger.Atom s us) k p q a b =
-    let e : a.0 ≡ b.0 = some_same (sym a.1 ∙ b.1) in
-    a.2 ∙ ap (atom_piece (ground_terms g)) e ∙ sym b.2
-
-piece_there : (g : Ground) (t : Trigger) (k : ℕ) → k < places_for g t → (p : Piece) × IsPieceAt g t k p
-piece_there g (trigger.Term t) k lt = (TermPiece (term_at (ground_terms g) k), (lt, refl))
-piece_there g (trigger.Atom s us) k lt = let x = get_some g.atoms k lt in (atom_piece (ground_terms g) x.0, (x.0, x.1, refl))
-
-pub told_place : (g : Ground) (c : Clause) (k : ℕ) (args : List ℕ) (xs ys : List Rule) → k < places_for g c.trigger → Matched g c k (Some args) → AddsInstance g args c xs ys → AddsRules g (IsPlaceRule g c k) xs ys
-unfolding Matched AddsInstance AddsRules
-told_place g c k args xs ys lt m a d cs gr =
-    let there = piece_there g c.trigger k lt in
-    let h = m d cs gr there.0 there.1 in
+pub told_place : (g : Ground) (c : Clause) (k : ℕ) (at : ExpressionPlace) (args : List ℕ) (xs ys : List Rule) → at ≡ place_like c.trigger k → IsMatch g c (expression_at g at) (Some args) → AddsInstance g args c xs ys → AddsRules g (IsPlaceRule g c k) xs ys
+unfolding AddsInstance AddsRules
+told_place g c k at args xs ys e m a d cs gr =
     let ts : List Term = terms_at g args in
-    let len : length ts ≡ c.variables = length-map args (term_at (ground_terms g)) ∙ h.1 in
+    let len : length ts ≡ c.variables = length-map args (term_at (ground_terms g)) ∙ m.arity in
     adds_iff (IsInstanceRule g c ts) (IsPlaceRule g c k) xs ys
-    (λ r i. (there.0, ts, there.1, len, h.2 there.0 there.1, i))
-    (λ r q. subst (λ (us : List Term). IsInstanceRule g c us r) (h.3 q.0 q.1 q.2 q.3 q.4) q.5)
-    (a d cs gr h.0)
+    (λ r i. (ts, len, m.instance ∙ ap (expression_at g) e, i))
+    (λ r q. subst (λ (us : List Term). IsInstanceRule g c us r) (m.only q.0 q.1 (q.2 ∙ ap (expression_at g) (sym e))) q.3)
+    (a d cs gr m.within)
 
-pub told_no_place : (g : Ground) (c : Clause) (k : ℕ) (xs : List Rule) → Matched g c k None → AddsRules g (IsPlaceRule g c k) xs xs
-unfolding Matched AddsRules
-told_no_place g c k xs m d cs gr = adds_none (IsPlaceRule g c k) xs (λ r q. m d cs gr q.0 q.2 q.0 q.1 q.2 q.3 q.4)
+pub told_no_place : (g : Ground) (c : Clause) (k : ℕ) (at : ExpressionPlace) (xs : List Rule) → at ≡ place_like c.trigger k → IsMatch g c (expression_at g at) None → AddsRules g (IsPlaceRule g c k) xs xs
+unfolding AddsRules
+told_no_place g c k at xs e m d cs gr = adds_none (IsPlaceRule g c k) xs (λ r q. m q.0 q.1 (q.2 ∙ ap (expression_at g) (sym e)))
 
-pub told_clause : (g : Ground) (all : List Clause) (k : ℕ) (c : Clause) (xs ys : List Rule) → slice_get all k ≡ Some c → AddsRules g (Below (IsPlaceRule g c) (places_for g c.trigger)) xs ys → AddsRules g (IsClauseRule g all k) xs ys
+pub place_there : (g : Ground) (t : Trigger) (k : ℕ) (at : ExpressionPlace) → at ≡ place_like t k → k < places_for g t → IsExpressionPlace g at
+place_there g (trigger.Term t) k at e lt = subst (λ (x : ExpressionPlace). IsExpressionPlace g x) (sym e) lt
+place_there g (trigger.Atom s us) k at e lt = subst (λ (x : ExpressionPlace). IsExpressionPlace g x) (sym e) lt
+
+told_clause : (g : Ground) (all : List Clause) (k : ℕ) (c : Clause) (xs ys : List Rule) → slice_get all k ≡ Some c → AddsRules g (Below (IsPlaceRule g c) (places_for g c.trigger)) xs ys → AddsRules g (IsClauseRule g all k) xs ys
 unfolding AddsRules
 told_clause g all k c xs ys at a d cs gr =
     adds_iff (Below (IsPlaceRule g c) (places_for g c.trigger)) (IsClauseRule g all k) xs ys
@@ -213,18 +212,26 @@ told_clause g all k c xs ys at a d cs gr =
     (λ r q. subst (λ (x : Clause). Below (IsPlaceRule g x) (places_for g x.trigger) r) (some_same (sym q.1 ∙ at)) q.2)
     (a d cs gr)
 
--- all rules
-piece_ground : (d : Disjunct) (cs : List Clause) (g : Ground) → IsGround d cs g → (t : Trigger) (k : ℕ) (p : Piece) → IsPieceAt g t k p → IsGroundPiece d cs p
-piece_ground d cs g gr (trigger.Term t) k p h = subst (λ (q : Piece). IsGroundPiece d cs q) (sym h.1) (term_ground d cs g gr k h.0)
-piece_ground d cs g gr (trigger.Atom s us) k p h = subst (λ (q : Piece). IsGroundPiece d cs q) (sym h.2) (atom_ground d cs g gr k h.0 h.1)
+pub told_clause_at : (g : Ground) (all : List Clause) (k : ℕ) (c : Clause) (xs ys : List Rule) → k < length all → c ≡ slice_index_or all k c → AddsRules g (Below (IsPlaceRule g c) (places_for g c.trigger)) xs ys → AddsRules g (IsClauseRule g all k) xs ys
+told_clause_at g all k c xs ys lt e a = told_clause g all k c xs ys (slice_get_read all (length all) k c refl lt e) a
 
-piece_found : (d : Disjunct) (cs : List Clause) (g : Ground) → IsGround d cs g → (ts : List Term) (t : Trigger) → IsGroundPiece d cs (trigger_filled ts t) → (k : ℕ) × (k < places_for g t) × IsPieceAt g t k (trigger_filled ts t)
-piece_found d cs g gr ts (trigger.Term t) h =
-    let p = term_place d cs g gr (filled ts t) h in
-    (p.0, p.1.0, (p.1.0, ap TermPiece (sym p.1.1)))
-piece_found d cs g gr ts (trigger.Atom s us) h =
-    let p = atom_found d cs g gr s (map (filled ts) us) h in
-    (p.0, slice_get_within g.atoms p.0 p.1.0 p.1.1, (p.1.0, p.1.1, λ i. AtomPiece (sym p.1.2 i) (sym p.1.3 i)))
+-- all rules
+atom_there : (g : Ground) (k : ℕ) (a : GroundAtom) → slice_get g.atoms k ≡ Some a → expression_at g (place.Atom k) ≡ atom_expression (ground_terms g) a
+atom_there g k a e = ap expression_or_zero (get_map (atom_expression (ground_terms g)) g.atoms k a e)
+
+expression_ground : (d : Disjunct) (cs : List Clause) (g : Ground) → IsGround d cs g → (t : Trigger) (k : ℕ) → k < places_for g t → IsGroundExpression d cs (expression_at g (place_like t k))
+expression_ground d cs g gr (trigger.Term t) k lt = term_ground d cs g gr k lt
+expression_ground d cs g gr (trigger.Atom s us) k lt =
+    let a = get_some g.atoms k lt in
+    subst (λ (q : GroundExpression). IsGroundExpression d cs q) (sym (atom_there g k a.0 a.1)) (atom_ground d cs g gr k a.0 a.1)
+
+expression_found : (d : Disjunct) (cs : List Clause) (g : Ground) → IsGround d cs g → (ts : List Term) (t : Trigger) → IsGroundExpression d cs (trigger_at ts t) → (k : ℕ) × (k < places_for g t) × (trigger_at ts t ≡ expression_at g (place_like t k))
+expression_found d cs g gr ts (trigger.Term t) h =
+    let p = term_place d cs g gr (substitute 0 (value_at ts) t) h in
+    (p.0, p.1.0, ap TermExpression (sym p.1.1))
+expression_found d cs g gr ts (trigger.Atom s us) h =
+    let p = atom_found d cs g gr s (map (substitute 0 (value_at ts)) us) h in
+    (p.0, slice_get_within g.atoms p.0 p.1.0 p.1.1, (λ i. AtomExpression (sym p.1.2 i) (sym p.1.3 i)) ∙ sym (atom_there g p.0 p.1.0 p.1.1))
 
 rules_sound : (d : Disjunct) (cs : List Clause) (g : Ground) → IsGround d cs g → (xs ys zs : List Rule) → Adds (Below (IsLiteralRule g d.literals) (length d.literals)) [] xs → Adds (Below (IsExchangeRule g) (length g.equations)) xs ys → Adds (Below (IsClauseRule g cs) (length cs)) ys zs → (r : Rule) → Contains zs r → IsRule d cs g r
 rules_sound d cs g gr xs ys zs a b c r m =
@@ -243,10 +250,10 @@ rules_sound d cs g gr xs ys zs a b c r m =
       | inr q ↦
           let e : Clause = q.2.0 in
           let h = q.2.2.2 in
-          let ts : List Term = h.1 in
-          let i = h.5 in
-          let ground : IsGroundPiece d cs (trigger_filled ts e.trigger) = subst (λ (p : Piece). IsGroundPiece d cs p) (sym h.4) (piece_ground d cs g gr e.trigger q.2.2.0 h.0 h.2) in
-          subst (λ (x : Rule). IsRule d cs g x) (sym i.5) (of_instance e ts i.0 i.1 i.2 (get_contains cs q.0 e q.2.1) h.3 ground i.3 i.4)
+          let ts : List Term = h.0 in
+          let i = h.3 in
+          let ground : IsGroundExpression d cs (trigger_at ts e.trigger) = subst (λ (p : GroundExpression). IsGroundExpression d cs p) (sym h.2) (expression_ground d cs g gr e.trigger q.2.2.0 q.2.2.1) in
+          subst (λ (x : Rule). IsRule d cs g x) (sym i.5) (of_instance e ts i.0 i.1 i.2 (get_contains cs q.0 e q.2.1) h.1 ground i.3 i.4)
     ]
 
 rules_complete : (d : Disjunct) (cs : List Clause) (g : Ground) → IsGround d cs g → (xs ys zs : List Rule) → Adds (Below (IsLiteralRule g d.literals) (length d.literals)) [] xs → Adds (Below (IsExchangeRule g) (length g.equations)) xs ys → Adds (Below (IsClauseRule g cs) (length cs)) ys zs → (r : Rule) → IsRule d cs g r → Contains zs r
@@ -257,8 +264,8 @@ rules_complete d cs g gr xs ys zs a b c r (of_exchange k m e f at bt p q) =
     c.kept (rule_of [] (disequal_place g k) (disequal_place g m)) (b.added (rule_of [] (disequal_place g k) (disequal_place g m)) (k, slice_get_within g.equations k e at, (e, m, f, at, bt, p, q, refl)))
 rules_complete d cs g gr xs ys zs a b c r (of_instance e ts ps i j mem len trig cps cp) =
     let p = contains_get cs e mem in
-    let q = piece_found d cs g gr ts e.trigger trig in
-    c.added (rule_of ps i j) (p.0, p.1, (e, p.2, (q.0, q.1, (trigger_filled ts e.trigger, ts, q.2, len, refl, (ps, i, j, cps, cp, refl)))))
+    let q = expression_found d cs g gr ts e.trigger trig in
+    c.added (rule_of ps i j) (p.0, p.1, (e, p.2, (q.0, q.1, (ts, len, q.2, (ps, i, j, cps, cp, refl)))))
 
 pub told_rules : (d : Disjunct) (cs : List Clause) (g : Ground) (xs ys zs : List Rule) → IsGround d cs g → AddsRules g (Below (IsLiteralRule g d.literals) (length d.literals)) [] xs → AddsRules g (Below (IsExchangeRule g) (length g.equations)) xs ys → AddsRules g (Below (IsClauseRule g cs) (length cs)) ys zs → (r : Rule) → Contains zs r ↔ IsRule d cs g r
 unfolding AddsRules
@@ -272,7 +279,10 @@ pub ruleset exchange_rules = (told_exchange, told_no_exchange)
 
 pub ruleset instance_rules = (told_instance, told_no_premises, told_no_conclusion)
 
-pub ruleset place_rules = (told_place, told_no_place)
+pub ground_numbered : (d : Disjunct) (cs : List Clause) (g : Ground) → IsGround d cs g → IsNumbered g
+ground_numbered d cs g gr = numbered_from_ground d cs g gr
+
+pub ruleset place_rules = (told_place, told_no_place, place_there)
 
 -- the place of an equation with its sides exchanged
 pub reversed_found : (es : List GroundEquation) (e : GroundEquation) (r : Option ℕ) → MatchOption r ((k : ℕ) → slice_get es k ≡ Some (record { left = e.right; right = e.left }) → ⊥) (λ k. slice_get es k ≡ Some (record { left = e.right; right = e.left })) → MatchOption r ((m : ℕ) (f : GroundEquation) → slice_get es m ≡ Some f → e.left ≡ f.right → e.right ≡ f.left → ⊥) (λ m. (f : GroundEquation) × (slice_get es m ≡ Some f) × (e.left ≡ f.right) × (e.right ≡ f.left))
@@ -280,3 +290,5 @@ reversed_found es e None h = λ m f at l r. h m (at ∙ ap Some (equation_equal 
 reversed_found es e (Some k) h = (record { left = e.right; right = e.left }, h, refl, refl)
 
 pub ruleset reversed_rules = (reversed_found)
+
+pub ruleset all_rules = (told_rules, ground_numbered)

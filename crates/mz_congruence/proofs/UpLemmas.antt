@@ -17,7 +17,7 @@ use Rattle.mz_ground.specs.Ground.{term_at, term_of_entry, ground_terms, IsGroun
 use Rattle.mz_ground.specs.Facts as facts
 use Rattle.mz_ground.specs.Facts.{Fact, AreEqual, AreFacts}
 use Rattle.mz_ground.specs.declared.clause.Clause.{Clause}
-use Rattle.mz_ground.specs.declared.ground.Ground.{Ground}
+use Rattle.mz_ground.specs.declared.ground_part.Ground.{Ground}
 use Rattle.mz_ground.specs.declared.ground_term.GroundTerm.{GroundTerm}
 use Rattle.mz_ground.specs.declared.ground_term.GroundTerm.TheVariants.{Const, App}
 use Rattle.mz_ground.specs.declared.ground_atom.GroundAtom.{GroundAtom}
@@ -157,18 +157,18 @@ mutual
   up d cs g gr graph h l (facts.given m mem gm) =
       let p = codes_found d cs g gr m gm in
       record { left = p.0; right = p.1; at = codes_at d cs g gr m p.0 p.1 p.2; equal = rule_equal graph p.0 p.1 (h.complete (rule_of [] p.0 p.1) (of_literal m p.0 p.1 mem p.2)) }
-  up d cs g gr graph h l (facts.itself t gt) =
+  up d cs g gr graph h l (facts.reflexive t gt) =
       let p = term_place d cs g gr t gt in
       record { left = p.0; right = p.0; at = (p.1, p.1); equal = nodes.reflexive p.0 }
-  up d cs g gr graph h l (facts.exchanged t u f) =
+  up d cs g gr graph h l (facts.symmetric t u f) =
       let r = up d cs g gr graph h (Eq true t u) f in
       record { left = r.right; right = r.left; at = (r.at.1, r.at.0); equal = nodes.symmetric r.left r.right r.equal }
-  up d cs g gr graph h l (facts.chained t u v f e) =
+  up d cs g gr graph h l (facts.transitive t u v f e) =
       let r = up d cs g gr graph h (Eq true t u) f in
       let q = up d cs g gr graph h (Eq true u v) e in
       let one : r.right ≡ q.left = term_unique d cs g gr r.right q.left u r.at.1 q.at.0 in
       record { left = r.left; right = q.right; at = (r.at.0, q.at.1); equal = nodes.transitive r.left q.left q.right (subst (λ (k : ℕ). Equal graph r.left k) one r.equal) q.equal }
-  up d cs g gr graph h l (facts.alike s ts us gt gu es) =
+  up d cs g gr graph h l (facts.congruent s ts us gt gu es) =
       let p = term_place d cs g gr (term.App s (terms_of ts)) gt in
       let q = term_place d cs g gr (term.App s (terms_of us)) gu in
       let x = app_place d cs g gr p.0 s ts p.1 in
@@ -180,7 +180,7 @@ mutual
         at = (p.1, q.1);
         equal = nodes.congruent p.0 q.0 (record { head = Function s; args = x.0 }) (record { head = Function s; args = y.0 }) (graph_get d cs g graph h p.0 (record { head = Function s; args = x.0 }) (term_node_at g p.0 (App s x.0) x.1)) (graph_get d cs g graph h q.0 (record { head = Function s; args = y.0 }) (term_node_at g q.0 (App s y.0) y.1)) refl fs;
       }
-  up d cs g gr graph h l (facts.carried positive s ts us f gu es) =
+  up d cs g gr graph h l (facts.atom_congruence positive s ts us f gu es) =
       let r = up d cs g gr graph h (Atom positive s ts) f in
       let q = atom_found d cs g gr s us gu in
       let a : GroundAtom = r.at.1.0 in
@@ -196,7 +196,7 @@ mutual
         at = (q.0, q.1, refl, r.at.3);
         equal = nodes.transitive j i r.right (nodes.symmetric i j one) (nodes.transitive i r.left r.right (same_equal graph i r.left (sym r.at.2)) r.equal);
       }
-  up d cs g gr graph h l (facts.turned t u f) =
+  up d cs g gr graph h l (facts.reversed t u f) =
       let r = up d cs g gr graph h (Eq false t u) f in
       record { left = r.left; right = r.right; at = (r.at.0, r.at.1, elim r.at.2 [ inl x ↦ inr x | inr x ↦ inl x ], r.at.3, r.at.4); equal = r.equal }
   up d cs g gr graph h l (facts.fired c ts mem len trigger gps gp fs) =

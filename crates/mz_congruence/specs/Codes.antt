@@ -6,10 +6,10 @@ use Rattle.mz_logic.specs.declared.literal.Literal.{Literal}
 use Rattle.mz_logic.specs.declared.literal.Literal.TheVariants.{Atom, Eq}
 use Rattle.mz_logic.specs.declared.disjunct.Disjunct.{Disjunct}
 use Rattle.mz_ground.specs.Ground.{term_at, ground_terms}
-use Rattle.mz_ground.specs.Instance.{trigger_filled, premises_at, conclusion_at}
-use Rattle.mz_ground.specs.Layers.{IsGroundPiece}
+use Rattle.mz_ground.specs.Instance.{trigger_at, premises_at, conclusion_at}
+use Rattle.mz_ground.specs.Layers.{IsGroundExpression}
 use Rattle.mz_ground.specs.declared.clause.Clause.{Clause}
-use Rattle.mz_ground.specs.declared.ground.Ground.{Ground}
+use Rattle.mz_ground.specs.declared.ground_part.Ground.{Ground}
 use Rattle.mz_ground.specs.declared.ground_atom.GroundAtom.{GroundAtom}
 use Rattle.mz_ground.specs.declared.ground_equation.GroundEquation.{GroundEquation}
 use Rattle.mz_congruence.specs.Nodes.{nodes_of, atom_place, disequal_place, yes_place}
@@ -49,7 +49,7 @@ rule_of ps i j = record { premises = ps; conclusion = record { left = i; right =
 pub data IsRule (d : Disjunct) (cs : List Clause) (g : Ground) : Rule → Type 0 where
   of_literal : (l : Literal) (i j : ℕ) → Contains d.literals l → Codes g l i j → IsRule d cs g (rule_of [] i j)
   of_exchange : (k m : ℕ) (e f : GroundEquation) → slice_get g.equations k ≡ Some e → slice_get g.equations m ≡ Some f → e.left ≡ f.right → e.right ≡ f.left → IsRule d cs g (rule_of [] (disequal_place g k) (disequal_place g m))
-  of_instance : (c : Clause) (ts : List Term) (ps : List Pair) (i j : ℕ) → Contains cs c → length ts ≡ c.variables → IsGroundPiece d cs (trigger_filled ts c.trigger) → CodesAll g (premises_at c ts) ps → Codes g (conclusion_at c ts) i j → IsRule d cs g (rule_of ps i j)
+  of_instance : (c : Clause) (ts : List Term) (ps : List Pair) (i j : ℕ) → Contains cs c → length ts ≡ c.variables → IsGroundExpression d cs (trigger_at ts c.trigger) → CodesAll g (premises_at c ts) ps → Codes g (conclusion_at c ts) i j → IsRule d cs g (rule_of ps i j)
 
 -- the graph has the nodes of the ground part, and exactly these rules
 pub record IsGraph (d : Disjunct) (cs : List Clause) (g : Ground) (graph : Graph) : Type 0 where

@@ -4,7 +4,7 @@ use Rattle.mz_logic.specs.declared.disjunct.Disjunct.{Disjunct}
 use Rattle.mz_ground.specs.Ground.{IsGround}
 use Rattle.mz_ground.specs.FactSet.{HasFacts}
 use Rattle.mz_ground.specs.declared.clause.Clause.{Clause}
-use Rattle.mz_ground.specs.declared.ground.Ground.{Ground}
+use Rattle.mz_ground.specs.declared.ground_part.Ground.{Ground}
 use Rattle.mz_congruence.specs.declared.ground_graph.GroundGraph.{GroundGraph}
 use Rattle.mz_congruence.specs.declared.fact_table.FactTable.{FactTable}
 use Rattle.mz_congruence.specs.Layout.{IsLayout}

@@ -4,8 +4,7 @@ pub mod Congruence
 pub mod Closing
 pub mod Nodes
 pub mod Codes
-pub mod Stands
-pub mod Values
+pub mod InstanceAt
 pub mod Layout
 pub mod Pairing
 pub mod Lookup

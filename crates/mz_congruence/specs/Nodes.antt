@@ -6,7 +6,7 @@ use Rattle.mz_logic.specs.Term.{Term, terms_of}
 use Rattle.mz_logic.specs.declared.literal.Literal.{Literal}
 use Rattle.mz_logic.specs.declared.literal.Literal.TheVariants.{Atom, Eq}
 use Rattle.mz_ground.specs.Ground.{term_at, ground_terms}
-use Rattle.mz_ground.specs.declared.ground.Ground.{Ground}
+use Rattle.mz_ground.specs.declared.ground_part.Ground.{Ground}
 use Rattle.mz_ground.specs.declared.ground_term.GroundTerm.{GroundTerm}
 use Rattle.mz_ground.specs.declared.ground_term.GroundTerm.TheVariants.{Const, App}
 use Rattle.mz_ground.specs.declared.ground_atom.GroundAtom.{GroundAtom}

@@ -4,7 +4,7 @@ use Rattle.mz_logic.specs.Term.{Term}
 use Rattle.mz_logic.specs.declared.disjunct.Disjunct.{Disjunct}
 use Rattle.mz_ground.specs.Ground.{IsGround}
 use Rattle.mz_ground.specs.declared.clause.Clause.{Clause}
-use Rattle.mz_ground.specs.declared.ground.Ground.{Ground}
+use Rattle.mz_ground.specs.declared.ground_part.Ground.{Ground}
 use Rattle.mz_ground.specs.declared.ground_equation.GroundEquation.{GroundEquation}
 use Rattle.mz_congruence.specs.declared.fact_table.FactTable.{FactTable}
 use Rattle.mz_congruence.specs.Nodes.{atom_place, disequal_place, yes_place}

@@ -3,16 +3,15 @@ use Rattle.std.specs.Prelude.{◌≡◌, ◌<◌, ◌⊎◌, ℕ, List, [], map,
 use Rattle.mz_logic.specs.Term.{Term}
 use Rattle.mz_logic.specs.declared.literal.Literal.{Literal}
 use Rattle.mz_logic.specs.declared.disjunct.Disjunct.{Disjunct}
-use Rattle.mz_ground.specs.Piece.{Piece, TermPiece}
-use Rattle.mz_ground.specs.Ground.{term_at, ground_terms, atom_piece, IsGround}
-use Rattle.mz_ground.specs.Instance.{literal_filled, trigger_filled, premises_at, conclusion_at}
+use Rattle.mz_ground.specs.Ground.{term_at, ground_terms, IsGround}
+use Rattle.mz_ground.specs.Instance.{literal_at, trigger_at, premises_at, conclusion_at}
 use Rattle.mz_ground.specs.Heads.{AreTriggerPlaces}
+use Rattle.mz_ground.specs.Instances.{expression_at, place_like}
 use Rattle.mz_ground.specs.Making.{no_layer, whole_end}
 use Rattle.mz_ground.specs.declared.clause.Clause.{Clause}
 use Rattle.mz_ground.specs.declared.trigger.Trigger.{Trigger}
 use Rattle.mz_ground.specs.declared.trigger.Trigger.TheVariants as trigger
-use Rattle.mz_ground.specs.declared.ground.Ground.{Ground}
-use Rattle.mz_ground.specs.declared.ground_atom.GroundAtom.{GroundAtom}
+use Rattle.mz_ground.specs.declared.ground_part.Ground.{Ground}
 use Rattle.mz_ground.specs.declared.ground_equation.GroundEquation.{GroundEquation}
 use Rattle.mz_ground.specs.declared.trigger_places.TriggerPlaces.{TriggerPlaces}
 use Rattle.mz_congruence.specs.declared.pair.Pair.{Pair}
@@ -38,10 +37,10 @@ ArePairsOf g ls None = (ps : List Pair) → CodesAll g ls ps → ⊥
 ArePairsOf g ls (Some ps) = CodesAll g ls ps
 
 unfoldable pub PairOf : Ground → List ℕ → Literal → Option Pair → Type 0
-PairOf g args l r = (d : Disjunct) (cs : List Clause) → IsGround d cs g → AllWithin g args → IsPairOf g (literal_filled (terms_at g args) l) r
+PairOf g args l r = (d : Disjunct) (cs : List Clause) → IsGround d cs g → AllWithin g args → IsPairOf g (literal_at (terms_at g args) l) r
 
 unfoldable pub PairsOf : Ground → List ℕ → List Literal → Option (List Pair) → Type 0
-PairsOf g args ls r = (d : Disjunct) (cs : List Clause) → IsGround d cs g → AllWithin g args → ArePairsOf g (map (literal_filled (terms_at g args)) ls) r
+PairsOf g args ls r = (d : Disjunct) (cs : List Clause) → IsGround d cs g → AllWithin g args → ArePairsOf g (map (literal_at (terms_at g args)) ls) r
 
 -- the new list has the old rules and those that meet P, and no others
 pub record Adds (P : Rule → Type 0) (old new : List Rule) : Type 0 where
@@ -75,14 +74,9 @@ IsExchangeRule g k r = (e : GroundEquation) × (m : ℕ) × (f : GroundEquation)
 abbrev pub IsInstanceRule : Ground → Clause → List Term → Rule → Type 0
 IsInstanceRule g c ts r = (ps : List Pair) × (i : ℕ) × (j : ℕ) × CodesAll g (premises_at c ts) ps × Codes g (conclusion_at c ts) i j × (r ≡ rule_of ps i j)
 
--- the ground term or atom at the place, as the trigger wants it
-abbrev pub IsPieceAt : Ground → Trigger → ℕ → Piece → Type 0
-IsPieceAt g (trigger.Term t) k p = (k < length g.terms) × (p ≡ TermPiece (term_at (ground_terms g) k))
-IsPieceAt g (trigger.Atom s ts) k p = (a : GroundAtom) × (slice_get g.atoms k ≡ Some a) × (p ≡ atom_piece (ground_terms g) a)
-
 -- the rule of the clause at terms whose trigger is the ground term or atom at the place
 abbrev pub IsPlaceRule : Ground → Clause → ℕ → Rule → Type 0
-IsPlaceRule g c k r = (p : Piece) × (ts : List Term) × IsPieceAt g c.trigger k p × (length ts ≡ c.variables) × (trigger_filled ts c.trigger ≡ p) × IsInstanceRule g c ts r
+IsPlaceRule g c k r = (ts : List Term) × (length ts ≡ c.variables) × (trigger_at ts c.trigger ≡ expression_at g (place_like c.trigger k)) × IsInstanceRule g c ts r
 
 -- how many ground terms or atoms a trigger may be
 abbrev pub places_for : Ground → Trigger → ℕ
@@ -99,11 +93,3 @@ AddsRules g P old new = (d : Disjunct) (cs : List Clause) → IsGround d cs g �
 
 unfoldable pub AddsInstance : Ground → List ℕ → Clause → List Rule → List Rule → Type 0
 AddsInstance g args c old new = (d : Disjunct) (cs : List Clause) → IsGround d cs g → AllWithin g args → Adds (IsInstanceRule g c (terms_at g args)) old new
-
--- the places of the terms at which the trigger is the ground term or atom at a place; there are none where it is not at any terms
-abbrev pub IsMatch : Ground → Clause → ℕ → Option (List ℕ) → Type 0
-IsMatch g c k None = (p : Piece) (ts : List Term) → IsPieceAt g c.trigger k p → length ts ≡ c.variables → trigger_filled ts c.trigger ≡ p → ⊥
-IsMatch g c k (Some args) = AllWithin g args × (length args ≡ c.variables) × ((p : Piece) → IsPieceAt g c.trigger k p → trigger_filled (terms_at g args) c.trigger ≡ p) × ((p : Piece) (ts : List Term) → IsPieceAt g c.trigger k p → length ts ≡ c.variables → trigger_filled ts c.trigger ≡ p → ts ≡ terms_at g args)
-
-unfoldable pub Matched : Ground → Clause → ℕ → Option (List ℕ) → Type 0
-Matched g c k r = (d : Disjunct) (cs : List Clause) → IsGround d cs g → (p : Piece) → IsPieceAt g c.trigger k p → IsMatch g c k r

@@ -12,7 +12,7 @@ use crate::ground_graph::GroundGraph;
 use crate::layout::Layout;
 use crate::lookup::{atom_place, equation_place, term_place};
 use mz_ground::fact_set::FactSet;
-use mz_ground::ground::Ground;
+use mz_ground::ground_part::Ground;
 use mz_logic::literal::Literal;
 use mz_logic::term::Term;
 use std::alloc::{AllocError, Global};

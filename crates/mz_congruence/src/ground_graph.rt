@@ -7,8 +7,8 @@ use crate::graph::Graph;
 use crate::layout::Layout;
 use crate::numbering::{Numbering, numbered};
 use crate::rules_of::rules_of;
-use mz_ground::clauses::Clauses;
-use mz_ground::ground::Ground;
+use mz_ground::clause::Clause;
+use mz_ground::ground_part::Ground;
 use mz_logic::disjunct::Disjunct;
 use std::alloc::{AllocError, Global};
 
@@ -24,7 +24,7 @@ pub fn graph_of(
     alloc: Global,
     g: &Ground,
     d: &Disjunct,
-    clauses: &Clauses,
+    clauses: &[Clause],
 ) -> Result<GroundGraph, AllocError>
     requires { IsGround d.now clauses.now g.now }
     ensures { IfOk result (λ r. IsGroundGraph d.now clauses.now g.now r) }

@@ -9,7 +9,6 @@ pub mod ground_graph;
 pub mod head;
 pub mod layout;
 mod lookup;
-mod matching;
 pub mod node;
 pub mod nodes;
 mod numbering;

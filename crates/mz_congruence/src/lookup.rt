@@ -2,14 +2,14 @@
 ghost use Rattle.std.specs.Prelude.{◌≡◌, ◌<◌, ℕ, true, false, length, slice_get, None, Some, MatchOption, IfSome, IsTrue};
 ghost use Rattle.mz_ground.specs.declared.ground_atom.GroundAtom.{GroundAtom};
 ghost use Rattle.mz_congruence.specs.Lookup.{FindsTerm, FindsHash, FindsAtom, FindsEquation, IsHashedTerm, IsHashedAtom};
-ghost use Rattle.mz_congruence.specs.Stands.{stands, each_stands, atom_stands};
+ghost use Rattle.mz_congruence.specs.InstanceAt.{is_instance_at, are_instances_at, is_atom_instance};
 
-use mz_ground::ground::Ground;
 use mz_ground::ground_atom::GroundAtom;
 use mz_ground::ground_equation::GroundEquation;
+use mz_ground::ground_part::Ground;
 use mz_ground::ground_term::GroundTerm;
 use mz_ground::ground_terms::GroundTerms;
-use mz_ground::hash_places::{mixed, sym_mixed};
+use mz_ground::hash_places::{hash_with, hash_with_symbol};
 use mz_logic::sym::Sym;
 use mz_logic::term::{Term, TermNode, Terms};
 
@@ -26,10 +26,10 @@ pub fn entry_at<'a>(terms: &'a GroundTerms, place: usize) -> Option<&'a GroundTe
 }
 
 /// Whether `t` stands at the place, where the terms at the places `args` stand for its indices from 0 on.
-#[cycle(stands)]
-#[tactic(auto, using(crate::proofs::StandLemmas::stand_rules))]
-pub fn stands(terms: &GroundTerms, args: &[usize], t: &Term, place: usize) -> bool
-    ensures { result ≡ stands terms.now args.now t.now place }
+#[cycle(instance)]
+#[tactic(auto, using(crate::proofs::InstanceAtLemmas::instance_at_rules))]
+pub fn is_instance_at(terms: &GroundTerms, args: &[usize], t: &Term, place: usize) -> bool
+    ensures { result ≡ is_instance_at terms.now args.now t.now place }
 {
     match &t.node {
         TermNode::Bound(n) => match args.get(*n as usize) {
@@ -43,7 +43,7 @@ pub fn stands(terms: &GroundTerms, args: &[usize], t: &Term, place: usize) -> bo
         TermNode::App(r, us) => match entry_at(terms, place) {
             Some(entry) => match entry {
                 GroundTerm::App { sym, args: places } => {
-                    r.is(*sym) && each_stands(terms, args, us, places.as_slice())
+                    r.is(*sym) && are_instances_at(terms, args, us, places.as_slice())
                 }
                 GroundTerm::Const(_) => false,
             },
@@ -53,16 +53,16 @@ pub fn stands(terms: &GroundTerms, args: &[usize], t: &Term, place: usize) -> bo
 }
 
 /// Whether the terms stand at the places one by one.
-#[cycle(stands)]
-#[tactic(auto, using(crate::proofs::StandLemmas::each_rules))]
-pub fn each_stands(terms: &GroundTerms, args: &[usize], us: &Terms, places: &[usize]) -> bool
-    ensures { result ≡ each_stands terms.now args.now us.now places.now }
+#[cycle(instance)]
+#[tactic(auto, using(crate::proofs::InstanceAtLemmas::each_rules))]
+pub fn are_instances_at(terms: &GroundTerms, args: &[usize], us: &Terms, places: &[usize]) -> bool
+    ensures { result ≡ are_instances_at terms.now args.now us.now places.now }
 {
     if us.items.len() != places.len() {
         return false;
     }
     for i in 0..places.len() {
-        if !stands(terms, args, &us.items[i], places[i]) {
+        if !is_instance_at(terms, args, &us.items[i], places[i]) {
             return false;
         }
     }
@@ -77,8 +77,8 @@ pub fn term_place(g: &Ground, args: &[usize], t: &Term) -> Option<usize>
 {
     match &t.node {
         TermNode::Bound(n) => place_for(args, *n),
-        TermNode::Const(m) => hashed_term(g, args, t, mixed(0, u64::from(*m))),
-        TermNode::App(s, us) => match args_hash(g, args, us, sym_mixed(1, *s)) {
+        TermNode::Const(m) => hashed_term(g, args, t, hash_with(0, u64::from(*m))),
+        TermNode::App(s, us) => match args_hash(g, args, us, hash_with_symbol(1, *s)) {
             Some(hash) => hashed_term(g, args, t, hash),
             None => None,
         },
@@ -94,7 +94,7 @@ fn args_hash(g: &Ground, args: &[usize], us: &Terms, start: u64) -> Option<u64>
     let mut hash = start;
     for i in 0..us.items.len() {
         match term_place(g, args, &us.items[i]) {
-            Some(place) => hash = mixed(hash, place as u64),
+            Some(place) => hash = hash_with(hash, place as u64),
             None => return None,
         }
     }
@@ -108,9 +108,9 @@ fn place_for(args: &[usize], n: u32) -> Option<usize>
 }
 
 fn is_term_at(g: &Ground, args: &[usize], t: &Term, place: usize) -> bool
-    ensures { IsTrue result → (place < length g.now.terms) × (stands g.now.terms args.now t.now place ≡ true) }
+    ensures { IsTrue result → (place < length g.now.terms) × (is_instance_at g.now.terms args.now t.now place ≡ true) }
 {
-    place < g.terms.len() && stands(&g.terms, args, t, place)
+    place < g.terms.len() && is_instance_at(&g.terms, args, t, place)
 }
 
 // A place where the term stands, by its hash: another entry with the hash may stand in its stead, and then it is
@@ -132,10 +132,10 @@ fn hashed_term(g: &Ground, args: &[usize], t: &Term, hash: u64) -> Option<usize>
 }
 
 fn first_term(terms: &GroundTerms, args: &[usize], t: &Term) -> Option<usize>
-    ensures { MatchOption result ((k : ℕ) → k < length terms.now → stands terms.now args.now t.now k ≡ false) (λ k. (k < length terms.now) × (stands terms.now args.now t.now k ≡ true)) }
+    ensures { MatchOption result ((k : ℕ) → k < length terms.now → is_instance_at terms.now args.now t.now k ≡ false) (λ k. (k < length terms.now) × (is_instance_at terms.now args.now t.now k ≡ true)) }
 {
     for i in 0..terms.len() {
-        if stands(terms, args, t, i) {
+        if is_instance_at(terms, args, t, i) {
             return Some(i);
         }
     }
@@ -144,13 +144,13 @@ fn first_term(terms: &GroundTerms, args: &[usize], t: &Term) -> Option<usize>
 
 /// Whether the entry is the atom.
 pub fn is_atom(terms: &GroundTerms, args: &[usize], sym: Sym, us: &Terms, a: &GroundAtom) -> bool
-    ensures { result ≡ atom_stands terms.now args.now sym us.now a.now }
+    ensures { result ≡ is_atom_instance terms.now args.now sym us.now a.now }
 {
-    a.sym.is(sym) && each_stands(terms, args, us, a.args.as_slice())
+    a.sym.is(sym) && are_instances_at(terms, args, us, a.args.as_slice())
 }
 
 fn is_atom_at(g: &Ground, args: &[usize], sym: Sym, us: &Terms, place: usize) -> bool
-    ensures { IsTrue result → (a : GroundAtom) × (slice_get g.now.atoms place ≡ Some a) × (atom_stands g.now.terms args.now sym us.now a ≡ true) }
+    ensures { IsTrue result → (a : GroundAtom) × (slice_get g.now.atoms place ≡ Some a) × (is_atom_instance g.now.terms args.now sym us.now a ≡ true) }
 {
     place < g.atoms.len() && is_atom(&g.terms, args, sym, us, g.atoms.get(place))
 }
@@ -178,14 +178,14 @@ pub fn atom_place(g: &Ground, args: &[usize], sym: Sym, us: &Terms) -> Option<us
     ensures found { FindsAtom g.now args.now sym us.now result }
     ensures within { IfSome result (λ k. k < length g.now.atoms) }
 {
-    match args_hash(g, args, us, sym_mixed(0, sym)) {
+    match args_hash(g, args, us, hash_with_symbol(0, sym)) {
         Some(hash) => hashed_atom(g, args, sym, us, hash),
         None => None,
     }
 }
 
 fn first_atom(g: &Ground, args: &[usize], sym: Sym, us: &Terms) -> Option<usize>
-    ensures { MatchOption result ((k : ℕ) (a : GroundAtom) → slice_get g.now.atoms k ≡ Some a → atom_stands g.now.terms args.now sym us.now a ≡ false) (λ k. (a : GroundAtom) × (slice_get g.now.atoms k ≡ Some a) × (atom_stands g.now.terms args.now sym us.now a ≡ true)) }
+    ensures { MatchOption result ((k : ℕ) (a : GroundAtom) → slice_get g.now.atoms k ≡ Some a → is_atom_instance g.now.terms args.now sym us.now a ≡ false) (λ k. (a : GroundAtom) × (slice_get g.now.atoms k ≡ Some a) × (is_atom_instance g.now.terms args.now sym us.now a ≡ true)) }
 {
     for k in 0..g.atoms.len() {
         if is_atom(&g.terms, args, sym, us, g.atoms.get(k)) {

@@ -9,7 +9,7 @@ use crate::layout::Layout;
 use crate::lookup::{atom_place, equation_place};
 use crate::pair::Pair;
 use crate::pairs::Pairs;
-use mz_ground::ground::Ground;
+use mz_ground::ground_part::Ground;
 use mz_logic::literal::Literal;
 use mz_logic::literals::Literals;
 use mz_logic::sym::Sym;

@@ -1,6 +1,7 @@
 //! The rules over the nodes of a ground part.
 ghost use Rattle.std.specs.Prelude.{◌≡◌, ◌<◌, ◌↔◌, ℕ, [], length, slice_get, Some, Contains, MatchOption, IfOk, OnOk};
 ghost use Rattle.mz_ground.specs.Ground.{IsGround};
+ghost use Rattle.mz_ground.specs.Growth.{IsNumbered};
 ghost use Rattle.mz_ground.specs.declared.ground_equation.GroundEquation.{GroundEquation};
 ghost use Rattle.mz_congruence.specs.declared.rule.Rule.{Rule};
 ghost use Rattle.mz_congruence.specs.Codes.{IsRule};
@@ -8,16 +9,15 @@ ghost use Rattle.mz_congruence.specs.Layout.{IsLayout};
 ghost use Rattle.mz_congruence.specs.Pairing.{AddsRules, AddsInstance, AreWholePlaces, Among, Below, IsLiteralRule, IsExchangeRule, IsPlaceRule, IsClauseRule, places_for};
 
 use crate::layout::Layout;
-use crate::matching::matched;
 use crate::pair::Pair;
 use crate::pairing::{disequal_number, pair_of, pairs_of};
 use crate::pairs::Pairs;
 use crate::rule::Rule;
 use crate::rules::Rules;
 use mz_ground::clause::Clause;
-use mz_ground::clauses::Clauses;
-use mz_ground::ground::Ground;
+use mz_ground::expression_place::place_like;
 use mz_ground::ground_equation::GroundEquation;
+use mz_ground::ground_part::Ground;
 use mz_ground::layer_end::LayerEnd;
 use mz_ground::trigger_places::TriggerPlaces;
 use mz_logic::disjunct::Disjunct;
@@ -158,10 +158,11 @@ fn push_place(
     rules: &mut Rules,
 ) -> Result<(), AllocError>
     requires layout { IsLayout g.now layout }
+    requires numbered { IsNumbered g.now }
     requires number { k < places_for g.now c.now.trigger }
     ensures { OnOk result (AddsRules g.now (IsPlaceRule g.now c.now k) rules.old rules.new) }
 {
-    match matched(alloc, g, c, k)? {
+    match g.matching(alloc, c, place_like(&c.trigger, k))? {
         Some(args) => push_instance(alloc, g, layout, args.as_slice(), c, rules),
         None => Ok(()),
     }
@@ -177,6 +178,7 @@ fn push_places(
     rules: &mut Rules,
 ) -> Result<(), AllocError>
     requires layout { IsLayout g.now layout }
+    requires numbered { IsNumbered g.now }
     requires within { (k : ℕ) → Contains places.now k → k < places_for g.now c.now.trigger }
     ensures { OnOk result (AddsRules g.now (Among (IsPlaceRule g.now c.now) places.now) rules.old rules.new) }
 {
@@ -197,6 +199,7 @@ fn push_clause(
     rules: &mut Rules,
 ) -> Result<(), AllocError>
     requires layout { IsLayout g.now layout }
+    requires numbered { IsNumbered g.now }
     requires places { AreWholePlaces g.now places.now }
     ensures { OnOk result (AddsRules g.now (Below (IsPlaceRule g.now c.now) (places_for g.now c.now.trigger)) rules.old rules.new) }
 {
@@ -204,22 +207,23 @@ fn push_clause(
     Ok(())
 }
 
-#[tactic(auto, using(crate::proofs::RuleLemmas::told_clause))]
+#[tactic(auto, using(crate::proofs::RuleLemmas::told_clause_at))]
 fn push_clause_at(
     alloc: Global,
     g: &Ground,
     layout: Layout,
     places: &TriggerPlaces,
-    clauses: &Clauses,
+    clauses: &[Clause],
     k: usize,
     rules: &mut Rules,
 ) -> Result<(), AllocError>
     requires layout { IsLayout g.now layout }
+    requires numbered { IsNumbered g.now }
     requires places { AreWholePlaces g.now places.now }
     requires number { k < length clauses.now }
     ensures { OnOk result (AddsRules g.now (IsClauseRule g.now clauses.now k) rules.old rules.new) }
 {
-    push_clause(alloc, g, layout, places, clauses.get(k), rules)
+    push_clause(alloc, g, layout, places, &clauses[k], rules)
 }
 
 #[tactic(auto, using(crate::proofs::PlaceLemmas::whole_rules))]
@@ -240,10 +244,11 @@ fn push_clauses(
     alloc: Global,
     g: &Ground,
     layout: Layout,
-    clauses: &Clauses,
+    clauses: &[Clause],
     rules: &mut Rules,
 ) -> Result<(), AllocError>
     requires layout { IsLayout g.now layout }
+    requires numbered { IsNumbered g.now }
     ensures { OnOk result (AddsRules g.now (Below (IsClauseRule g.now clauses.now) (length clauses.now)) rules.old rules.new) }
 {
     let places = whole_places(alloc, g)?;
@@ -254,13 +259,13 @@ fn push_clauses(
 }
 
 /// The rules over the nodes of the ground part of a disjunct under clauses.
-#[tactic(auto, using(crate::proofs::RuleLemmas::told_rules))]
+#[tactic(auto, using(crate::proofs::RuleLemmas::all_rules))]
 pub fn rules_of(
     alloc: Global,
     g: &Ground,
     layout: Layout,
     d: &Disjunct,
-    clauses: &Clauses,
+    clauses: &[Clause],
 ) -> Result<Rules, AllocError>
     requires layout { IsLayout g.now layout }
     requires part { IsGround d.now clauses.now g.now }

@@ -9,8 +9,8 @@ use mz_congruence::classes::numbers;
 use mz_congruence::fact_table::facts_of;
 use mz_congruence::ground_graph::graph_of;
 use mz_congruence::settle::settle;
-use mz_ground::clauses::Clauses;
-use mz_ground::ground::Ground;
+use mz_ground::clause::Clause;
+use mz_ground::ground_part::Ground;
 use mz_logic::disjunct::Disjunct;
 use std::alloc::{AllocError, Global};
 
@@ -19,7 +19,7 @@ pub fn close(
     alloc: Global,
     g: &Ground,
     d: &Disjunct,
-    clauses: &Clauses,
+    clauses: &[Clause],
 ) -> Result<Facts, AllocError>
     requires { IsGround d.now clauses.now g.now }
     ensures kept { IfOk result (λ f. (facts_view f).part ≡ g.now) }

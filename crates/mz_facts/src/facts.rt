@@ -3,7 +3,7 @@ ghost use Rattle.mz_facts.specs.Facts.{facts_view};
 
 use mz_congruence::fact_table::FactTable;
 use mz_ground::fact_set::FactSet;
-use mz_ground::ground::Ground;
+use mz_ground::ground_part::Ground;
 use mz_logic::literal::Literal;
 use mz_logic::term::Term;
 

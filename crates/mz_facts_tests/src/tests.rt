@@ -2,12 +2,14 @@
 use crate::problems::{
     EIGHTH, FIFTH, FIRST, FOURTH, L, Problem, R, SECOND, SEVENTH, SIXTH, T, THIRD,
 };
+use mz_classes::classes::Classes;
 use mz_classes::close_classes::close_classes;
 use mz_facts::close::close;
+use mz_facts::facts::Facts;
 use mz_ground::clause::Clause;
 use mz_ground::clauses::Clauses;
 use mz_ground::fact_set::FactSet;
-use mz_ground::making::ground;
+use mz_ground::ground::ground;
 use mz_ground::trigger::Trigger;
 use mz_logic::disjunct::Disjunct;
 use mz_logic::formula::Formula;
@@ -147,18 +149,76 @@ fn is_as_told<F: FactSet>(rt: &impl Abort, alloc: Global, f: &F, p: Problem) -> 
     f.contradictory() == p.5
 }
 
+// The class of the term with a number, in the one form and in the other.
+fn class_number(f: &Classes, number: u32) -> u32 {
+    if (number as usize) < f.ground().terms.len() {
+        f.class_of(number)
+    } else {
+        0
+    }
+}
+
+fn plain_class(f: &Classes, plain: &Facts, number: u32) -> usize {
+    if (number as usize) < f.ground().terms.len() {
+        let place = f.term_place(number);
+        if place < plain.ground().terms.len() {
+            return plain.class_at(place);
+        }
+    }
+    0
+}
+
+// Whether two terms have one class in the one form exactly where they have one in the other.
+fn have_same_classes(f: &Classes, plain: &Facts) -> bool {
+    let count = u32::try_from(f.ground().terms.len()).unwrap_or(u32::MAX);
+    for i in 0..count {
+        for j in 0..count {
+            let equal = plain_class(f, plain, i) == plain_class(f, plain, j);
+            if (class_number(f, i) == class_number(f, j)) != equal {
+                return false;
+            }
+        }
+    }
+    true
+}
+
+// How many atoms with the symbol are facts with the sign, in the plain form.
+fn count_signed(plain: &Facts, sym: Sym, positive: bool) -> usize {
+    let mut count = 0usize;
+    for k in 0..plain.ground().atoms.len() {
+        if plain.ground().atoms.get(k).sym.is(sym) && plain.is_signed(k, positive) {
+            count = count.saturating_add(1);
+        }
+    }
+    count
+}
+
+// Whether as many atoms of each symbol and sign are facts in the one form as in the other.
+fn have_same_signs(f: &Classes, plain: &Facts) -> bool {
+    for a in &plain.ground().atoms.items {
+        for positive in [true, false] {
+            if f.signed(a.sym, positive).as_slice().len() != count_signed(plain, a.sym, positive) {
+                return false;
+            }
+        }
+    }
+    true
+}
+
 fn both_forms_answer(rt: &impl Abort, alloc: Global, problems: &[Problem]) {
     for (number, problem) in problems.iter().enumerate() {
         let d = disjunct(rt, alloc, *problem);
         let cs = clauses(rt, alloc, *problem);
-        let g = ground(alloc, &d, &cs).expect(rt, "a ground part");
-        let plain = close(alloc, &g, &d, &cs).expect(rt, "memory");
-        let classes = close_classes(alloc, &g, &d, &cs).expect(rt, "memory");
+        let g = ground(alloc, &d, cs.as_slice()).expect(rt, "a ground part");
+        let plain = close(alloc, &g, &d, cs.as_slice()).expect(rt, "memory");
+        let classes = close_classes(alloc, &g, &d, cs.as_slice()).expect(rt, "memory");
         assert!(rt; is_as_told(rt, alloc, &plain, *problem), "plain {number}");
         assert!(rt;
             is_as_told(rt, alloc, &classes, *problem),
             "classes {number}"
         );
+        assert!(rt; have_same_classes(&classes, &plain), "classes of {number}");
+        assert!(rt; have_same_signs(&classes, &plain), "signs of {number}");
     }
 }
 

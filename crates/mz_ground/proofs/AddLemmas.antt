@@ -4,22 +4,23 @@ use Rattle.std.specs.Prelude.{Contains, slice_get, ◌&&◌, MatchOption, option
 use Rattle.std.specs.List.{list_all}
 use Rattle.std.proofs.lemmas.List.{map_push, take_more, take_all}
 use Rattle.std.proofs.lemmas.List.Elements.{Contains-append_left, Contains-append_right, Contains-push_cases}
-use Rattle.std.proofs.lemmas.Option.{slice_get_within, same_Some, none-some, slice_get-map}
+use Rattle.std.proofs.lemmas.Option.{same_Some, none-some, slice_get-map}
 use Rattle.std.proofs.lemmas.Bool.{false≢true, le-ltb}
 use Rattle.mz_logic.specs.declared.sym.Sym.{Sym}
-use Rattle.mz_logic.specs.Term.{Term, Terms, Bound, Const, App, none, more, terms_of, list_of}
+use Rattle.mz_logic.specs.Term.{Term, Bound, Const, App, terms_of, list_of}
 use Rattle.mz_logic.specs.TermStorage.{list_of-terms_of}
-use Rattle.mz_logic.specs.Indices.{closed, args_below}
+use Rattle.mz_logic.specs.Indices.{closed}
 use Rattle.mz_logic.proofs.IndexLemmas.{args_below-terms_of}
-use Rattle.mz_ground.specs.Piece.{IsWithin, whole, argument}
-use Rattle.mz_logic.specs.Substitution.{value_at}
-use Rattle.mz_ground.specs.Instance.{filled, args_filled}
+use Rattle.mz_logic.proofs.SubstitutionLaws.{substitute_args-terms_of}
+use Rattle.mz_logic.proofs.ValueLaws.{substitute-value_at}
+use Rattle.mz_ground.specs.GroundExpression.{IsWithin, whole, argument}
+use Rattle.mz_logic.specs.Substitution.{value_at, substitute}
 use Rattle.mz_ground.specs.Ground.{term_at}
 use Rattle.mz_ground.specs.Table.{Extends, IsPlaced, entry_terms, IsTable, Reads, IsPart, AddedTerms, IsFound, EachFound, AreFound, AddsTerm, AddsEach, AddsTerms}
 use Rattle.mz_ground.specs.declared.ground_term.GroundTerm.{GroundTerm}
 use Rattle.mz_ground.specs.declared.ground_term.GroundTerm.TheVariants as entry
-use Rattle.mz_ground.proofs.ListLemmas.{contains_none, contains_first, contains_later, contains_cases, contains_one, contains_get, extends_itself, extends_further, extends-length}
-use Rattle.mz_ground.proofs.TableLemmas.{PlacedTerm, placed, get-term_at, term_at-contained, entry_terms-length, entry_terms_closed, within_table, contains_grown, found_grown, reads_grown}
+use Rattle.mz_ground.proofs.ListLemmas.{contains_none, contains_first, contains_cases, contains_one, contains_get, extends_itself, extends_further}
+use Rattle.mz_ground.proofs.TableLemmas.{PlacedTerm, placed, term_at-contained, entry_terms-length, entry_terms_closed, within_table, contains_grown, found_grown, reads_grown}
 
 -- what stands within a term
 abbrev pub IsArgWithin : Term → Term → Type 0
@@ -87,34 +88,40 @@ added_bound es h index =
       complete = λ u p. elim (within_cases u (within_of_part (Bound index) u p)) [ inl q ↦ absurd (apart (closed u) p.is_closed (ap closed q ∙ not_closed index)) | inr r ↦ absurd r ];
     }
 
-index_filled_some : (ts : List Term) (index : ℕ) (t : Term) → slice_get ts index ≡ Some t → value_at ts index ≡ t
-index_filled_some [] index t g = absurd (none-some t g)
-index_filled_some (u ∷ us) zero t g = same_Some u t g
-index_filled_some (u ∷ us) (suc index) t g = index_filled_some us index t g
+value_at-some : (ts : List Term) (index : ℕ) (t : Term) → slice_get ts index ≡ Some t → value_at ts index ≡ t
+value_at-some [] index t g = absurd (none-some t g)
+value_at-some (u ∷ us) zero t g = same_Some u t g
+value_at-some (u ∷ us) (suc index) t g = value_at-some us index t g
 
-pub index_filled_none : (ts : List Term) (index : ℕ) → slice_get ts index ≡ None → (j : ℕ) × (value_at ts index ≡ Bound j)
-index_filled_none [] index g = (index, refl)
-index_filled_none (u ∷ us) zero g = absurd (none-some u (sym g))
-index_filled_none (u ∷ us) (suc index) g = index_filled_none us index g
+value_at-none : (ts : List Term) (index : ℕ) → slice_get ts index ≡ None → (j : ℕ) × (value_at ts index ≡ Bound j)
+value_at-none [] index g = (index, refl)
+value_at-none (u ∷ us) zero g = absurd (none-some u (sym g))
+value_at-none (u ∷ us) (suc index) g = value_at-none us index g
 
-pub index_filled_at : (es : List GroundTerm) (args : List ℕ) (index k : ℕ) → slice_get args index ≡ Some k → value_at (map (term_at (entry_terms es)) args) index ≡ term_at (entry_terms es) k
-index_filled_at es args index k g = index_filled_some (map (term_at (entry_terms es)) args) index (term_at (entry_terms es) k) (slice_get-map (term_at (entry_terms es)) args index ∙ ap (option_map (term_at (entry_terms es))) g)
+-- an index, where the terms at places stand for the indices
+pub index_at : (es : List GroundTerm) (args : List ℕ) (index k : ℕ) → slice_get args index ≡ Some k → substitute 0 (value_at (map (term_at (entry_terms es)) args)) (Bound index) ≡ term_at (entry_terms es) k
+index_at es args index k g =
+    let d : List Term = entry_terms es in
+    substitute-value_at (map (term_at d) args) index ∙ value_at-some (map (term_at d) args) index (term_at d k) (slice_get-map (term_at d) args index ∙ ap (option_map (term_at d)) g)
 
-pub index_filled_past : (es : List GroundTerm) (args : List ℕ) (index : ℕ) → slice_get args index ≡ None → (j : ℕ) × (value_at (map (term_at (entry_terms es)) args) index ≡ Bound j)
-index_filled_past es args index g = index_filled_none (map (term_at (entry_terms es)) args) index (slice_get-map (term_at (entry_terms es)) args index ∙ ap (option_map (term_at (entry_terms es))) g)
+pub index_past : (es : List GroundTerm) (args : List ℕ) (index : ℕ) → slice_get args index ≡ None → (j : ℕ) × (substitute 0 (value_at (map (term_at (entry_terms es)) args)) (Bound index) ≡ Bound j)
+index_past es args index g =
+    let d : List Term = entry_terms es in
+    let p = value_at-none (map (term_at d) args) index (slice_get-map (term_at d) args index ∙ ap (option_map (term_at d)) g) in
+    (p.0, substitute-value_at (map (term_at d) args) index ∙ p.1)
 
 added_as : (es fs : List GroundTerm) (t u : Term) → t ≡ u → AddedTerms es (u ∷ []) fs → AddedTerms es (t ∷ []) fs
 added_as es fs t u q a = subst (λ (x : Term). AddedTerms es (x ∷ []) fs) (sym q) a
 
 bound_at : (es : List GroundTerm) (args : List ℕ) (ts : List Term) (index : ℕ) (o : Option ℕ) → Reads es args ts → slice_get args index ≡ o → AddsTerm es ts (Bound index) o es
 bound_at es args ts index None r g =
-    let p = index_filled_past es args index g in
-    let q : value_at ts index ≡ Bound p.0 = ap (λ z. value_at z index) (sym r.terms) ∙ p.1 in
-    record { added = added_as es es (value_at ts index) (Bound p.0) q (added_bound es r.table p.0); found = ap closed q ∙ not_closed p.0 }
+    let p = index_past es args index g in
+    let q : substitute 0 (value_at ts) (Bound index) ≡ Bound p.0 = ap (λ z. substitute 0 (value_at z) (Bound index)) (sym r.terms) ∙ p.1 in
+    record { added = added_as es es (substitute 0 (value_at ts) (Bound index)) (Bound p.0) q (added_bound es r.table p.0); found = ap closed q ∙ not_closed p.0 }
 bound_at es args ts index (Some k) r g =
-    let q : value_at ts index ≡ term_at (entry_terms es) k = ap (λ z. value_at z index) (sym r.terms) ∙ index_filled_at es args index k g in
+    let q : substitute 0 (value_at ts) (Bound index) ≡ term_at (entry_terms es) k = ap (λ z. substitute 0 (value_at z) (Bound index)) (sym r.terms) ∙ index_at es args index k g in
     let lt : k < length es = r.within k (contains_get args index k g) in
-    record { added = added_as es es (value_at ts index) (term_at (entry_terms es) k) q (added_known es r.table (term_at (entry_terms es) k) (term_at-contained (entry_terms es) k (omega (arith, entry_terms-length es)))); found = (lt, sym q) }
+    record { added = added_as es es (substitute 0 (value_at ts) (Bound index)) (term_at (entry_terms es) k) q (added_known es r.table (term_at (entry_terms es) k) (term_at-contained (entry_terms es) k (omega (arith, entry_terms-length es)))); found = (lt, sym q) }
 
 pub told_bound : (es : List GroundTerm) (args : List ℕ) (index : ℕ) (o : Option ℕ) (t : Term) → t ≡ Bound index → o ≡ slice_get args index → (ts : List Term) → Reads es args ts → AddsTerm es ts t o es
 told_bound es args index o t e q ts r = subst (λ (x : Term). AddsTerm es ts x o es) (sym e) (bound_at es args ts index o r (sym q))
@@ -135,10 +142,6 @@ told_const es fs args n k t e p ts r =
     subst (λ (x : Term). AddsTerm es ts x (Some k) fs) (sym e) (record { added = added_placed_const es fs n k q; found = q.found })
 
 -- an application
-pub args_filled-terms_of : (ts us : List Term) → args_filled ts (terms_of us) ≡ terms_of (map (filled ts) us)
-args_filled-terms_of ts [] = refl
-args_filled-terms_of ts (u ∷ us) = ap (λ vs. more (filled ts u) vs) (args_filled-terms_of ts us)
-
 app_part : (s : Sym) (us : List Term) (u : Term) → IsPart us u → IsPart (App s (terms_of us) ∷ []) u
 app_part s us u p = record { outer = App s (terms_of us); among = contains_first (App s (terms_of us)) []; within = argument s us p.outer p.among p.within; is_closed = p.is_closed }
 
@@ -179,18 +182,18 @@ added_app_none es fs s us a n =
 
 app_at_some : (es fs gs : List GroundTerm) (s : Sym) (ts us : List Term) (ks : List ℕ) (k : ℕ) → AddsTerms es ts us (Some ks) fs → IsPlaced fs (entry.App s ks) gs k → AddsTerm es ts (App s (terms_of us)) (Some k) gs
 app_at_some es fs gs s ts us ks k a p =
-    let vs : List Term = map (filled ts) us in
+    let vs : List Term = map (substitute 0 (value_at ts)) us in
     let q : PlacedTerm fs (App s (terms_of (map (term_at (entry_terms fs)) ks))) gs k = placed fs a.added.table (entry.App s ks) a.found.0 gs k p in
     let r : PlacedTerm fs (App s (terms_of vs)) gs k = subst (λ (xs : List Term). PlacedTerm fs (App s (terms_of xs)) gs k) a.found.1 q in
-    let same : filled ts (App s (terms_of us)) ≡ App s (terms_of vs) = ap (App s) (args_filled-terms_of ts us) in
-    record { added = added_as es gs (filled ts (App s (terms_of us))) (App s (terms_of vs)) same (added_app_some es fs gs s vs k a.added r); found = (r.found.0, r.found.1 ∙ sym same) }
+    let same : substitute 0 (value_at ts) (App s (terms_of us)) ≡ App s (terms_of vs) = ap (App s) (substitute_args-terms_of 0 (value_at ts) us) in
+    record { added = added_as es gs (substitute 0 (value_at ts) (App s (terms_of us))) (App s (terms_of vs)) same (added_app_some es fs gs s vs k a.added r); found = (r.found.0, r.found.1 ∙ sym same) }
 
 app_at_none : (es fs : List GroundTerm) (s : Sym) (ts us : List Term) → AddsTerms es ts us None fs → AddsTerm es ts (App s (terms_of us)) None fs
 app_at_none es fs s ts us a =
-    let vs : List Term = map (filled ts) us in
-    let same : filled ts (App s (terms_of us)) ≡ App s (terms_of vs) = ap (App s) (args_filled-terms_of ts us) in
+    let vs : List Term = map (substitute 0 (value_at ts)) us in
+    let same : substitute 0 (value_at ts) (App s (terms_of us)) ≡ App s (terms_of vs) = ap (App s) (substitute_args-terms_of 0 (value_at ts) us) in
     let open' : closed (App s (terms_of vs)) ≡ false = args_below-terms_of 0 vs ∙ a.found in
-    record { added = added_as es fs (filled ts (App s (terms_of us))) (App s (terms_of vs)) same (added_app_none es fs s vs a.added open'); found = ap closed same ∙ open' }
+    record { added = added_as es fs (substitute 0 (value_at ts) (App s (terms_of us))) (App s (terms_of vs)) same (added_app_none es fs s vs a.added open'); found = ap closed same ∙ open' }
 
 pub told_app_some : (es fs gs : List GroundTerm) (args : List ℕ) (s : Sym) (us : List Term) (ks : List ℕ) (k : ℕ) (t : Term) → t ≡ App s (terms_of us) → ((ts : List Term) → Reads es args ts → AddsTerms es ts us (Some ks) fs) → IsPlaced fs (entry.App s ks) gs k → (ts : List Term) → Reads es args ts → AddsTerm es ts t (Some k) gs
 told_app_some es fs gs args s us ks k t e a p ts r = subst (λ (x : Term). AddsTerm es ts x (Some k) gs) (sym e) (app_at_some es fs gs s ts us ks k (a ts r) p)
@@ -219,10 +222,10 @@ each_push fs (v ∷ us) (p ∷ os) u o h f = (h.0, each_push fs us os u o h.1 f)
 pub each_more : (es fs gs : List GroundTerm) (args : List ℕ) (ts us : List Term) (os : List (Option ℕ)) (u : Term) (o : Option ℕ) → Reads es args ts → AddsEach es ts us os fs → ((vs : List Term) → Reads fs args vs → AddsTerm fs vs u o gs) → AddsEach es ts (us ++ u ∷ []) (os ++ o ∷ []) gs
 each_more es fs gs args ts us os u o r a b =
     let c : AddsTerm fs ts u o gs = b ts (reads_grown es fs a.added.grown a.added.table args ts r) in
-    let q : map (filled ts) (us ++ u ∷ []) ≡ map (filled ts) us ++ filled ts u ∷ [] = map_push (filled ts) us u in
+    let q : map (substitute 0 (value_at ts)) (us ++ u ∷ []) ≡ map (substitute 0 (value_at ts)) us ++ substitute 0 (value_at ts) u ∷ [] = map_push (substitute 0 (value_at ts)) us u in
     record {
-      added = subst (λ (vs : List Term). AddedTerms es vs gs) (sym q) (added_more es fs gs (map (filled ts) us) (filled ts u) a.added c.added);
-      found = subst (λ (vs : List Term). EachFound gs vs (os ++ o ∷ [])) (sym q) (each_push gs (map (filled ts) us) os (filled ts u) o (each_grown fs gs c.added.grown (map (filled ts) us) os a.found) c.found);
+      added = subst (λ (vs : List Term). AddedTerms es vs gs) (sym q) (added_more es fs gs (map (substitute 0 (value_at ts)) us) (substitute 0 (value_at ts) u) a.added c.added);
+      found = subst (λ (vs : List Term). EachFound gs vs (os ++ o ∷ [])) (sym q) (each_push gs (map (substitute 0 (value_at ts)) us) os (substitute 0 (value_at ts) u) o (each_grown fs gs c.added.grown (map (substitute 0 (value_at ts)) us) os a.found) c.found);
     }
 
 -- all places, if each is there
@@ -253,8 +256,8 @@ each_has fs (u ∷ us) (k ∷ ks) h =
     (λ j w. elim (contains_cases k j ks w) [ inl q ↦ subst (λ (i : ℕ). i < length fs) q h.0.0 | inr v ↦ r.0 j v ], λ i. h.0.1 i ∷ r.1 i)
 
 pub all_told : (es fs : List GroundTerm) (ts us : List Term) (os : List (Option ℕ)) (r : Option (List ℕ)) → AddsEach es ts us os fs → MatchOption r (Contains os None) (λ ks. os ≡ map Some ks) → AddsTerms es ts us r fs
-all_told es fs ts us os None a h = record { added = a.added; found = each_lacks fs (map (filled ts) us) os a.found h }
-all_told es fs ts us os (Some ks) a h = record { added = a.added; found = each_has fs (map (filled ts) us) ks (subst (λ (xs : List (Option ℕ)). EachFound fs (map (filled ts) us) xs) h a.found) }
+all_told es fs ts us os None a h = record { added = a.added; found = each_lacks fs (map (substitute 0 (value_at ts)) us) os a.found h }
+all_told es fs ts us os (Some ks) a h = record { added = a.added; found = each_has fs (map (substitute 0 (value_at ts)) us) ks (subst (λ (xs : List (Option ℕ)). EachFound fs (map (substitute 0 (value_at ts)) us) xs) h a.found) }
 
 -- the loop over the arguments
 pub told_each : (es fs gs : List GroundTerm) (args : List ℕ) (us : List Term) (i : ℕ) (os ps : List (Option ℕ)) (u : Term) (o : Option ℕ) → ((ts : List Term) → Reads es args ts → AddsEach es ts (take i us) os fs) → u ≡ get_or us i u → i < length us → ((vs : List Term) → Reads fs args vs → AddsTerm fs vs u o gs) → ps ≡ os ++ o ∷ [] → (ts : List Term) → Reads es args ts → AddsEach es ts (take (i + 1) us) ps gs

@@ -1,61 +1,46 @@
 -- An instance of a clause derives from the clause.
 use Rattle.std.proofs.Common.{◌≡◌, List, [], ◌∷◌, ◌++◌, map, refl, ap, sym, ◌∙◌, true, false}
-use Rattle.mz_logic.specs.Term.{Term, Terms, Bound, Const, App, none, more}
+use Rattle.mz_logic.specs.Term.{Term}
 use Rattle.mz_logic.specs.Formula as formula
-use Rattle.mz_logic.specs.Formula.{Formula, Truth, Not, And, All}
+use Rattle.mz_logic.specs.Formula.{Formula, Not, And}
 use Rattle.mz_logic.specs.Connectives.{joined_to}
-use Rattle.mz_logic.specs.Substitution.{substitute, substitute_args, substitute_formula, value_at}
+use Rattle.mz_logic.specs.Substitution.{substitute_formula, value_at}
 use Rattle.mz_logic.specs.Negation.{falsity}
 use Rattle.mz_logic.specs.Literal.{literal_formula}
 use Rattle.mz_logic.specs.declared.literal.Literal.{Literal}
 use Rattle.mz_logic.specs.declared.literal.Literal.TheVariants.{Atom, Eq}
 use Rattle.mz_logic.specs.Derives.{Derives}
-use Rattle.mz_logic.proofs.ValueLaws.{substitute-value_at}
 use Rattle.mz_logic.proofs.Rules.{not_in, not_out, classical}
 use Rattle.mz_logic.proofs.Connectives.{first, under}
 use Rattle.mz_logic.proofs.Each.{Along, joined_to_in}
-use Rattle.mz_ground.specs.Instance.{filled, args_filled, literal_filled}
+use Rattle.mz_ground.specs.Instance.{literal_at}
 use Rattle.mz_ground.specs.ClauseFormula.{complement, implication}
 
 -- the substitution under no binder
-mutual
-  pub substitute-filled : (ts : List Term) (u : Term) → substitute 0 (value_at ts) u ≡ filled ts u
-  substitute-filled ts (Bound index) = substitute-value_at ts index
-  substitute-filled ts (Const number) = refl
-  substitute-filled ts (App s us) = ap (λ vs. App s vs) (substitute_args-filled ts us)
-
-  substitute_args-filled : (ts : List Term) (us : Terms) → substitute_args 0 (value_at ts) us ≡ args_filled ts us
-  substitute_args-filled ts none = refl
-  substitute_args-filled ts (more u us) = λ i. more (substitute-filled ts u i) (substitute_args-filled ts us i)
-
-map-filled : (ts us : List Term) → map (substitute 0 (value_at ts)) us ≡ map (filled ts) us
-map-filled ts [] = refl
-map-filled ts (u ∷ us) = λ i. substitute-filled ts u i ∷ map-filled ts us i
-
-substitute_formula-literal : (ts : List Term) (l : Literal) → substitute_formula 0 (value_at ts) (literal_formula l) ≡ literal_formula (literal_filled ts l)
-substitute_formula-literal ts (Atom true s us) = ap (λ vs. formula.Atom s vs) (map-filled ts us)
-substitute_formula-literal ts (Atom false s us) = ap (λ vs. Not (formula.Atom s vs)) (map-filled ts us)
-substitute_formula-literal ts (Eq true a b) = λ i. formula.Eq (substitute-filled ts a i) (substitute-filled ts b i)
-substitute_formula-literal ts (Eq false a b) = λ i. Not (formula.Eq (substitute-filled ts a i) (substitute-filled ts b i))
+substitute_formula-literal : (ts : List Term) (l : Literal) → substitute_formula 0 (value_at ts) (literal_formula l) ≡ literal_formula (literal_at ts l)
+substitute_formula-literal ts (Atom true s us) = refl
+substitute_formula-literal ts (Atom false s us) = refl
+substitute_formula-literal ts (Eq true a b) = refl
+substitute_formula-literal ts (Eq false a b) = refl
 
 substitute_formula-joined_to : (ts : List Term) (f : Formula) (fs : List Formula) → substitute_formula 0 (value_at ts) (joined_to f fs) ≡ joined_to (substitute_formula 0 (value_at ts) f) (map (substitute_formula 0 (value_at ts)) fs)
 substitute_formula-joined_to ts f [] = refl
 substitute_formula-joined_to ts f (g ∷ gs) = substitute_formula-joined_to ts (And f g) gs
 
-complement-filled : (ts : List Term) (l : Literal) → complement (literal_filled ts l) ≡ literal_filled ts (complement l)
-complement-filled ts (Atom positive s us) = refl
-complement-filled ts (Eq positive t u) = refl
+complement-literal_at : (ts : List Term) (l : Literal) → complement (literal_at ts l) ≡ literal_at ts (complement l)
+complement-literal_at ts (Atom positive s us) = refl
+complement-literal_at ts (Eq positive t u) = refl
 
-parts-filled : (ts : List Term) (ls : List Literal) (l : Literal) → map (substitute_formula 0 (value_at ts)) (map literal_formula ls ++ literal_formula l ∷ []) ≡ map literal_formula (map (literal_filled ts) ls) ++ literal_formula (literal_filled ts l) ∷ []
-parts-filled ts [] l = ap (λ f. f ∷ []) (substitute_formula-literal ts l)
-parts-filled ts (k ∷ ks) l = λ i. substitute_formula-literal ts k i ∷ parts-filled ts ks l i
+substitute_formula-parts : (ts : List Term) (ls : List Literal) (l : Literal) → map (substitute_formula 0 (value_at ts)) (map literal_formula ls ++ literal_formula l ∷ []) ≡ map literal_formula (map (literal_at ts) ls) ++ literal_formula (literal_at ts l) ∷ []
+substitute_formula-parts ts [] l = ap (λ f. f ∷ []) (substitute_formula-literal ts l)
+substitute_formula-parts ts (k ∷ ks) l = λ i. substitute_formula-literal ts k i ∷ substitute_formula-parts ts ks l i
 
-pub substitute_formula-implication : (ts : List Term) (ls : List Literal) (l : Literal) → substitute_formula 0 (value_at ts) (implication ls l) ≡ implication (map (literal_filled ts) ls) (literal_filled ts l)
+pub substitute_formula-implication : (ts : List Term) (ls : List Literal) (l : Literal) → substitute_formula 0 (value_at ts) (implication ls l) ≡ implication (map (literal_at ts) ls) (literal_at ts l)
 substitute_formula-implication ts [] l = substitute_formula-literal ts l
 substitute_formula-implication ts (k ∷ ks) l =
     let parts : List Formula = map literal_formula ks ++ literal_formula (complement l) ∷ [] in
-    let moved : map (substitute_formula 0 (value_at ts)) parts ≡ (map literal_formula (map (literal_filled ts) ks) ++ literal_formula (complement (literal_filled ts l)) ∷ []) =
-    parts-filled ts ks (complement l) ∙ ap (λ m. map literal_formula (map (literal_filled ts) ks) ++ literal_formula m ∷ []) (sym (complement-filled ts l)) in
+    let moved : map (substitute_formula 0 (value_at ts)) parts ≡ (map literal_formula (map (literal_at ts) ks) ++ literal_formula (complement (literal_at ts l)) ∷ []) =
+    substitute_formula-parts ts ks (complement l) ∙ ap (λ m. map literal_formula (map (literal_at ts) ks) ++ literal_formula m ∷ []) (sym (complement-literal_at ts l)) in
     ap Not (substitute_formula-joined_to ts (literal_formula k) parts ∙ (λ i. joined_to (substitute_formula-literal ts k i) (moved i)))
 
 -- the literal derives where its complement gives falsity

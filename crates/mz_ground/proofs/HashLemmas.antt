@@ -2,14 +2,14 @@
 use Rattle.std.proofs.Common.{◌≡◌, ℕ, Bool, true, false, List, [], ◌∷◌, ◌++◌, refl, sym as inverse, ap, ◌∙◌, inl, inr, Option, Some, None}
 use Rattle.std.specs.Prelude.{slice_get, if◌then◌else◌, nat_eq, MatchOption}
 use Rattle.std.proofs.lemmas.Option.{none-some}
-use Rattle.mz_ground.specs.Hash.{mixed, all_mixed, place_of, AreHashed}
+use Rattle.mz_ground.specs.Hash.{hash_with, hash_with_all, place_of, AreHashed}
 use Rattle.mz_ground.specs.declared.hash_places.HashPlaces.{HashPlaces}
 use Rattle.std.proofs.lemmas.Bool.{eq-eqb}
 use Rattle.mz_ground.proofs.ListLemmas.{get_push_cases}
 
-pub all_mixed-push : (hash : ℕ) (ns : List ℕ) (n : ℕ) → all_mixed hash (ns ++ n ∷ []) ≡ mixed (all_mixed hash ns) n
-all_mixed-push hash [] n = refl
-all_mixed-push hash (m ∷ ns) n = all_mixed-push (mixed hash m) ns n
+pub hash_with_all-push : (hash : ℕ) (ns : List ℕ) (n : ℕ) → hash_with_all hash (ns ++ n ∷ []) ≡ hash_with (hash_with_all hash ns) n
+hash_with_all-push hash [] n = refl
+hash_with_all-push hash (m ∷ ns) n = hash_with_all-push (hash_with hash m) ns n
 
 -- no items need no place
 pub none_hashed : {A : Type 0} (hash_of : A → ℕ) (p : HashPlaces) → AreHashed hash_of [] p

@@ -1,5 +1,5 @@
 -- Places by hashes of heads, and where a trigger may stand.
-use Rattle.std.proofs.Common.{◌≡◌, ◌<◌, ◌≤◌, ◌+◌, ◌%◌, ℕ, zero, suc, Bool, true, false, List, [], ◌∷◌, ◌++◌, length, map, refl, sym as inverse, ap, ◌∙◌, subst, arith, ◌⊎◌, inl, inr, Option, Some, None, eqb-true, eq-eqb}
+use Rattle.std.proofs.Common.{◌≡◌, ◌<◌, ◌≤◌, ◌+◌, ◌%◌, ℕ, Bool, true, false, List, [], ◌∷◌, ◌++◌, length, map, refl, sym as inverse, ap, ◌∙◌, subst, arith, ◌⊎◌, inl, inr, Some, eq-eqb}
 use Rattle.std.specs.Prelude.{Contains, slice_get, nat_eq, if◌then◌else◌}
 use Rattle.std.proofs.lemmas.List.Elements.{Contains-append_left, Contains-push, Contains-push_cases}
 use Rattle.std.proofs.lemmas.Option.{same_Some}
@@ -7,17 +7,18 @@ use Rattle.std.proofs.lemmas.Bool.{cases_lt}
 use Rattle.mz_logic.specs.declared.sym.Sym.{Sym}
 use Rattle.mz_logic.specs.Term as term
 use Rattle.mz_logic.specs.Term.{Term, Bound, Terms}
-use Rattle.mz_ground.specs.Piece.{Piece, TermPiece, AtomPiece}
-use Rattle.mz_ground.specs.Instance.{filled, args_filled, trigger_filled}
-use Rattle.mz_ground.specs.Ground.{term_at, term_of_entry, ground_terms, atom_piece}
-use Rattle.mz_ground.specs.Table.{Extends, entry_terms}
+use Rattle.mz_ground.specs.GroundExpression.{TermExpression, AtomExpression}
+use Rattle.mz_logic.specs.Substitution.{substitute, substitute_args, value_at}
+use Rattle.mz_ground.specs.Instance.{trigger_at}
+use Rattle.mz_ground.specs.Ground.{term_at, term_of_entry, ground_terms, atom_expression}
+use Rattle.mz_ground.specs.Table.{Extends}
 use Rattle.mz_ground.specs.Growth.{IsNumbered}
-use Rattle.mz_ground.specs.Instances.{piece_or_zero, piece_at, place_like, IsBetween, IsEndIn}
-use Rattle.mz_ground.specs.Hash.{mixed, sym_mixed}
+use Rattle.mz_ground.specs.Instances.{expression_or_zero, expression_at, place_like, IsBetween, IsEndIn}
+use Rattle.mz_ground.specs.Hash.{hash_with, hash_with_symbol}
 use Rattle.mz_ground.specs.Heads.{head_hash, symbol_hash, list_at, places_of, AreByHash, AreFrom, AreTriggerPlaces, term_candidates, candidates}
 use Rattle.mz_ground.specs.declared.trigger.Trigger.{Trigger}
 use Rattle.mz_ground.specs.declared.trigger.Trigger.TheVariants as trigger
-use Rattle.mz_ground.specs.declared.ground.Ground.{Ground}
+use Rattle.mz_ground.specs.declared.ground_part.Ground.{Ground}
 use Rattle.mz_ground.specs.declared.ground_term.GroundTerm.{GroundTerm}
 use Rattle.mz_ground.specs.declared.ground_term.GroundTerm.TheVariants as entry
 use Rattle.mz_ground.specs.declared.ground_atom.GroundAtom.{GroundAtom}
@@ -127,43 +128,43 @@ trigger_places_kept g h x p q w f = record {
 -- where a trigger may stand
 term_only : (g : Ground) (x : TriggerPlaces) → AreTriggerPlaces g x → (t : Term) (k : ℕ) → Contains (term_candidates x t) k → (x.start.terms ≤ k) × (k < x.end.terms)
 term_only g x f (Bound i) k c = f.all.only k c
-term_only g x f (term.Const n) k c = f.terms.only (mixed 0 n) k c
-term_only g x f (term.App s us) k c = f.terms.only (sym_mixed 1 s) k c
+term_only g x f (term.Const n) k c = f.terms.only (hash_with 0 n) k c
+term_only g x f (term.App s us) k c = f.terms.only (hash_with_symbol 1 s) k c
 
 pub candidates_only : (g : Ground) (x : TriggerPlaces) → AreTriggerPlaces g x → (r : Trigger) (k : ℕ) → Contains (candidates x r) k → IsBetween x.start x.end (place_like r k)
 candidates_only g x f (trigger.Term t) k c = term_only g x f t k c
-candidates_only g x f (trigger.Atom s us) k c = f.atoms.only (sym_mixed 0 s) k c
+candidates_only g x f (trigger.Atom s us) k c = f.atoms.only (hash_with_symbol 0 s) k c
 
-constant_head : (b : List Term) (e : GroundTerm) (m : ℕ) → term.Const m ≡ term_of_entry b e → head_hash e ≡ mixed 0 m
-constant_head b (entry.Const n) m q = let r : n ≡ m = cc in ap (mixed 0) r
+constant_head : (b : List Term) (e : GroundTerm) (m : ℕ) → term.Const m ≡ term_of_entry b e → head_hash e ≡ hash_with 0 m
+constant_head b (entry.Const n) m q = let r : n ≡ m = cc in ap (hash_with 0) r
 constant_head b (entry.App s args) m q = cc
 
-applied_head : (b : List Term) (e : GroundTerm) (s : Sym) (us : Terms) → term.App s us ≡ term_of_entry b e → head_hash e ≡ sym_mixed 1 s
+applied_head : (b : List Term) (e : GroundTerm) (s : Sym) (us : Terms) → term.App s us ≡ term_of_entry b e → head_hash e ≡ hash_with_symbol 1 s
 applied_head b (entry.Const n) s us q = cc
-applied_head b (entry.App r args) s us q = let p : r ≡ s = cc in ap (sym_mixed 1) p
+applied_head b (entry.App r args) s us q = let p : r ≡ s = cc in ap (hash_with_symbol 1) p
 
 term_entry : (g : Ground) → IsNumbered g → (k : ℕ) → k < length g.terms → (e : GroundTerm) × (slice_get g.terms k ≡ Some e) × (term_at (ground_terms g) k ≡ term_of_entry (ground_terms g) e)
 term_entry g n k lt = let q = entry_at g.terms k lt in (q.0, q.1, table_read g.terms n.table k q.0 q.1)
 
-same_term : (t u : Term) → TermPiece t ≡ TermPiece u → t ≡ u
+same_term : (t u : Term) → TermExpression t ≡ TermExpression u → t ≡ u
 same_term t u e = cc
 
-term_listed : (g : Ground) (x : TriggerPlaces) → IsNumbered g → IsEndIn g x.end → AreTriggerPlaces g x → (ts : List Term) (t : Term) (k : ℕ) → x.start.terms ≤ k → k < x.end.terms → filled ts t ≡ term_at (ground_terms g) k → Contains (term_candidates x t) k
+term_listed : (g : Ground) (x : TriggerPlaces) → IsNumbered g → IsEndIn g x.end → AreTriggerPlaces g x → (ts : List Term) (t : Term) (k : ℕ) → x.start.terms ≤ k → k < x.end.terms → substitute 0 (value_at ts) t ≡ term_at (ground_terms g) k → Contains (term_candidates x t) k
 term_listed g x n w f ts (Bound i) k from lt e = f.all.listed k from lt
 term_listed g x n w f ts (term.Const m) k from lt e =
     let q = term_entry g n k (omega (arith, lt, w.terms)) in
     subst (λ (z : ℕ). Contains (places_of x.terms z) k) (constant_head (ground_terms g) q.0 m (e ∙ q.2)) (f.terms.listed k q.0 from lt q.1)
 term_listed g x n w f ts (term.App s us) k from lt e =
     let q = term_entry g n k (omega (arith, lt, w.terms)) in
-    subst (λ (z : ℕ). Contains (places_of x.terms z) k) (applied_head (ground_terms g) q.0 s (args_filled ts us) (e ∙ q.2)) (f.terms.listed k q.0 from lt q.1)
+    subst (λ (z : ℕ). Contains (places_of x.terms z) k) (applied_head (ground_terms g) q.0 s (substitute_args 0 (value_at ts) us) (e ∙ q.2)) (f.terms.listed k q.0 from lt q.1)
 
-same_symbol : (r s : Sym) (ts us : List Term) → AtomPiece s ts ≡ AtomPiece r us → r ≡ s
+same_symbol : (r s : Sym) (ts us : List Term) → AtomExpression s ts ≡ AtomExpression r us → r ≡ s
 same_symbol r s ts us e = cc
 
-pub candidates_listed : (g : Ground) (x : TriggerPlaces) → IsNumbered g → IsEndIn g x.end → AreTriggerPlaces g x → (ts : List Term) (r : Trigger) (k : ℕ) → IsBetween x.start x.end (place_like r k) → trigger_filled ts r ≡ piece_at g (place_like r k) → Contains (candidates x r) k
-candidates_listed g x n w f ts (trigger.Term t) k b e = term_listed g x n w f ts t k b.0 b.1 (same_term (filled ts t) (term_at (ground_terms g) k) e)
+pub candidates_listed : (g : Ground) (x : TriggerPlaces) → IsNumbered g → IsEndIn g x.end → AreTriggerPlaces g x → (ts : List Term) (r : Trigger) (k : ℕ) → IsBetween x.start x.end (place_like r k) → trigger_at ts r ≡ expression_at g (place_like r k) → Contains (candidates x r) k
+candidates_listed g x n w f ts (trigger.Term t) k b e = term_listed g x n w f ts t k b.0 b.1 (same_term (substitute 0 (value_at ts) t) (term_at (ground_terms g) k) e)
 candidates_listed g x n w f ts (trigger.Atom s us) k b e =
     let q = get_some g.atoms k (omega (arith, b.1, w.atoms)) in
     let a : GroundAtom = q.0 in
-    let there : AtomPiece s (map (filled ts) us) ≡ AtomPiece a.sym (map (term_at (ground_terms g)) a.args) = e ∙ ap piece_or_zero (get_map (atom_piece (ground_terms g)) g.atoms k a q.1) in
-    subst (λ (z : Sym). Contains (places_of x.atoms (sym_mixed 0 z)) k) (same_symbol a.sym s (map (filled ts) us) (map (term_at (ground_terms g)) a.args) there) (f.atoms.listed k a b.0 b.1 q.1)
+    let there : AtomExpression s (map (substitute 0 (value_at ts)) us) ≡ AtomExpression a.sym (map (term_at (ground_terms g)) a.args) = e ∙ ap expression_or_zero (get_map (atom_expression (ground_terms g)) g.atoms k a q.1) in
+    subst (λ (z : Sym). Contains (places_of x.atoms (hash_with_symbol 0 z)) k) (same_symbol a.sym s (map (substitute 0 (value_at ts)) us) (map (term_at (ground_terms g)) a.args) there) (f.atoms.listed k a b.0 b.1 q.1)

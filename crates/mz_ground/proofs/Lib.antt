@@ -6,7 +6,7 @@ pub mod MatchLemmas
 pub mod TriggerLemmas
 pub mod NodeLemmas
 pub mod GrowthLemmas
-pub mod PieceLemmas
+pub mod ExpressionLemmas
 pub mod InstanceLemmas
 pub mod LayerLemmas
 pub mod ClauseInstance

@@ -2,11 +2,11 @@
 use Rattle.std.proofs.Common.{◌≡◌, ◌<◌, ◌≤◌, ◌+◌, ◌-◌, ℕ, zero, suc, List, [], ◌∷◌, ◌++◌, length, map, take, get_or, refl, sym as inverse, ap, ◌∙◌, subst, arith, add-one, Bool, Option, Some, None}
 use Rattle.std.specs.Prelude.{Contains, slice_get}
 use Rattle.mz_logic.specs.declared.sym.Sym.{Sym}
-use Rattle.mz_logic.specs.Term.{Term, Terms, Bound, Const, App, none, more, terms_of}
+use Rattle.mz_logic.specs.Term.{Term, Bound, Const, App, terms_of}
 use Rattle.mz_logic.specs.declared.literal.Literal.{Literal}
 use Rattle.mz_logic.specs.declared.literal.Literal.TheVariants as literals
-use Rattle.mz_logic.specs.Substitution.{value_at}
-use Rattle.mz_ground.specs.Instance.{filled, args_filled, literal_filled, term_nodes, args_nodes, literal_nodes, literals_nodes, instance_nodes}
+use Rattle.mz_logic.specs.Substitution.{value_at, substitute}
+use Rattle.mz_ground.specs.Instance.{literal_at, term_nodes, args_nodes, literal_nodes, literals_nodes, instance_nodes}
 use Rattle.mz_ground.specs.Ground.{term_at}
 use Rattle.mz_ground.specs.Layers.{most_nodes}
 use Rattle.mz_ground.specs.Nodes.{IsSpent}
@@ -16,7 +16,8 @@ use Rattle.mz_ground.specs.declared.ground_term.GroundTerm.{GroundTerm}
 use Rattle.mz_ground.specs.declared.ground_term.GroundTerm.TheVariants as entry
 use Rattle.mz_ground.proofs.ListLemmas.{contains_get}
 use Rattle.mz_ground.proofs.TableLemmas.{table_read}
-use Rattle.mz_ground.proofs.AddLemmas.{args_filled-terms_of, index_filled_at, index_filled_past}
+use Rattle.mz_logic.proofs.SubstitutionLaws.{substitute_args-terms_of}
+use Rattle.mz_ground.proofs.AddLemmas.{index_at, index_past}
 
 pub term_nodes-positive : (t : Term) → 0 < term_nodes t
 term_nodes-positive (Bound index) = omega arith
@@ -103,22 +104,22 @@ spent_nothing n = record { spent = omega arith }
 
 pub ruleset places_rules = (spent_next, spent_over, spent_nothing)
 
--- a term filled
-pub told_bound : (es : List GroundTerm) (args : List ℕ) (t : Term) (index k n : ℕ) (r : Option ℕ) → t ≡ Bound index → slice_get args index ≡ Some k → IsSpent n (term_nodes (term_at (entry_terms es) k)) r → IsSpent n (term_nodes (filled (map (term_at (entry_terms es)) args) t)) r
+-- a term at the terms at places
+pub told_bound : (es : List GroundTerm) (args : List ℕ) (t : Term) (index k n : ℕ) (r : Option ℕ) → t ≡ Bound index → slice_get args index ≡ Some k → IsSpent n (term_nodes (term_at (entry_terms es) k)) r → IsSpent n (term_nodes (substitute 0 (value_at (map (term_at (entry_terms es)) args)) t)) r
 told_bound es args t index k n r e g s =
-    spent_as n (term_nodes (filled (map (term_at (entry_terms es)) args) t)) (term_nodes (term_at (entry_terms es) k)) r (ap term_nodes (ap (filled (map (term_at (entry_terms es)) args)) e ∙ index_filled_at es args index k g)) s
+    spent_as n (term_nodes (substitute 0 (value_at (map (term_at (entry_terms es)) args)) t)) (term_nodes (term_at (entry_terms es) k)) r (ap term_nodes (ap (substitute 0 (value_at (map (term_at (entry_terms es)) args))) e ∙ index_at es args index k g)) s
 
-pub told_past : (es : List GroundTerm) (args : List ℕ) (t : Term) (index n : ℕ) → t ≡ Bound index → slice_get args index ≡ None → (n ≡ 0 → ⊥) → IsSpent n (term_nodes (filled (map (term_at (entry_terms es)) args) t)) (Some (n - 1))
+pub told_past : (es : List GroundTerm) (args : List ℕ) (t : Term) (index n : ℕ) → t ≡ Bound index → slice_get args index ≡ None → (n ≡ 0 → ⊥) → IsSpent n (term_nodes (substitute 0 (value_at (map (term_at (entry_terms es)) args)) t)) (Some (n - 1))
 told_past es args t index n e g z =
-    let p = index_filled_past es args index g in
-    spent_one n (term_nodes (filled (map (term_at (entry_terms es)) args) t)) z (ap term_nodes (ap (filled (map (term_at (entry_terms es)) args)) e ∙ p.1))
+    let p = index_past es args index g in
+    spent_one n (term_nodes (substitute 0 (value_at (map (term_at (entry_terms es)) args)) t)) z (ap term_nodes (ap (substitute 0 (value_at (map (term_at (entry_terms es)) args))) e ∙ p.1))
 
-pub told_const : (ts : List Term) (t : Term) (m n : ℕ) → t ≡ Const m → (n ≡ 0 → ⊥) → IsSpent n (term_nodes (filled ts t)) (Some (n - 1))
-told_const ts t m n e z = spent_one n (term_nodes (filled ts t)) z (ap (λ x. term_nodes (filled ts x)) e)
+pub told_const : (ts : List Term) (t : Term) (m n : ℕ) → t ≡ Const m → (n ≡ 0 → ⊥) → IsSpent n (term_nodes (substitute 0 (value_at ts) t)) (Some (n - 1))
+told_const ts t m n e z = spent_one n (term_nodes (substitute 0 (value_at ts) t)) z (ap (λ x. term_nodes (substitute 0 (value_at ts) x)) e)
 
-pub told_app : (ts : List Term) (t : Term) (s : Sym) (us : List Term) (n : ℕ) (r : Option ℕ) → t ≡ App s (terms_of us) → (n ≡ 0 → ⊥) → IsSpent (n - 1) (args_nodes (terms_of (map (filled ts) us))) r → IsSpent n (term_nodes (filled ts t)) r
+pub told_app : (ts : List Term) (t : Term) (s : Sym) (us : List Term) (n : ℕ) (r : Option ℕ) → t ≡ App s (terms_of us) → (n ≡ 0 → ⊥) → IsSpent (n - 1) (args_nodes (terms_of (map (substitute 0 (value_at ts)) us))) r → IsSpent n (term_nodes (substitute 0 (value_at ts) t)) r
 told_app ts t s us n r e z a =
-    spent_inside n (term_nodes (filled ts t)) (args_nodes (terms_of (map (filled ts) us))) r z (ap (λ x. term_nodes (filled ts x)) e ∙ ap (λ vs. suc (args_nodes vs)) (args_filled-terms_of ts us)) a
+    spent_inside n (term_nodes (substitute 0 (value_at ts) t)) (args_nodes (terms_of (map (substitute 0 (value_at ts)) us))) r z (ap (λ x. term_nodes (substitute 0 (value_at ts) x)) e ∙ ap (λ vs. suc (args_nodes vs)) (substitute_args-terms_of 0 (value_at ts) us)) a
 
 pub place_within : (es : List GroundTerm) (args : List ℕ) (index k : ℕ) → ((j : ℕ) → Contains args j → j < length es) → slice_get args index ≡ Some k → k < length es
 place_within es args index k h g = h k (contains_get args index k g)
@@ -128,14 +129,14 @@ pub ruleset term_rules = (spent_zero_term, told_bound, told_past, told_const, to
 pub ruleset terms_rules = (spent_next, spent_over, spent_nothing)
 
 -- literals
-pub told_atom : (ts : List Term) (l : Literal) (positive : Bool) (s : Sym) (us : List Term) (n : ℕ) (r : Option ℕ) → l ≡ literals.Atom positive s us → (n ≡ 0 → ⊥) → IsSpent (n - 1) (args_nodes (terms_of (map (filled ts) us))) r → IsSpent n (literal_nodes (literal_filled ts l)) r
-told_atom ts l positive s us n r e z a = spent_inside n (literal_nodes (literal_filled ts l)) (args_nodes (terms_of (map (filled ts) us))) r z (ap (λ x. literal_nodes (literal_filled ts x)) e) a
+pub told_atom : (ts : List Term) (l : Literal) (positive : Bool) (s : Sym) (us : List Term) (n : ℕ) (r : Option ℕ) → l ≡ literals.Atom positive s us → (n ≡ 0 → ⊥) → IsSpent (n - 1) (args_nodes (terms_of (map (substitute 0 (value_at ts)) us))) r → IsSpent n (literal_nodes (literal_at ts l)) r
+told_atom ts l positive s us n r e z a = spent_inside n (literal_nodes (literal_at ts l)) (args_nodes (terms_of (map (substitute 0 (value_at ts)) us))) r z (ap (λ x. literal_nodes (literal_at ts x)) e) a
 
-pub told_equation : (ts : List Term) (l : Literal) (positive : Bool) (t u : Term) (n m : ℕ) (r : Option ℕ) → l ≡ literals.Eq positive t u → (n ≡ 0 → ⊥) → IsSpent (n - 1) (term_nodes (filled ts t)) (Some m) → IsSpent m (term_nodes (filled ts u)) r → IsSpent n (literal_nodes (literal_filled ts l)) r
-told_equation ts l positive t u n m r e z a b = spent_inside n (literal_nodes (literal_filled ts l)) (term_nodes (filled ts t) + term_nodes (filled ts u)) r z (ap (λ x. literal_nodes (literal_filled ts x)) e) (spent_both (n - 1) (term_nodes (filled ts t)) (term_nodes (filled ts u)) m r a b)
+pub told_equation : (ts : List Term) (l : Literal) (positive : Bool) (t u : Term) (n m : ℕ) (r : Option ℕ) → l ≡ literals.Eq positive t u → (n ≡ 0 → ⊥) → IsSpent (n - 1) (term_nodes (substitute 0 (value_at ts) t)) (Some m) → IsSpent m (term_nodes (substitute 0 (value_at ts) u)) r → IsSpent n (literal_nodes (literal_at ts l)) r
+told_equation ts l positive t u n m r e z a b = spent_inside n (literal_nodes (literal_at ts l)) (term_nodes (substitute 0 (value_at ts) t) + term_nodes (substitute 0 (value_at ts) u)) r z (ap (λ x. literal_nodes (literal_at ts x)) e) (spent_both (n - 1) (term_nodes (substitute 0 (value_at ts) t)) (term_nodes (substitute 0 (value_at ts) u)) m r a b)
 
-pub told_equation_past : (ts : List Term) (l : Literal) (positive : Bool) (t u : Term) (n : ℕ) → l ≡ literals.Eq positive t u → (n ≡ 0 → ⊥) → IsSpent (n - 1) (term_nodes (filled ts t)) None → IsSpent n (literal_nodes (literal_filled ts l)) None
-told_equation_past ts l positive t u n e z a = spent_inside n (literal_nodes (literal_filled ts l)) (term_nodes (filled ts t) + term_nodes (filled ts u)) None z (ap (λ x. literal_nodes (literal_filled ts x)) e) (spent_past (n - 1) (term_nodes (filled ts t)) (term_nodes (filled ts u)) a)
+pub told_equation_past : (ts : List Term) (l : Literal) (positive : Bool) (t u : Term) (n : ℕ) → l ≡ literals.Eq positive t u → (n ≡ 0 → ⊥) → IsSpent (n - 1) (term_nodes (substitute 0 (value_at ts) t)) None → IsSpent n (literal_nodes (literal_at ts l)) None
+told_equation_past ts l positive t u n e z a = spent_inside n (literal_nodes (literal_at ts l)) (term_nodes (substitute 0 (value_at ts) t) + term_nodes (substitute 0 (value_at ts) u)) None z (ap (λ x. literal_nodes (literal_at ts x)) e) (spent_past (n - 1) (term_nodes (substitute 0 (value_at ts) t)) (term_nodes (substitute 0 (value_at ts) u)) a)
 
 pub ruleset literal_rules = (spent_zero_literal, told_atom, told_equation, told_equation_past)
 
@@ -164,16 +165,16 @@ spent_over_literal f xs i x n m lt e s t =
 pub ruleset literals_rules = (spent_next_literal, spent_over_literal, spent_nothing)
 
 -- the instance
-instance_sum : (c : Clause) (ts : List Term) → instance_nodes c ts ≡ literals_nodes (map (literal_filled ts) c.premises) + literal_nodes (literal_filled ts c.conclusion)
-instance_sum c ts = literals_nodes-append (map (literal_filled ts) c.premises) (literal_filled ts c.conclusion ∷ []) ∙ omega arith
+instance_sum : (c : Clause) (ts : List Term) → instance_nodes c ts ≡ literals_nodes (map (literal_at ts) c.premises) + literal_nodes (literal_at ts c.conclusion)
+instance_sum c ts = literals_nodes-append (map (literal_at ts) c.premises) (literal_at ts c.conclusion ∷ []) ∙ omega arith
 
-pub instance_fits : (c : Clause) (ts : List Term) (m rest : ℕ) → IsSpent 4096 (literals_nodes (map (literal_filled ts) c.premises)) (Some m) → IsSpent m (literal_nodes (literal_filled ts c.conclusion)) (Some rest) → instance_nodes c ts ≤ most_nodes
+pub instance_fits : (c : Clause) (ts : List Term) (m rest : ℕ) → IsSpent 4096 (literals_nodes (map (literal_at ts) c.premises)) (Some m) → IsSpent m (literal_nodes (literal_at ts c.conclusion)) (Some rest) → instance_nodes c ts ≤ most_nodes
 instance_fits c ts m rest a b = omega (arith, instance_sum c ts, a.spent, b.spent)
 
-pub instance_past : (c : Clause) (ts : List Term) (m : ℕ) → IsSpent 4096 (literals_nodes (map (literal_filled ts) c.premises)) (Some m) → IsSpent m (literal_nodes (literal_filled ts c.conclusion)) None → instance_nodes c ts ≤ most_nodes → ⊥
+pub instance_past : (c : Clause) (ts : List Term) (m : ℕ) → IsSpent 4096 (literals_nodes (map (literal_at ts) c.premises)) (Some m) → IsSpent m (literal_nodes (literal_at ts c.conclusion)) None → instance_nodes c ts ≤ most_nodes → ⊥
 instance_past c ts m a b le = omega (arith, instance_sum c ts, a.spent, b.spent)
 
-pub premises_past : (c : Clause) (ts : List Term) → IsSpent 4096 (literals_nodes (map (literal_filled ts) c.premises)) None → instance_nodes c ts ≤ most_nodes → ⊥
+pub premises_past : (c : Clause) (ts : List Term) → IsSpent 4096 (literals_nodes (map (literal_at ts) c.premises)) None → instance_nodes c ts ≤ most_nodes → ⊥
 premises_past c ts a le = omega (arith, instance_sum c ts, a.spent)
 
 pub ruleset clause_rules = (instance_fits, instance_past, premises_past)

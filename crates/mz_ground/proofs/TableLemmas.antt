@@ -4,14 +4,14 @@ use Rattle.std.specs.Prelude.{Contains, slice_get, ◌&&◌}
 use Rattle.std.proofs.lemmas.List.{append-nil, append_assoc, length-append}
 use Rattle.std.proofs.lemmas.List.Elements.{Contains-append_left, Contains-push, Contains-push_cases}
 use Rattle.std.proofs.lemmas.List.Quantifiers.{all_pairs_push}
-use Rattle.std.proofs.lemmas.Option.{slice_get_within, same_Some, none-some, slice_get-get_or}
+use Rattle.std.proofs.lemmas.Option.{slice_get_within, same_Some, none-some}
 use Rattle.std.proofs.lemmas.Bool.{cases_lt}
 use Rattle.mz_logic.specs.declared.sym.Sym.{Sym}
 use Rattle.mz_logic.specs.Term as term
 use Rattle.mz_logic.specs.Term.{Term, terms_of}
 use Rattle.mz_logic.specs.TermStorage.{terms_of-inj}
 use Rattle.mz_logic.specs.Indices.{closed, args_below}
-use Rattle.mz_ground.specs.Piece.{IsWithin, whole, argument}
+use Rattle.mz_ground.specs.GroundExpression.{IsWithin, whole, argument}
 use Rattle.mz_ground.specs.Ground.{term_at, term_or_zero, term_of_entry, terms_after, IsDistinct}
 use Rattle.mz_ground.specs.Table.{Extends, IsPlaced, entry_terms, IsTable, Reads, IsFound}
 use Rattle.mz_ground.specs.declared.ground_term.GroundTerm.{GroundTerm}

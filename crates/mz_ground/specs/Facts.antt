@@ -5,8 +5,8 @@ use Rattle.mz_logic.specs.Term.{Term, App, terms_of}
 use Rattle.mz_logic.specs.declared.literal.Literal.{Literal}
 use Rattle.mz_logic.specs.declared.literal.Literal.TheVariants.{Atom, Eq}
 use Rattle.mz_logic.specs.declared.disjunct.Disjunct.{Disjunct}
-use Rattle.mz_ground.specs.Instance.{trigger_filled, premises_at, conclusion_at}
-use Rattle.mz_ground.specs.Layers.{IsGroundPiece, IsGroundTerm, IsGroundAtom, IsGroundLiteral}
+use Rattle.mz_ground.specs.Instance.{trigger_at, premises_at, conclusion_at}
+use Rattle.mz_ground.specs.Layers.{IsGroundExpression, IsGroundTerm, IsGroundAtom, IsGroundLiteral}
 use Rattle.mz_ground.specs.declared.clause.Clause.{Clause}
 
 mutual
@@ -15,17 +15,17 @@ mutual
     -- a literal of the disjunct
     given : (l : Literal) → Contains d.literals l → IsGroundLiteral d cs l → Fact d cs l
     -- equality is an equivalence on ground terms
-    itself : (t : Term) → IsGroundTerm d cs t → Fact d cs (Eq true t t)
-    exchanged : (t u : Term) → Fact d cs (Eq true t u) → Fact d cs (Eq true u t)
-    chained : (t u v : Term) → Fact d cs (Eq true t u) → Fact d cs (Eq true u v) → Fact d cs (Eq true t v)
+    reflexive : (t : Term) → IsGroundTerm d cs t → Fact d cs (Eq true t t)
+    symmetric : (t u : Term) → Fact d cs (Eq true t u) → Fact d cs (Eq true u t)
+    transitive : (t u v : Term) → Fact d cs (Eq true t u) → Fact d cs (Eq true u v) → Fact d cs (Eq true t v)
     -- ground terms with one symbol and equal arguments are equal
-    alike : (s : Sym) (ts us : List Term) → IsGroundTerm d cs (App s (terms_of ts)) → IsGroundTerm d cs (App s (terms_of us)) → AreEqual d cs ts us → Fact d cs (Eq true (App s (terms_of ts)) (App s (terms_of us)))
+    congruent : (s : Sym) (ts us : List Term) → IsGroundTerm d cs (App s (terms_of ts)) → IsGroundTerm d cs (App s (terms_of us)) → AreEqual d cs ts us → Fact d cs (Eq true (App s (terms_of ts)) (App s (terms_of us)))
     -- a ground atom has the sign of one with its symbol and equal arguments
-    carried : (positive : Bool) (s : Sym) (ts us : List Term) → Fact d cs (Atom positive s ts) → IsGroundAtom d cs s us → AreEqual d cs ts us → Fact d cs (Atom positive s us)
+    atom_congruence : (positive : Bool) (s : Sym) (ts us : List Term) → Fact d cs (Atom positive s ts) → IsGroundAtom d cs s us → AreEqual d cs ts us → Fact d cs (Atom positive s us)
     -- the sides of a disequation may be exchanged
-    turned : (t u : Term) → Fact d cs (Eq false t u) → Fact d cs (Eq false u t)
+    reversed : (t u : Term) → Fact d cs (Eq false t u) → Fact d cs (Eq false u t)
     -- the conclusion of an instance whose trigger, premises and conclusion are ground, and whose premises are facts
-    fired : (c : Clause) (ts : List Term) → Contains cs c → length ts ≡ c.variables → IsGroundPiece d cs (trigger_filled ts c.trigger) → All (IsGroundLiteral d cs) (premises_at c ts) → IsGroundLiteral d cs (conclusion_at c ts) → AreFacts d cs (premises_at c ts) → Fact d cs (conclusion_at c ts)
+    fired : (c : Clause) (ts : List Term) → Contains cs c → length ts ≡ c.variables → IsGroundExpression d cs (trigger_at ts c.trigger) → All (IsGroundLiteral d cs) (premises_at c ts) → IsGroundLiteral d cs (conclusion_at c ts) → AreFacts d cs (premises_at c ts) → Fact d cs (conclusion_at c ts)
 
   -- the lists are equally long, and their terms are equal one by one
   pub data AreEqual (d : Disjunct) (cs : List Clause) : List Term → List Term → Type 0 where

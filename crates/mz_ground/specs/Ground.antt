@@ -4,10 +4,10 @@ use Rattle.mz_logic.specs.declared.sym.Sym.{Sym}
 use Rattle.mz_logic.specs.Term as term
 use Rattle.mz_logic.specs.Term.{Term, terms_of}
 use Rattle.mz_logic.specs.declared.disjunct.Disjunct.{Disjunct}
-use Rattle.mz_ground.specs.Piece.{Piece, TermPiece, AtomPiece, EquationPiece, IsAtomPiece}
+use Rattle.mz_ground.specs.GroundExpression.{GroundExpression, TermExpression, AtomExpression, EquationExpression, IsAtomExpression}
 use Rattle.mz_ground.specs.Layers.{InLayer, further_layers}
 use Rattle.mz_ground.specs.declared.clause.Clause.{Clause}
-use Rattle.mz_ground.specs.declared.ground.Ground.{Ground}
+use Rattle.mz_ground.specs.declared.ground_part.Ground.{Ground}
 use Rattle.mz_ground.specs.declared.ground_term.GroundTerm.{GroundTerm}
 use Rattle.mz_ground.specs.declared.ground_term.GroundTerm.TheVariants.{Const, App}
 use Rattle.mz_ground.specs.declared.ground_atom.GroundAtom.{GroundAtom}
@@ -38,18 +38,18 @@ terms_after before (e ∷ es) = terms_after (before ++ term_of_entry before e �
 abbrev pub ground_terms : Ground → List Term
 ground_terms g = terms_after [] g.terms
 
-abbrev pub atom_piece : List Term → GroundAtom → Piece
-atom_piece ts a = AtomPiece a.sym (map (term_at ts) a.args)
+abbrev pub atom_expression : List Term → GroundAtom → GroundExpression
+atom_expression ts a = AtomExpression a.sym (map (term_at ts) a.args)
 
-abbrev pub equation_piece : List Term → GroundEquation → Piece
-equation_piece ts e = EquationPiece (term_at ts e.left) (term_at ts e.right)
+abbrev pub equation_expression : List Term → GroundEquation → GroundExpression
+equation_expression ts e = EquationExpression (term_at ts e.left) (term_at ts e.right)
 
 -- the ground atoms and equations in the order of their places
-abbrev pub ground_atoms : Ground → List Piece
-ground_atoms g = map (atom_piece (ground_terms g)) g.atoms
+abbrev pub ground_atoms : Ground → List GroundExpression
+ground_atoms g = map (atom_expression (ground_terms g)) g.atoms
 
-abbrev pub ground_equations : Ground → List Piece
-ground_equations g = map (equation_piece (ground_terms g)) g.equations
+abbrev pub ground_equations : Ground → List GroundExpression
+ground_equations g = map (equation_expression (ground_terms g)) g.equations
 
 -- the numbers of terms, atoms and equations that stand in the layer n and before it
 abbrev pub end_or_none : Option LayerEnd → LayerEnd
@@ -71,9 +71,9 @@ pub record IsGround (d : Disjunct) (cs : List Clause) (g : Ground) : Type 0 wher
   pub equations_within : (e : GroundEquation) → Contains g.equations e → (e.left < length g.terms) × (e.right < length g.terms)
   -- after each layer the first members are those of the layer
   pub layers : length g.ends ≡ suc further_layers
-  pub terms : (n : ℕ) (t : Term) → n ≤ further_layers → (Contains (take (end_of g n).terms (ground_terms g)) t ↔ InLayer d cs n (TermPiece t))
-  pub atoms : (n : ℕ) (s : Sym) (ts : List Term) → n ≤ further_layers → (Contains (take (end_of g n).atoms (ground_atoms g)) (AtomPiece s ts) ↔ InLayer d cs n (AtomPiece s ts))
-  pub equations : (n : ℕ) (t u : Term) → n ≤ further_layers → (Contains (take (end_of g n).equations (ground_equations g)) (EquationPiece t u) ↔ InLayer d cs n (EquationPiece t u))
+  pub terms : (n : ℕ) (t : Term) → n ≤ further_layers → (Contains (take (end_of g n).terms (ground_terms g)) t ↔ InLayer d cs n (TermExpression t))
+  pub atoms : (n : ℕ) (s : Sym) (ts : List Term) → n ≤ further_layers → (Contains (take (end_of g n).atoms (ground_atoms g)) (AtomExpression s ts) ↔ InLayer d cs n (AtomExpression s ts))
+  pub equations : (n : ℕ) (t u : Term) → n ≤ further_layers → (Contains (take (end_of g n).equations (ground_equations g)) (EquationExpression t u) ↔ InLayer d cs n (EquationExpression t u))
   -- the last layer has all members
   pub all : end_of g further_layers ≡ record { terms = length g.terms; atoms = length g.atoms; equations = length g.equations }
   -- each stands once
@@ -89,27 +89,27 @@ most_atoms = 16384
 
 -- the terms of the layer n and of those before it are these, each once
 pub record AreTermsOf (d : Disjunct) (cs : List Clause) (n : ℕ) (ts : List Term) : Type 0 where
-  pub members : (t : Term) → (Contains ts t ↔ InLayer d cs n (TermPiece t))
+  pub members : (t : Term) → (Contains ts t ↔ InLayer d cs n (TermExpression t))
   pub distinct : IsDistinct ts
 
 -- the atoms of the layer n and of those before it are these, each once
-pub record AreAtomsOf (d : Disjunct) (cs : List Clause) (n : ℕ) (ps : List Piece) : Type 0 where
-  pub members : (p : Piece) → (Contains ps p ↔ (IsAtomPiece p × InLayer d cs n p))
+pub record AreAtomsOf (d : Disjunct) (cs : List Clause) (n : ℕ) (ps : List GroundExpression) : Type 0 where
+  pub members : (p : GroundExpression) → (Contains ps p ↔ (IsAtomExpression p × InLayer d cs n p))
   pub distinct : IsDistinct ps
 
 abbrev pub IsWithinTerms : Disjunct → List Clause → ℕ → Type 0
 IsWithinTerms d cs n = (ts : List Term) × AreTermsOf d cs n ts × (length ts ≤ most_terms)
 
 abbrev pub IsWithinAtoms : Disjunct → List Clause → ℕ → Type 0
-IsWithinAtoms d cs n = (ps : List Piece) × AreAtomsOf d cs n ps × (length ps ≤ most_atoms)
+IsWithinAtoms d cs n = (ps : List GroundExpression) × AreAtomsOf d cs n ps × (length ps ≤ most_atoms)
 
 -- the layer n and those before it have more terms than the limit
 abbrev pub PassesTerms : Disjunct → List Clause → ℕ → Type 0
-PassesTerms d cs n = (ts : List Term) × IsDistinct ts × All (λ t. InLayer d cs n (TermPiece t)) ts × (most_terms < length ts)
+PassesTerms d cs n = (ts : List Term) × IsDistinct ts × All (λ t. InLayer d cs n (TermExpression t)) ts × (most_terms < length ts)
 
 -- the layer n and those before it have more atoms than the limit
 abbrev pub PassesAtoms : Disjunct → List Clause → ℕ → Type 0
-PassesAtoms d cs n = (ps : List Piece) × IsDistinct ps × All (λ p. IsAtomPiece p × InLayer d cs n p) ps × (most_atoms < length ps)
+PassesAtoms d cs n = (ps : List GroundExpression) × IsDistinct ps × All (λ p. IsAtomExpression p × InLayer d cs n p) ps × (most_atoms < length ps)
 
 -- each layer before the layer n keeps both limits
 abbrev pub AreWithinBefore : Disjunct → List Clause → ℕ → Type 0

@@ -10,27 +10,27 @@ use Rattle.mz_ground.specs.declared.ground_atom.GroundAtom.{GroundAtom}
 use Rattle.mz_ground.specs.declared.ground_equation.GroundEquation.{GroundEquation}
 
 -- a hash with one more number taken into it
-unfoldable pub mixed : ℕ → ℕ → ℕ
-mixed hash number = (hash * 1000003 % 2 ^ 64 + number) % 2 ^ 64
+unfoldable pub hash_with : ℕ → ℕ → ℕ
+hash_with hash number = (hash * 1000003 % 2 ^ 64 + number) % 2 ^ 64
 
 -- a hash with these numbers taken into it
-abbrev pub all_mixed : ℕ → List ℕ → ℕ
-all_mixed hash [] = hash
-all_mixed hash (n ∷ ns) = all_mixed (mixed hash n) ns
+abbrev pub hash_with_all : ℕ → List ℕ → ℕ
+hash_with_all hash [] = hash
+hash_with_all hash (n ∷ ns) = hash_with_all (hash_with hash n) ns
 
 -- a hash with a symbol taken into it
-abbrev pub sym_mixed : ℕ → Sym → ℕ
-sym_mixed hash s = mixed (mixed (mixed hash s.article) (kind_number s.kind)) s.number
+abbrev pub hash_with_symbol : ℕ → Sym → ℕ
+hash_with_symbol hash s = hash_with (hash_with (hash_with hash s.article) (kind_number s.kind)) s.number
 
 abbrev pub term_hash : GroundTerm → ℕ
-term_hash (Const number) = mixed 0 number
-term_hash (App sym args) = all_mixed (sym_mixed 1 sym) args
+term_hash (Const number) = hash_with 0 number
+term_hash (App sym args) = hash_with_all (hash_with_symbol 1 sym) args
 
 abbrev pub atom_hash : GroundAtom → ℕ
-atom_hash a = all_mixed (sym_mixed 0 a.sym) a.args
+atom_hash a = hash_with_all (hash_with_symbol 0 a.sym) a.args
 
 abbrev pub equation_hash : GroundEquation → ℕ
-equation_hash e = mixed (mixed 2 e.left) e.right
+equation_hash e = hash_with (hash_with 2 e.left) e.right
 
 -- the place of a hash
 abbrev pub place_of : HashPlaces → ℕ → Option ℕ

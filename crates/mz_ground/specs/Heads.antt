@@ -2,10 +2,10 @@
 use Rattle.std.specs.Prelude.{◌≡◌, ◌<◌, ◌≤◌, ◌%◌, ℕ, List, [], length, Contains, Option, None, Some, slice_get}
 use Rattle.mz_logic.specs.Term as term
 use Rattle.mz_logic.specs.Term.{Bound}
-use Rattle.mz_ground.specs.Hash.{mixed, sym_mixed}
+use Rattle.mz_ground.specs.Hash.{hash_with, hash_with_symbol}
 use Rattle.mz_ground.specs.declared.trigger.Trigger.{Trigger}
 use Rattle.mz_ground.specs.declared.trigger.Trigger.TheVariants.{Term, Atom}
-use Rattle.mz_ground.specs.declared.ground.Ground.{Ground}
+use Rattle.mz_ground.specs.declared.ground_part.Ground.{Ground}
 use Rattle.mz_ground.specs.declared.ground_term.GroundTerm.{GroundTerm}
 use Rattle.mz_ground.specs.declared.ground_term.GroundTerm.TheVariants.{Const, App}
 use Rattle.mz_ground.specs.declared.ground_atom.GroundAtom.{GroundAtom}
@@ -13,11 +13,11 @@ use Rattle.mz_ground.specs.declared.trigger_places.TriggerPlaces.{TriggerPlaces}
 
 -- the hash of a term's head, and of an atom's symbol
 abbrev pub head_hash : GroundTerm → ℕ
-head_hash (Const number) = mixed 0 number
-head_hash (App sym args) = sym_mixed 1 sym
+head_hash (Const number) = hash_with 0 number
+head_hash (App sym args) = hash_with_symbol 1 sym
 
 abbrev pub symbol_hash : GroundAtom → ℕ
-symbol_hash a = sym_mixed 0 a.sym
+symbol_hash a = hash_with_symbol 0 a.sym
 
 abbrev pub list_or_none : Option (List ℕ) → List ℕ
 list_or_none None = []
@@ -51,10 +51,10 @@ pub record AreTriggerPlaces (g : Ground) (x : TriggerPlaces) : Type 0 where
 -- those where the term, with terms in place of its indices, may stand
 abbrev pub term_candidates : TriggerPlaces → term.Term → List ℕ
 term_candidates x (Bound index) = x.all
-term_candidates x (term.Const number) = places_of x.terms (mixed 0 number)
-term_candidates x (term.App s us) = places_of x.terms (sym_mixed 1 s)
+term_candidates x (term.Const number) = places_of x.terms (hash_with 0 number)
+term_candidates x (term.App s us) = places_of x.terms (hash_with_symbol 1 s)
 
 -- those where the trigger may stand
 abbrev pub candidates : TriggerPlaces → Trigger → List ℕ
 candidates x (Term t) = term_candidates x t
-candidates x (Atom s us) = places_of x.atoms (sym_mixed 0 s)
+candidates x (Atom s us) = places_of x.atoms (hash_with_symbol 0 s)

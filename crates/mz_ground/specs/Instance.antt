@@ -1,42 +1,31 @@
 -- Instances of clauses.
-use Rattle.std.specs.Prelude.{ℕ, zero, suc, ◌+◌, List, [], ◌∷◌, ◌++◌, map}
+use Rattle.std.specs.Prelude.{ℕ, suc, ◌+◌, List, [], ◌∷◌, ◌++◌, map}
 use Rattle.mz_logic.specs.Term as term
 use Rattle.mz_logic.specs.Term.{Bound, Const, App, none, more, terms_of}
-use Rattle.mz_logic.specs.Substitution.{value_at}
+use Rattle.mz_logic.specs.Substitution.{substitute, value_at}
 use Rattle.mz_logic.specs.declared.literal.Literal as literal
 use Rattle.mz_logic.specs.declared.literal.Literal.TheVariants as literals
-use Rattle.mz_ground.specs.Piece.{Piece, TermPiece, AtomPiece}
+use Rattle.mz_ground.specs.GroundExpression.{GroundExpression, TermExpression, AtomExpression}
 use Rattle.mz_ground.specs.declared.trigger.Trigger.{Trigger}
 use Rattle.mz_ground.specs.declared.trigger.Trigger.TheVariants.{Term, Atom}
 use Rattle.mz_ground.specs.declared.clause.Clause.{Clause}
 
--- the terms stand for the indices from 0 on, and further indices are lowered by as many: the simultaneous
--- substitution under no binder, where nothing is shifted
-abbrev mutual
-  pub filled : List term.Term → term.Term → term.Term
-  filled ts (Bound index) = value_at ts index
-  filled ts (Const number) = Const number
-  filled ts (App s us) = App s (args_filled ts us)
-
-  pub args_filled : List term.Term → term.Terms → term.Terms
-  args_filled ts none = none
-  args_filled ts (more u us) = more (filled ts u) (args_filled ts us)
-
-abbrev pub literal_filled : List term.Term → literal.Literal → literal.Literal
-literal_filled ts (literals.Atom positive s us) = literals.Atom positive s (map (filled ts) us)
-literal_filled ts (literals.Eq positive t u) = literals.Eq positive (filled ts t) (filled ts u)
+-- the literal at terms: they stand for its indices from 0 on, and further indices are lowered by as many
+abbrev pub literal_at : List term.Term → literal.Literal → literal.Literal
+literal_at ts (literals.Atom positive s us) = literals.Atom positive s (map (substitute 0 (value_at ts)) us)
+literal_at ts (literals.Eq positive t u) = literals.Eq positive (substitute 0 (value_at ts) t) (substitute 0 (value_at ts) u)
 
 -- the trigger at the terms
-abbrev pub trigger_filled : List term.Term → Trigger → Piece
-trigger_filled ts (Term t) = TermPiece (filled ts t)
-trigger_filled ts (Atom s us) = AtomPiece s (map (filled ts) us)
+abbrev pub trigger_at : List term.Term → Trigger → GroundExpression
+trigger_at ts (Term t) = TermExpression (substitute 0 (value_at ts) t)
+trigger_at ts (Atom s us) = AtomExpression s (map (substitute 0 (value_at ts)) us)
 
 -- the premises at the terms, and the conclusion
 abbrev pub premises_at : Clause → List term.Term → List literal.Literal
-premises_at c ts = map (literal_filled ts) c.premises
+premises_at c ts = map (literal_at ts) c.premises
 
 abbrev pub conclusion_at : Clause → List term.Term → literal.Literal
-conclusion_at c ts = literal_filled ts c.conclusion
+conclusion_at c ts = literal_at ts c.conclusion
 
 -- one for the term and each term within it
 abbrev mutual

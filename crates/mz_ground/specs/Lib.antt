@@ -1,5 +1,5 @@
 pub mod Variables
-pub mod Piece
+pub mod GroundExpression
 pub mod Instance
 pub mod Layers
 pub mod Ground

@@ -1,13 +1,13 @@
 -- The layers that a ground part has while it is made.
 use Rattle.std.specs.Prelude.{◌≡◌, ◌<◌, ◌≤◌, ◌↔◌, ℕ, zero, suc, List, [], ◌∷◌, ◌++◌, length}
 use Rattle.mz_logic.specs.declared.disjunct.Disjunct.{Disjunct}
-use Rattle.mz_ground.specs.Piece.{Piece, TermPiece}
+use Rattle.mz_ground.specs.GroundExpression.{GroundExpression}
 use Rattle.mz_ground.specs.Layers.{InLayer}
 use Rattle.mz_ground.specs.Ground.{end_of, most_terms, most_atoms}
 use Rattle.mz_ground.specs.Growth.{IsMember, IsStored, IsNumbered}
 use Rattle.mz_ground.specs.Instances.{IsBefore, IsEndIn}
 use Rattle.mz_ground.specs.declared.clause.Clause.{Clause}
-use Rattle.mz_ground.specs.declared.ground.Ground.{Ground}
+use Rattle.mz_ground.specs.declared.ground_part.Ground.{Ground}
 use Rattle.mz_ground.specs.declared.ground_term.GroundTerm.TheVariants.{Const}
 use Rattle.mz_ground.specs.declared.layer_end.LayerEnd.{LayerEnd}
 use Rattle.mz_ground.specs.declared.ground_fault.GroundFault.{GroundFault}
@@ -17,10 +17,10 @@ use Rattle.mz_ground.specs.declared.ground_fault.GroundFault.TheVariants.{TooMan
 abbrev pub whole_end : Ground → LayerEnd
 whole_end g = record { terms = length g.terms; atoms = length g.atoms; equations = length g.equations }
 
--- before the end stand the pieces of the layer m, no more of them than the limits
+-- before the end stand the expressions of the layer m, no more of them than the limits
 pub record HasLayer (d : Disjunct) (cs : List Clause) (g : Ground) (m : ℕ) (e : LayerEnd) : Type 0 where
   pub within : IsEndIn g e
-  pub members : (p : Piece) → (IsBefore g e p ↔ InLayer d cs m p)
+  pub members : (p : GroundExpression) → (IsBefore g e p ↔ InLayer d cs m p)
   pub terms : e.terms ≤ most_terms
   pub atoms : e.atoms ≤ most_atoms
 
@@ -36,8 +36,8 @@ pub record IsFilling (d : Disjunct) (cs : List Clause) (g : Ground) (n : ℕ) : 
   pub numbered : IsNumbered g
   pub count : length g.ends ≡ n
   pub layers : (m : ℕ) → m < n → HasLayer d cs g m (end_of g m)
-  pub sound : (p : Piece) → IsMember g p → InLayer d cs n p
-  pub complete : length g.terms ≤ most_terms → (p : Piece) → InLayer d cs n p → IsStored g p
+  pub sound : (p : GroundExpression) → IsMember g p → InLayer d cs n p
+  pub complete : length g.terms ≤ most_terms → (p : GroundExpression) → InLayer d cs n p → IsStored g p
 
 -- nothing
 abbrev pub no_layer : LayerEnd

@@ -4,8 +4,8 @@ use Rattle.std.specs.List.{list_all}
 use Rattle.mz_logic.specs.declared.sym.Sym.{Sym}
 use Rattle.mz_logic.specs.Term.{Term}
 use Rattle.mz_logic.specs.Indices.{closed}
-use Rattle.mz_ground.specs.Piece.{IsWithin}
-use Rattle.mz_ground.specs.Instance.{filled}
+use Rattle.mz_ground.specs.GroundExpression.{IsWithin}
+use Rattle.mz_logic.specs.Substitution.{substitute, value_at}
 use Rattle.mz_ground.specs.Ground.{term_at, terms_after, IsDistinct}
 use Rattle.mz_ground.specs.declared.ground_term.GroundTerm.{GroundTerm}
 use Rattle.mz_ground.specs.declared.ground_term.GroundTerm.TheVariants.{App}
@@ -64,15 +64,15 @@ abbrev pub AreFound : List GroundTerm → List Term → Option (List ℕ) → Ty
 AreFound es ts None = list_all closed ts ≡ false
 AreFound es ts (Some places) = ((k : ℕ) → Contains places k → k < length es) × (map (term_at (entry_terms es)) places ≡ ts)
 
--- the closed terms within the term, filled by the terms at the places, are put among the entries
+-- the closed terms within the term, with the terms at the places for its indices, are put among the entries
 pub record AddsTerm (es : List GroundTerm) (ts : List Term) (t : Term) (place : Option ℕ) (fs : List GroundTerm) : Type 0 where
-  pub added : AddedTerms es (filled ts t ∷ []) fs
-  pub found : IsFound fs (filled ts t) place
+  pub added : AddedTerms es (substitute 0 (value_at ts) t ∷ []) fs
+  pub found : IsFound fs (substitute 0 (value_at ts) t) place
 
 pub record AddsEach (es : List GroundTerm) (ts us : List Term) (places : List (Option ℕ)) (fs : List GroundTerm) : Type 0 where
-  pub added : AddedTerms es (map (filled ts) us) fs
-  pub found : EachFound fs (map (filled ts) us) places
+  pub added : AddedTerms es (map (substitute 0 (value_at ts)) us) fs
+  pub found : EachFound fs (map (substitute 0 (value_at ts)) us) places
 
 pub record AddsTerms (es : List GroundTerm) (ts us : List Term) (places : Option (List ℕ)) (fs : List GroundTerm) : Type 0 where
-  pub added : AddedTerms es (map (filled ts) us) fs
-  pub found : AreFound fs (map (filled ts) us) places
+  pub added : AddedTerms es (map (substitute 0 (value_at ts)) us) fs
+  pub found : AreFound fs (map (substitute 0 (value_at ts)) us) places

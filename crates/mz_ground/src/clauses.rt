@@ -1,5 +1,5 @@
 // Lists of clauses.
-ghost use Rattle.std.specs.Prelude.{◌≡◌, ◌<◌, [], ◌∷◌, ◌++◌, length, slice_get, Some, IfOk, OnOk, OnErr};
+ghost use Rattle.std.specs.Prelude.{◌≡◌, ◌<◌, [], ◌∷◌, ◌++◌, length, slice_get, take, Some, IfOk, OnOk, OnErr};
 
 use crate::clause::Clause;
 use std::alloc::{AllocError, Global};
@@ -47,6 +47,20 @@ impl Clauses {
         ensures { slice_get self.now index ≡ Some result.now }
     {
         &self.items[index]
+    }
+
+    /// The clauses.
+    pub fn as_slice(&self) -> &[Clause]
+        ensures { result.now ≡ self.now }
+    {
+        self.items.as_slice()
+    }
+
+    /// The first `count` clauses; all of them where there are no more.
+    pub fn first(&self, count: usize) -> &[Clause]
+        ensures { result.now ≡ take count self.now }
+    {
+        &self.items[..count.min(self.items.len())]
     }
 
     /// Puts a clause at the end.

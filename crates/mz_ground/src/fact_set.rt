@@ -3,7 +3,7 @@ ghost use Rattle.std.specs.Prelude.{◌≡◌, ◌<◌, true, length};
 ghost use Rattle.mz_logic.specs.declared.literal.Literal.TheVariants.{Eq};
 ghost use Rattle.mz_ground.specs.FactSet.{FactView, DecidesFact, DecidesContradiction};
 
-use crate::ground::Ground;
+use crate::ground_part::Ground;
 use mz_logic::literal::Literal;
 use mz_logic::term::Term;
 

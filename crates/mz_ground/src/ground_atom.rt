@@ -2,7 +2,7 @@
 ghost use Rattle.std.specs.Prelude.{◌≡◌, ◌↔◌, IsTrue, IfOk};
 ghost use Rattle.mz_ground.specs.Hash.{atom_hash};
 
-use crate::hash_places::{all_mixed, sym_mixed};
+use crate::hash_places::{hash_with_all, hash_with_symbol};
 use crate::places::Places;
 use mz_logic::sym::Sym;
 use std::alloc::{AllocError, Global};
@@ -26,7 +26,7 @@ impl GroundAtom {
     pub fn hash(&self) -> u64
         ensures { result ≡ atom_hash self.now }
     {
-        all_mixed(sym_mixed(0, self.sym), self.args.as_slice())
+        hash_with_all(hash_with_symbol(0, self.sym), self.args.as_slice())
     }
 
     /// An equal entry.

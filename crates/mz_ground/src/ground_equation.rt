@@ -2,7 +2,7 @@
 ghost use Rattle.std.specs.Prelude.{◌≡◌, ◌↔◌, IsTrue};
 ghost use Rattle.mz_ground.specs.Hash.{equation_hash};
 
-use crate::hash_places::mixed;
+use crate::hash_places::hash_with;
 
 /// A ground equation: both sides by their places in the list of ground terms.
 #[derive(Clone, Copy, Debug, PartialEq, Eq, PartialOrd, Ord, Hash)]
@@ -23,7 +23,7 @@ impl GroundEquation {
     pub fn hash(&self) -> u64
         ensures { result ≡ equation_hash self.now }
     {
-        mixed(mixed(2, self.left as u64), self.right as u64)
+        hash_with(hash_with(2, self.left as u64), self.right as u64)
     }
 
     /// An equal entry.

@@ -2,7 +2,7 @@
 ghost use Rattle.std.specs.Prelude.{◌≡◌, ◌↔◌, IsTrue, IfOk};
 ghost use Rattle.mz_ground.specs.Hash.{term_hash};
 
-use crate::hash_places::{all_mixed, mixed, sym_mixed};
+use crate::hash_places::{hash_with, hash_with_all, hash_with_symbol};
 use crate::places::Places;
 use mz_logic::sym::Sym;
 use std::alloc::{AllocError, Global};
@@ -34,8 +34,11 @@ impl GroundTerm {
         ensures { result ≡ term_hash self.now }
     {
         match self {
-            GroundTerm::Const(number) => mixed(0, u64::from(*number)),
-            GroundTerm::App { sym, args } => all_mixed(sym_mixed(1, *sym), args.as_slice()),
+            GroundTerm::Const(number) => hash_with(0, u64::from(*number)),
+            GroundTerm::App { sym, args } => hash_with_all(
+                hash_with_symbol(1, *sym),
+                args.as_slice(),
+            ),
         }
     }
 

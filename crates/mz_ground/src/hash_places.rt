@@ -1,7 +1,8 @@
-// Places by hashes, so that how long a look-up takes doesn't grow with the number of places.
+// Places by hashes: as long as the hashes of different items differ, how long a look-up takes doesn't grow with the
+// number of places.
 ghost use Rattle.std.specs.Prelude.{◌≡◌, ℕ, None, Some, OnOk, OnErr, if◌then◌else◌, nat_eq};
 ghost use Rattle.std.specs.Option.{option_copied};
-ghost use Rattle.mz_ground.specs.Hash.{mixed, all_mixed, sym_mixed, place_of};
+ghost use Rattle.mz_ground.specs.Hash.{hash_with, hash_with_all, hash_with_symbol, place_of};
 
 use mz_logic::sym::Sym;
 use std::alloc::{AllocError, Global};
@@ -41,29 +42,29 @@ impl HashPlaces {
 }
 
 /// A hash with one more number taken into it.
-#[tactic(auto, unfolding(crate::specs::Hash::mixed))]
-pub fn mixed(hash: u64, number: u64) -> u64
-    ensures { result ≡ mixed hash number }
+#[tactic(auto, unfolding(crate::specs::Hash::hash_with))]
+pub fn hash_with(hash: u64, number: u64) -> u64
+    ensures { result ≡ hash_with hash number }
 {
     hash.wrapping_mul(1_000_003).wrapping_add(number)
 }
 
 /// A hash with these numbers taken into it.
-pub fn all_mixed(hash: u64, numbers: &[usize]) -> u64
-    ensures { result ≡ all_mixed hash numbers.now }
+pub fn hash_with_all(hash: u64, numbers: &[usize]) -> u64
+    ensures { result ≡ hash_with_all hash numbers.now }
 {
     let mut all = hash;
     for number in numbers {
-        all = mixed(all, *number as u64);
+        all = hash_with(all, *number as u64);
     }
     all
 }
 
 /// A hash with a symbol taken into it.
-pub fn sym_mixed(hash: u64, s: Sym) -> u64
-    ensures { result ≡ sym_mixed hash s }
+pub fn hash_with_symbol(hash: u64, s: Sym) -> u64
+    ensures { result ≡ hash_with_symbol hash s }
 {
-    let named = mixed(hash, s.article);
-    let kinded = mixed(named, u64::from(s.kind.code()));
-    mixed(kinded, u64::from(s.number))
+    let named = hash_with(hash, s.article);
+    let kinded = hash_with(named, u64::from(s.kind.code()));
+    hash_with(kinded, u64::from(s.number))
 }

@@ -2,7 +2,8 @@
 ghost use Rattle.std.specs.Prelude.{◌↔◌, ◌<◌, ◌≤◌, ℕ, length, map, Contains, IsTrue};
 ghost use Rattle.mz_logic.specs.Term.{terms_of};
 ghost use Rattle.mz_ground.specs.Ground.{term_at};
-ghost use Rattle.mz_ground.specs.Instance.{filled, literal_filled, term_nodes, args_nodes, literal_nodes, literals_nodes, instance_nodes};
+ghost use Rattle.mz_logic.specs.Substitution.{substitute, value_at};
+ghost use Rattle.mz_ground.specs.Instance.{literal_at, term_nodes, args_nodes, literal_nodes, literals_nodes, instance_nodes};
 ghost use Rattle.mz_ground.specs.Layers.{most_nodes};
 ghost use Rattle.mz_ground.specs.Nodes.{IsSpent};
 ghost use Rattle.mz_ground.specs.Table.{IsTable, entry_terms};
@@ -34,12 +35,12 @@ impl GroundTerms {
         }
     }
 
-    // What is left of a number of nodes after those of the literals filled by the terms at the places.
+    // What is left of a number of nodes after those of the literals at the terms at the places.
     #[tactic(auto, using(crate::proofs::NodeLemmas::literals_rules))]
     fn after_literals(&self, args: &[usize], ls: &Literals, left: usize) -> Option<usize>
         requires table { IsTable self.now }
         requires args { (k : ℕ) → Contains args.now k → k < length self.now }
-        ensures { IsSpent left (literals_nodes (map (literal_filled (map (term_at (entry_terms self.now)) args.now)) ls.now)) result }
+        ensures { IsSpent left (literals_nodes (map (literal_at (map (term_at (entry_terms self.now)) args.now)) ls.now)) result }
     {
         let mut rest = left;
         for item in &ls.items {
@@ -55,7 +56,7 @@ impl GroundTerms {
     fn after_literal(&self, args: &[usize], l: &Literal, left: usize) -> Option<usize>
         requires table { IsTable self.now }
         requires args { (k : ℕ) → Contains args.now k → k < length self.now }
-        ensures { IsSpent left (literal_nodes (literal_filled (map (term_at (entry_terms self.now)) args.now) l.now)) result }
+        ensures { IsSpent left (literal_nodes (literal_at (map (term_at (entry_terms self.now)) args.now) l.now)) result }
     {
         if left == 0 {
             return None;
@@ -82,7 +83,7 @@ impl GroundTerms {
     fn after_term(&self, args: &[usize], t: &Term, left: usize) -> Option<usize>
         requires table { IsTable self.now }
         requires args { (k : ℕ) → Contains args.now k → k < length self.now }
-        ensures { IsSpent left (term_nodes (filled (map (term_at (entry_terms self.now)) args.now) t.now)) result }
+        ensures { IsSpent left (term_nodes (substitute 0 (value_at (map (term_at (entry_terms self.now)) args.now)) t.now)) result }
     {
         if left == 0 {
             return None;
@@ -102,7 +103,7 @@ impl GroundTerms {
     fn after_terms(&self, args: &[usize], us: &Terms, left: usize) -> Option<usize>
         requires table { IsTable self.now }
         requires args { (k : ℕ) → Contains args.now k → k < length self.now }
-        ensures { IsSpent left (args_nodes (terms_of (map (filled (map (term_at (entry_terms self.now)) args.now)) us.now))) result }
+        ensures { IsSpent left (args_nodes (terms_of (map (substitute 0 (value_at (map (term_at (entry_terms self.now)) args.now))) us.now))) result }
     {
         let mut rest = left;
         for u in &us.items {

@@ -3,11 +3,11 @@ ghost use Rattle.std.specs.Prelude.{◌≡◌, ◌<◌, ◌≤◌, length, IfOk}
 ghost use Rattle.mz_ground.specs.Heads.{head_hash, symbol_hash, AreByHash, AreFrom, AreTriggerPlaces, candidates};
 ghost use Rattle.mz_ground.specs.Instances.{IsSpan};
 
-use crate::ground::Ground;
 use crate::ground_atoms::GroundAtoms;
+use crate::ground_part::Ground;
 use crate::ground_term::GroundTerm;
 use crate::ground_terms::GroundTerms;
-use crate::hash_places::{mixed, sym_mixed};
+use crate::hash_places::{hash_with, hash_with_symbol};
 use crate::head_places::HeadPlaces;
 use crate::layer_end::LayerEnd;
 use crate::places::Places;
@@ -59,10 +59,10 @@ impl TriggerPlaces {
         match r {
             Trigger::Term(t) => match &t.node {
                 TermNode::Bound(_) => self.all.as_slice(),
-                TermNode::Const(number) => self.terms.get(mixed(0, u64::from(*number))),
-                TermNode::App(s, _) => self.terms.get(sym_mixed(1, *s)),
+                TermNode::Const(number) => self.terms.get(hash_with(0, u64::from(*number))),
+                TermNode::App(s, _) => self.terms.get(hash_with_symbol(1, *s)),
             },
-            Trigger::Atom(s, _) => self.atoms.get(sym_mixed(0, *s)),
+            Trigger::Atom(s, _) => self.atoms.get(hash_with_symbol(0, *s)),
         }
     }
 }
@@ -83,8 +83,8 @@ fn head_hash(t: &GroundTerm) -> u64
     ensures { result ≡ head_hash t.now }
 {
     match t {
-        GroundTerm::Const(number) => mixed(0, u64::from(*number)),
-        GroundTerm::App { sym, args: _ } => sym_mixed(1, *sym),
+        GroundTerm::Const(number) => hash_with(0, u64::from(*number)),
+        GroundTerm::App { sym, args: _ } => hash_with_symbol(1, *sym),
     }
 }
 
@@ -119,7 +119,7 @@ fn atom_places(
 {
     let mut places = HeadPlaces::new(alloc, end.saturating_sub(start))?;
     for k in start..end {
-        places.push(sym_mixed(0, atoms.get(k).sym), k)?;
+        places.push(hash_with_symbol(0, atoms.get(k).sym), k)?;
     }
     Ok(places)
 }

@@ -1,11 +1,11 @@
 // Ground parts worked out by hand.
 use mz_ground::clause::Clause;
 use mz_ground::clauses::Clauses;
-use mz_ground::ground::Ground;
+use mz_ground::ground::ground;
 use mz_ground::ground_atom::GroundAtom;
 use mz_ground::ground_fault::GroundFault;
+use mz_ground::ground_part::Ground;
 use mz_ground::ground_term::GroundTerm;
-use mz_ground::making::ground;
 use mz_ground::places::Places;
 use mz_ground::trigger::Trigger;
 use mz_logic::disjunct::Disjunct;
@@ -192,7 +192,7 @@ fn registrations_layer_by_layer(rt: HostRuntime) -> Result<(), Fail> {
     let alloc = rt.alloc();
     let (d, clauses) = registrations(alloc)?;
     assert!(rt; clauses.copy(alloc)?.len() == 5);
-    let g = ground(alloc, &d, &clauses)?;
+    let g = ground(alloc, &d, clauses.as_slice())?;
     assert!(rt; ends_are(&g, &ENDS));
     assert!(rt; ends_are(&g.copy(alloc)?, &ENDS));
     for (number, of_value, first) in ATOMS {
@@ -220,7 +220,7 @@ fn universals_and_equations(rt: HostRuntime) -> Result<(), Fail> {
         },
     )?;
     d.universals.push(Formula::all(alloc, body)?)?;
-    let g = ground(alloc, &d, &Clauses::new(alloc))?;
+    let g = ground(alloc, &d, &[])?;
     assert!(rt; ends_are(&g, &[(5, 1, 1), (5, 1, 1), (5, 1, 1), (5, 1, 1), (5, 1, 1)]));
     Ok(())
 }
@@ -246,7 +246,7 @@ fn constants(alloc: Global, count: u32) -> Result<Disjunct, AllocError> {
 fn as_many_terms_as_the_limit(rt: HostRuntime) -> Result<(), Fail> {
     let alloc = rt.alloc();
     let d = constants(alloc, 4095)?;
-    let g = ground(alloc, &d, &Clauses::new(alloc))?;
+    let g = ground(alloc, &d, &[])?;
     assert!(rt; g.terms.len() == 4096 && g.atoms.len() == 1);
     Ok(())
 }
@@ -256,7 +256,7 @@ fn as_many_terms_as_the_limit(rt: HostRuntime) -> Result<(), Fail> {
 fn one_term_more_than_the_limit(rt: HostRuntime) -> Result<(), Fail> {
     let alloc = rt.alloc();
     let d = constants(alloc, 4096)?;
-    let refused = ground(alloc, &d, &Clauses::new(alloc));
+    let refused = ground(alloc, &d, &[]);
     assert!(rt; matches!(refused, Err(GroundFault::TooManyTerms)));
     Ok(())
 }
@@ -284,10 +284,10 @@ fn pairs(alloc: Global, count: u32) -> Result<Disjunct, AllocError> {
 fn atoms_at_the_limit(rt: HostRuntime) -> Result<(), Fail> {
     let alloc = rt.alloc();
     let mut d = pairs(alloc, 128)?;
-    let g = ground(alloc, &d, &Clauses::new(alloc))?;
+    let g = ground(alloc, &d, &[])?;
     assert!(rt; g.terms.len() == 128 && g.atoms.len() == 16384);
     d.literals.push(says(alloc, 1, true, Term::constant(0))?)?;
-    let refused = ground(alloc, &d, &Clauses::new(alloc));
+    let refused = ground(alloc, &d, &[]);
     assert!(rt; matches!(refused, Err(GroundFault::TooManyAtoms)));
     Ok(())
 }
@@ -314,10 +314,10 @@ fn nodes_of_an_instance_at_the_limit(rt: HostRuntime) -> Result<(), Fail> {
     let d = disjunct(alloc, says(alloc, 0, true, Term::constant(1))?)?;
     let mut clauses = Clauses::new(alloc);
     add(&mut clauses, wide(alloc, 4096)?)?;
-    let g = ground(alloc, &d, &clauses)?;
+    let g = ground(alloc, &d, clauses.as_slice())?;
     assert!(rt; ends_are(&g, &[(2, 1, 0), (2, 1, 0), (2, 1, 0), (2, 1, 0), (2, 1, 0)]));
     add(&mut clauses, wide(alloc, 4095)?)?;
-    let g = ground(alloc, &d, &clauses)?;
+    let g = ground(alloc, &d, clauses.as_slice())?;
     assert!(rt; ends_are(&g, &[(2, 1, 0), (2, 2, 0), (2, 2, 0), (2, 2, 0), (2, 2, 0)]));
     Ok(())
 }
@@ -342,7 +342,7 @@ fn a_repeated_variable(rt: HostRuntime) -> Result<(), Fail> {
             args: two(alloc, Term::constant(left), Term::constant(2))?,
         })?;
     }
-    let g = ground(alloc, &d, &clauses)?;
+    let g = ground(alloc, &d, clauses.as_slice())?;
     assert!(rt; ends_are(&g, &[(3, 3, 0), (3, 4, 0), (3, 4, 0), (3, 4, 0), (3, 4, 0)]));
     Ok(())
 }

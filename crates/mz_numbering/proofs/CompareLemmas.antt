@@ -18,7 +18,7 @@ use Rattle.mz_ground.specs.declared.ground_atom.GroundAtom.{GroundAtom}
 use Rattle.mz_ground.specs.declared.ground_term.GroundTerm.{GroundTerm}
 use Rattle.mz_ground.specs.declared.ground_term.GroundTerm.TheVariants.{Const, App}
 use Rattle.mz_ground.proofs.TableLemmas.{table_read, entry_terms-length}
-use Rattle.mz_ground.specs.declared.ground.Ground.{Ground}
+use Rattle.mz_ground.specs.declared.ground_part.Ground.{Ground}
 use Rattle.mz_numbering.specs.Numbering.{option_atom_cmp}
 use Rattle.mz_numbering.specs.Entry.{symbol_in, constant_in, args_in}
 

@@ -1,11 +1,11 @@
 -- Layers of places, and places in their order.
-use Rattle.std.proofs.Common.{◌≡◌, ◌<◌, ◌≤◌, ◌+◌, ℕ, zero, suc, Bool, true, false, List, [], ◌∷◌, ◌++◌, map, length, drop, refl, ap, sym, ◌∙◌, subst, arith, add-one, drop-cons, get_or}
+use Rattle.std.proofs.Common.{◌≡◌, ◌<◌, ◌≤◌, ◌+◌, ℕ, zero, suc, Bool, List, [], ◌∷◌, ◌++◌, map, length, drop, refl, ap, sym, ◌∙◌, subst, arith, add-one, drop-cons, get_or}
 use Rattle.std.specs.Prelude.{slice_get, slice_index, Option, None, Some, nat_lt, if◌then◌else◌}
 use Rattle.std.proofs.lemmas.List.{drop_all}
 use Rattle.std.proofs.lemmas.Option.{slice_get_within, get_or_from_slice_get}
 use Rattle.std.proofs.lemmas.Bool.{lt-ltb, le-ltb}
 use Rattle.std.specs.declared.cmp.Ordering.{Ordering}
-use Rattle.std.specs.Ordering.{nat_cmp, on, is_lt}
+use Rattle.std.specs.Ordering.{on, is_lt}
 use Rattle.std.specs.Cmp.{IsTotalOrder, IsStrictWeakOrder}
 use Rattle.std.proofs.lemmas.Cmp.{then_total, on_total, nat_cmp_total}
 use Rattle.std.specs.List.Sorted.{IsSortedBy}
@@ -17,7 +17,7 @@ use denote.Ref.{Bor}
 use denote.Param.Members.{Mut}
 use Rattle.mz_logic.specs.Order.{term_cmp}
 use Rattle.mz_logic.proofs.OrderLemmas.{term_cmp_total, term_cmp-App}
-use Rattle.mz_ground.specs.declared.ground.Ground.{Ground}
+use Rattle.mz_ground.specs.declared.ground_part.Ground.{Ground}
 use Rattle.mz_ground.specs.declared.layer_end.LayerEnd.{LayerEnd}
 use Rattle.mz_ground.specs.declared.ground_atom.GroundAtom.{GroundAtom}
 use Rattle.mz_logic.specs.Term.{Term, Const, App, terms_of}

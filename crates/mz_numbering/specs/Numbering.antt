@@ -1,6 +1,6 @@
 -- Numbers of ground terms and atoms: layer by layer, and within a layer in the order derived from the declarations of terms
 -- and symbols.
-use Rattle.std.specs.Prelude.{ℕ, zero, suc, Bool, List, [], ◌∷◌, map, length, Option, None, Some, slice_get, nat_lt, if◌then◌else◌, IsPermutation}
+use Rattle.std.specs.Prelude.{ℕ, zero, suc, List, [], ◌∷◌, map, length, Option, None, Some, slice_get, nat_lt, if◌then◌else◌, IsPermutation}
 use Rattle.std.specs.declared.cmp.Ordering.{Ordering}
 use Rattle.std.specs.declared.cmp.Ordering.TheVariants.{Less, Equal, Greater}
 use Rattle.std.specs.Ordering.{nat_cmp, on, ordering_then, then_cmp, is_lt}
@@ -8,7 +8,7 @@ use Rattle.std.specs.List.Sorted.{IsSortedBy}
 use Rattle.mz_logic.specs.Order.{sym_cmp, term_cmp, terms_cmp}
 use Rattle.mz_logic.specs.Term.{Term}
 use Rattle.mz_ground.specs.Ground.{term_at, ground_terms}
-use Rattle.mz_ground.specs.declared.ground.Ground.{Ground}
+use Rattle.mz_ground.specs.declared.ground_part.Ground.{Ground}
 use Rattle.mz_ground.specs.declared.ground_atom.GroundAtom.{GroundAtom}
 use Rattle.mz_ground.specs.declared.layer_end.LayerEnd.{LayerEnd}
 use Rattle.mz_numbering.specs.declared.numbering.Numbering.{Numbering}

@@ -7,8 +7,8 @@ ghost use Rattle.mz_ground.specs.Table.{IsTable, entry_terms};
 ghost use Rattle.mz_numbering.specs.Numbering.{option_atom_cmp};
 
 use crate::entry::{args_at, constant_at, symbol_at};
-use mz_ground::ground::Ground;
 use mz_ground::ground_atom::GroundAtom;
+use mz_ground::ground_part::Ground;
 use mz_ground::ground_terms::GroundTerms;
 use mz_logic::order::compare_syms;
 use std::cmp::Ordering;

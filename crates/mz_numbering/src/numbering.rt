@@ -4,7 +4,7 @@ ghost use Rattle.mz_ground.specs.Growth.{IsNumbered};
 ghost use Rattle.mz_numbering.specs.Numbering.{terms_end, atoms_end, term_layer, atom_layer, term_place_cmp, atom_place_cmp, numbers_from, AreOrdered, IsNumbering};
 
 use crate::compare::{compare_atoms_at, compare_terms_at};
-use mz_ground::ground::Ground;
+use mz_ground::ground_part::Ground;
 use std::alloc::{AllocError, Global};
 use std::cmp::Ordering;
 

@@ -2,7 +2,7 @@
 use crate::numbering::numbering_of;
 use mz_ground::clause::Clause;
 use mz_ground::clauses::Clauses;
-use mz_ground::making::ground;
+use mz_ground::ground::ground;
 use mz_ground::trigger::Trigger;
 use mz_logic::disjunct::Disjunct;
 use mz_logic::formulas::Formulas;
@@ -66,7 +66,7 @@ fn places_by_numbers(rt: HostRuntime) {
     let mut clauses = Clauses::new(alloc);
     let clause = clause.expect(&rt, "its variable is in the trigger");
     clauses.push(clause).expect(&rt, "memory");
-    let g = ground(alloc, &d, &clauses).expect(&rt, "a ground part");
+    let g = ground(alloc, &d, clauses.as_slice()).expect(&rt, "a ground part");
     let numbers = numbering_of(alloc, &g).expect(&rt, "memory");
     assert_eq!(&rt; numbers.terms.as_slice(), [0usize, 3, 4, 1, 2].as_slice());
     assert_eq!(&rt; numbers.atoms.as_slice(), [2usize, 1, 0, 4, 3].as_slice());

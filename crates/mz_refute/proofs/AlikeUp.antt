@@ -11,7 +11,7 @@ use Rattle.mz_logic.specs.Formula as form
 use Rattle.mz_logic.specs.Formula.{Formula}
 use Rattle.mz_logic.specs.declared.disjunct.Disjunct.{Disjunct}
 use Rattle.mz_ground.specs.declared.clause.Clause.{Clause}
-use Rattle.mz_ground.specs.Piece.{Has, TermPiece, whole, in_atom, in_left, in_right, in_negation, in_first, in_second, in_body}
+use Rattle.mz_ground.specs.GroundExpression.{Has, TermExpression, whole, in_atom, in_left, in_right, in_negation, in_first, in_second, in_body}
 use Rattle.mz_ground.specs.Layers.{IsGroundTerm}
 use Rattle.mz_refute.specs.Valued.{IsValued}
 use Rattle.mz_refute.specs.Alike.{plain, AreAlike, as_written, in_value, one_index, one_symbol, AllAlike, no_terms, and_terms, AreAlikeFormulas, truths, equations, atoms, negations, conjunctions, universals}
@@ -155,7 +155,7 @@ list_up d cs class rows values i depth ts all vs us h k =
 
 -- each term without an index in the formula is ground
 abbrev pub FormulaFilled : Disjunct → List Clause → Formula → Type 0
-FormulaFilled d cs g = (v : Term) → Has g (TermPiece v) → closed v ≡ true → IsGroundTerm d cs v
+FormulaFilled d cs g = (v : Term) → Has g (TermExpression v) → closed v ≡ true → IsGroundTerm d cs v
 
 alike_eq : (d : Disjunct) (cs : List Clause) (x y z w : Term) → AreAlikeFormulas d cs (form.Eq x y) (form.Eq z w) → AreAlike d cs x z × AreAlike d cs y w
 alike_eq d cs x y z w (equations a b c e h k) = (h, k)
@@ -191,7 +191,7 @@ unfolding AlikeFormula
 formula_up d cs class rows values i depth ts all p (form.Not f) q g b e =
     formula_up d cs class rows values i depth ts all (not p) f q g b (subst (λ (x : Formula). AreAlikeFormulas d cs x (signed_plain q g)) (signed_not p (at_formula depth ts f)) e)
 formula_up d cs class rows values i depth ts all p form.Truth q (form.Not g) b e =
-    formula_up d cs class rows values i depth ts all p form.Truth (not q) g (λ v m. b v (in_negation g (TermPiece v) m)) (subst (λ (x : Formula). AreAlikeFormulas d cs (signed_plain p (at_formula depth ts form.Truth)) x) (signed_not q g) e)
+    formula_up d cs class rows values i depth ts all p form.Truth (not q) g (λ v m. b v (in_negation g (TermExpression v) m)) (subst (λ (x : Formula). AreAlikeFormulas d cs (signed_plain p (at_formula depth ts form.Truth)) x) (signed_not q g) e)
 formula_up d cs class rows values i depth ts all p form.Truth q form.Truth b e =
     let x = signed_parts d cs p q form.Truth form.Truth tt tt e in x.0
 formula_up d cs class rows values i depth ts all p form.Truth q (form.Eq v w) b e =
@@ -203,7 +203,7 @@ formula_up d cs class rows values i depth ts all p form.Truth q (form.And g k) b
 formula_up d cs class rows values i depth ts all p form.Truth q (form.All g) b e =
     let x = signed_parts d cs p q form.Truth (form.All (plain g)) tt tt e in let z = one_head d cs form.Truth (form.All (plain g)) x.1 in absurd (omega (arith, z))
 formula_up d cs class rows values i depth ts all p (form.Eq t u) q (form.Not g) b e =
-    formula_up d cs class rows values i depth ts all p (form.Eq t u) (not q) g (λ v m. b v (in_negation g (TermPiece v) m)) (subst (λ (x : Formula). AreAlikeFormulas d cs (signed_plain p (at_formula depth ts (form.Eq t u))) x) (signed_not q g) e)
+    formula_up d cs class rows values i depth ts all p (form.Eq t u) (not q) g (λ v m. b v (in_negation g (TermExpression v) m)) (subst (λ (x : Formula). AreAlikeFormulas d cs (signed_plain p (at_formula depth ts (form.Eq t u))) x) (signed_not q g) e)
 formula_up d cs class rows values i depth ts all p (form.Eq t u) q form.Truth b e =
     let x = signed_parts d cs p q (form.Eq (at_term depth ts t) (at_term depth ts u)) form.Truth tt tt e in let z = one_head d cs (form.Eq (at_term depth ts t) (at_term depth ts u)) form.Truth x.1 in absurd (omega (arith, z))
 formula_up d cs class rows values i depth ts all p (form.Eq t u) q (form.Eq v w) b e =
@@ -217,7 +217,7 @@ formula_up d cs class rows values i depth ts all p (form.Eq t u) q (form.And g k
 formula_up d cs class rows values i depth ts all p (form.Eq t u) q (form.All g) b e =
     let x = signed_parts d cs p q (form.Eq (at_term depth ts t) (at_term depth ts u)) (form.All (plain g)) tt tt e in let z = one_head d cs (form.Eq (at_term depth ts t) (at_term depth ts u)) (form.All (plain g)) x.1 in absurd (omega (arith, z))
 formula_up d cs class rows values i depth ts all p (form.Atom r vs) q (form.Not g) b e =
-    formula_up d cs class rows values i depth ts all p (form.Atom r vs) (not q) g (λ v m. b v (in_negation g (TermPiece v) m)) (subst (λ (x : Formula). AreAlikeFormulas d cs (signed_plain p (at_formula depth ts (form.Atom r vs))) x) (signed_not q g) e)
+    formula_up d cs class rows values i depth ts all p (form.Atom r vs) (not q) g (λ v m. b v (in_negation g (TermExpression v) m)) (subst (λ (x : Formula). AreAlikeFormulas d cs (signed_plain p (at_formula depth ts (form.Atom r vs))) x) (signed_not q g) e)
 formula_up d cs class rows values i depth ts all p (form.Atom r vs) q form.Truth b e =
     let x = signed_parts d cs p q (form.Atom r (map (at_term depth ts) vs)) form.Truth tt tt e in let z = one_head d cs (form.Atom r (map (at_term depth ts) vs)) form.Truth x.1 in absurd (omega (arith, z))
 formula_up d cs class rows values i depth ts all p (form.Atom r vs) q (form.Eq v w) b e =
@@ -231,7 +231,7 @@ formula_up d cs class rows values i depth ts all p (form.Atom r vs) q (form.And 
 formula_up d cs class rows values i depth ts all p (form.Atom r vs) q (form.All g) b e =
     let x = signed_parts d cs p q (form.Atom r (map (at_term depth ts) vs)) (form.All (plain g)) tt tt e in let z = one_head d cs (form.Atom r (map (at_term depth ts) vs)) (form.All (plain g)) x.1 in absurd (omega (arith, z))
 formula_up d cs class rows values i depth ts all p (form.And f m) q (form.Not g) b e =
-    formula_up d cs class rows values i depth ts all p (form.And f m) (not q) g (λ v m. b v (in_negation g (TermPiece v) m)) (subst (λ (x : Formula). AreAlikeFormulas d cs (signed_plain p (at_formula depth ts (form.And f m))) x) (signed_not q g) e)
+    formula_up d cs class rows values i depth ts all p (form.And f m) (not q) g (λ v m. b v (in_negation g (TermExpression v) m)) (subst (λ (x : Formula). AreAlikeFormulas d cs (signed_plain p (at_formula depth ts (form.And f m))) x) (signed_not q g) e)
 formula_up d cs class rows values i depth ts all p (form.And f m) q form.Truth b e =
     let x = signed_parts d cs p q (form.And (plain (at_formula depth ts f)) (plain (at_formula depth ts m))) form.Truth tt tt e in let z = one_head d cs (form.And (plain (at_formula depth ts f)) (plain (at_formula depth ts m))) form.Truth x.1 in absurd (omega (arith, z))
 formula_up d cs class rows values i depth ts all p (form.And f m) q (form.Eq v w) b e =
@@ -241,11 +241,11 @@ formula_up d cs class rows values i depth ts all p (form.And f m) q (form.Atom s
 formula_up d cs class rows values i depth ts all p (form.And f m) q (form.And g k) b e =
     let x = signed_parts d cs p q (form.And (plain (at_formula depth ts f)) (plain (at_formula depth ts m))) (form.And (plain g) (plain k)) tt tt e in
     let y = alike_and d cs (plain (at_formula depth ts f)) (plain (at_formula depth ts m)) (plain g) (plain k) x.1 in
-    (x.0, formula_up d cs class rows values i depth ts all true f true g (λ v m. b v (in_first g k (TermPiece v) m)) y.0, formula_up d cs class rows values i depth ts all true m true k (λ v m. b v (in_second g k (TermPiece v) m)) y.1)
+    (x.0, formula_up d cs class rows values i depth ts all true f true g (λ v m. b v (in_first g k (TermExpression v) m)) y.0, formula_up d cs class rows values i depth ts all true m true k (λ v m. b v (in_second g k (TermExpression v) m)) y.1)
 formula_up d cs class rows values i depth ts all p (form.And f m) q (form.All g) b e =
     let x = signed_parts d cs p q (form.And (plain (at_formula depth ts f)) (plain (at_formula depth ts m))) (form.All (plain g)) tt tt e in let z = one_head d cs (form.And (plain (at_formula depth ts f)) (plain (at_formula depth ts m))) (form.All (plain g)) x.1 in absurd (omega (arith, z))
 formula_up d cs class rows values i depth ts all p (form.All f) q (form.Not g) b e =
-    formula_up d cs class rows values i depth ts all p (form.All f) (not q) g (λ v m. b v (in_negation g (TermPiece v) m)) (subst (λ (x : Formula). AreAlikeFormulas d cs (signed_plain p (at_formula depth ts (form.All f))) x) (signed_not q g) e)
+    formula_up d cs class rows values i depth ts all p (form.All f) (not q) g (λ v m. b v (in_negation g (TermExpression v) m)) (subst (λ (x : Formula). AreAlikeFormulas d cs (signed_plain p (at_formula depth ts (form.All f))) x) (signed_not q g) e)
 formula_up d cs class rows values i depth ts all p (form.All f) q form.Truth b e =
     let x = signed_parts d cs p q (form.All (plain (at_formula (depth + 1) ts f))) form.Truth tt tt e in let z = one_head d cs (form.All (plain (at_formula (depth + 1) ts f))) form.Truth x.1 in absurd (omega (arith, z))
 formula_up d cs class rows values i depth ts all p (form.All f) q (form.Eq v w) b e =
@@ -256,4 +256,4 @@ formula_up d cs class rows values i depth ts all p (form.All f) q (form.And g k)
     let x = signed_parts d cs p q (form.All (plain (at_formula (depth + 1) ts f))) (form.And (plain g) (plain k)) tt tt e in let z = one_head d cs (form.All (plain (at_formula (depth + 1) ts f))) (form.And (plain g) (plain k)) x.1 in absurd (omega (arith, z))
 formula_up d cs class rows values i depth ts all p (form.All f) q (form.All g) b e =
     let x = signed_parts d cs p q (form.All (plain (at_formula (depth + 1) ts f))) (form.All (plain g)) tt tt e in
-    (x.0, formula_up d cs class rows values i (depth + 1) ts all true f true g (λ v m. b v (in_body g (TermPiece v) m)) (alike_all d cs (plain (at_formula (depth + 1) ts f)) (plain g) x.1))
+    (x.0, formula_up d cs class rows values i (depth + 1) ts all true f true g (λ v m. b v (in_body g (TermExpression v) m)) (alike_all d cs (plain (at_formula (depth + 1) ts f)) (plain g) x.1))

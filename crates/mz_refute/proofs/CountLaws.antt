@@ -7,13 +7,13 @@ use Rattle.mz_logic.specs.Term.{Term}
 use Rattle.mz_logic.specs.declared.literal.Literal.TheVariants.{Atom, Eq}
 use Rattle.mz_logic.specs.declared.disjunct.Disjunct.{Disjunct}
 use Rattle.mz_ground.specs.declared.clause.Clause.{Clause}
-use Rattle.mz_ground.specs.declared.ground.Ground.{Ground}
+use Rattle.mz_ground.specs.declared.ground_part.Ground.{Ground}
 use Rattle.mz_ground.specs.declared.ground_term.GroundTerm.{GroundTerm}
 use Rattle.mz_ground.specs.declared.ground_term.GroundTerm.TheVariants as node
 use Rattle.mz_ground.specs.declared.ground_atom.GroundAtom.{GroundAtom}
 use Rattle.mz_ground.specs.declared.ground_equation.GroundEquation.{GroundEquation}
-use Rattle.mz_ground.specs.Piece.{AtomPiece, EquationPiece}
-use Rattle.mz_ground.specs.Ground.{ground_terms, term_at, atom_piece, equation_piece}
+use Rattle.mz_ground.specs.GroundExpression.{AtomExpression, EquationExpression}
+use Rattle.mz_ground.specs.Ground.{ground_terms, term_at, atom_expression, equation_expression}
 use Rattle.mz_ground.specs.Facts.{Fact}
 use Rattle.mz_refute.specs.Counted.{IsCount}
 use Rattle.mz_refute.specs.Work.{IsSigned, IsApart}
@@ -255,14 +255,14 @@ all_counts h g classes positive negative apart f =
     let y = count-append h (atom_entries classes positive negative g.atoms) (equation_entries classes apart g.equations) in
     omega (arith, x, y, count_terms h f classes classes g.terms)
 
-one_atom : (ts : List Term) (s : Sym) (a b : GroundAtom) → of_symbol s a ≡ true → of_symbol s b ≡ true → atom_terms ts a ≡ atom_terms ts b → atom_piece ts a ≡ atom_piece ts b
+one_atom : (ts : List Term) (s : Sym) (a b : GroundAtom) → of_symbol s a ≡ true → of_symbol s b ≡ true → atom_terms ts a ≡ atom_terms ts b → atom_expression ts a ≡ atom_expression ts b
 one_atom ts s a b p q e =
     let x : a.sym ≡ s = same_sym-true a.sym s p in
     let y : b.sym ≡ s = same_sym-true b.sym s q in
-    λ i. AtomPiece ((x ∙ sym y) i) (e i)
+    λ i. AtomExpression ((x ∙ sym y) i) (e i)
 
-one_equation : (ts : List Term) (a b : GroundEquation) → any_equation a ≡ true → any_equation b ≡ true → equation_terms ts a ≡ equation_terms ts b → equation_piece ts a ≡ equation_piece ts b
-one_equation ts a b p q e = λ i. EquationPiece ((e i).0) ((e i).1)
+one_equation : (ts : List Term) (a b : GroundEquation) → any_equation a ≡ true → any_equation b ≡ true → equation_terms ts a ≡ equation_terms ts b → equation_expression ts a ≡ equation_expression ts b
+one_equation ts a b p q e = λ i. EquationExpression ((e i).0) ((e i).1)
 
 holds_from : (d : Disjunct) (cs : List Clause) (g : Ground) (classes : List ℕ) (positive negative apart : List Bool) → AreHeld d cs g classes positive negative apart → (s : Sym) (us : List Term) → Contains (picked (atom_terms (ground_terms g)) (of_symbol s) positive g.atoms) us → IsSigned d cs true s us
 holds_from d cs g classes positive negative apart h s us m =
@@ -286,7 +286,7 @@ holds_count d cs g classes positive negative apart h table k s =
     record {
       values = picked (atom_terms (ground_terms g)) (of_symbol s) positive g.atoms;
       members = λ us. (holds_from d cs g classes positive negative apart h s us, holds_to d cs g classes positive negative apart h s us);
-      distinct = picked_distinct (atom_terms (ground_terms g)) (of_symbol s) (atom_piece (ground_terms g)) positive g.atoms h.ground.distinct_atoms (one_atom (ground_terms g) s);
+      distinct = picked_distinct (atom_terms (ground_terms g)) (of_symbol s) (atom_expression (ground_terms g)) positive g.atoms h.ground.distinct_atoms (one_atom (ground_terms g) s);
       number = omega (arith, x, y, z, count_holds (ground_terms g) s classes positive negative g.atoms h.negative_count);
     }
 
@@ -312,7 +312,7 @@ fails_count d cs g classes positive negative apart h table k s =
     record {
       values = picked (atom_terms (ground_terms g)) (of_symbol s) negative g.atoms;
       members = λ us. (fails_from d cs g classes positive negative apart h s us, fails_to d cs g classes positive negative apart h s us);
-      distinct = picked_distinct (atom_terms (ground_terms g)) (of_symbol s) (atom_piece (ground_terms g)) negative g.atoms h.ground.distinct_atoms (one_atom (ground_terms g) s);
+      distinct = picked_distinct (atom_terms (ground_terms g)) (of_symbol s) (atom_expression (ground_terms g)) negative g.atoms h.ground.distinct_atoms (one_atom (ground_terms g) s);
       number = omega (arith, x, y, z, count_fails (ground_terms g) s classes positive negative g.atoms h.positive_count);
     }
 
@@ -320,7 +320,7 @@ apart_from : (d : Disjunct) (cs : List Clause) (g : Ground) (classes : List ℕ)
 apart_from d cs g classes positive negative apart h p m =
     let x = picked_found (equation_terms (ground_terms g)) any_equation apart g.equations (λ y. y ≡ p) (some_of_member (λ y. y ≡ p) (picked (equation_terms (ground_terms g)) any_equation apart g.equations) p m refl) in
     let f : Fact d cs (Eq false (term_at (ground_terms g) x.member.left) (term_at (ground_terms g) x.member.right)) = (h.differ x.place x.member x.at).0 x.has in
-    let c : Contains (map (equation_piece (ground_terms g)) g.equations) (equation_piece (ground_terms g) x.member) = get_member (map (equation_piece (ground_terms g)) g.equations) x.place (equation_piece (ground_terms g) x.member) (get_map (equation_piece (ground_terms g)) g.equations x.place x.member x.at) in
+    let c : Contains (map (equation_expression (ground_terms g)) g.equations) (equation_expression (ground_terms g) x.member) = get_member (map (equation_expression (ground_terms g)) g.equations) x.place (equation_expression (ground_terms g) x.member) (get_map (equation_expression (ground_terms g)) g.equations x.place x.member x.at) in
     let q : IsApart d cs (equation_terms (ground_terms g) x.member) = record { ground = has_equation d cs g h.ground (term_at (ground_terms g) x.member.left) (term_at (ground_terms g) x.member.right) c; fact = f } in
     subst (λ (y : Term × Term). IsApart d cs y) x.fact q
 
@@ -341,7 +341,7 @@ apart_count d cs g classes positive negative apart h table k =
     record {
       values = picked (equation_terms (ground_terms g)) any_equation apart g.equations;
       members = λ p. (apart_from d cs g classes positive negative apart h p, apart_to d cs g classes positive negative apart h p);
-      distinct = picked_distinct (equation_terms (ground_terms g)) any_equation (equation_piece (ground_terms g)) apart g.equations h.ground.distinct_equations (one_equation (ground_terms g));
+      distinct = picked_distinct (equation_terms (ground_terms g)) any_equation (equation_expression (ground_terms g)) apart g.equations h.ground.distinct_equations (one_equation (ground_terms g));
       number = omega (arith, x, y, z, count_differ (ground_terms g) classes apart g.equations);
     }
 

@@ -5,7 +5,7 @@ use Rattle.mz_logic.specs.declared.disjunct.Disjunct.{Disjunct}
 use Rattle.mz_ground.specs.Ground.{ground_terms}
 use Rattle.mz_ground.specs.FactSet.{FactView, HasFacts}
 use Rattle.mz_ground.specs.declared.clause.Clause.{Clause}
-use Rattle.mz_ground.specs.declared.ground.Ground.{Ground}
+use Rattle.mz_ground.specs.declared.ground_part.Ground.{Ground}
 use Rattle.mz_refute.specs.declared.answer.Answer.{Answer}
 use Rattle.mz_refute.specs.declared.fact_index.FactIndex.{FactIndex}
 use Rattle.mz_refute.specs.Answered.{IsAnswer}

@@ -6,12 +6,12 @@ use Rattle.mz_logic.specs.declared.sym.Sym.{Sym}
 use Rattle.mz_logic.specs.Term.{Term, App, terms_of}
 use Rattle.mz_logic.specs.declared.disjunct.Disjunct.{Disjunct}
 use Rattle.mz_ground.specs.declared.clause.Clause.{Clause}
-use Rattle.mz_ground.specs.declared.ground.Ground.{Ground}
+use Rattle.mz_ground.specs.declared.ground_part.Ground.{Ground}
 use Rattle.mz_ground.specs.declared.ground_term.GroundTerm.{GroundTerm}
 use Rattle.mz_ground.specs.declared.ground_term.GroundTerm.TheVariants as node
-use Rattle.mz_ground.specs.Piece.{Piece, AtomPiece, EquationPiece}
-use Rattle.mz_ground.specs.Layers.{IsGroundTerm, IsGroundPiece, further_layers}
-use Rattle.mz_ground.specs.Ground.{IsGround, ground_terms, terms_after, term_of_entry, term_at, term_or_zero, end_of, ground_atoms, ground_equations, atom_piece, equation_piece}
+use Rattle.mz_ground.specs.GroundExpression.{GroundExpression, AtomExpression, EquationExpression}
+use Rattle.mz_ground.specs.Layers.{IsGroundTerm, IsGroundExpression, further_layers}
+use Rattle.mz_ground.specs.Ground.{IsGround, ground_terms, terms_after, term_of_entry, term_at, term_or_zero, end_of, ground_atoms, ground_equations, atom_expression, equation_expression}
 use Rattle.mz_refute.specs.TermClass.{same_term, class_in}
 use Rattle.mz_refute.proofs.TermEquality.{same_term-true, same_term-self}
 use Rattle.mz_refute.proofs.ListLaws.{member_at, get_left, get_end, get_member, map_equal, distinct_places, distinct_rest}
@@ -83,22 +83,22 @@ length_map f [] = refl
 length_map f (x ∷ xs) = ap suc (length_map f xs)
 
 all_atoms : (d : Disjunct) (cs : List Clause) (g : Ground) → IsGround d cs g → take (end_of g further_layers).atoms (ground_atoms g) ≡ ground_atoms g
-all_atoms d cs g h = ap (λ e. take e.atoms (ground_atoms g)) h.all ∙ take_all (length g.atoms) (ground_atoms g) (omega (arith, length_map (atom_piece (ground_terms g)) g.atoms))
+all_atoms d cs g h = ap (λ e. take e.atoms (ground_atoms g)) h.all ∙ take_all (length g.atoms) (ground_atoms g) (omega (arith, length_map (atom_expression (ground_terms g)) g.atoms))
 
 all_equations : (d : Disjunct) (cs : List Clause) (g : Ground) → IsGround d cs g → take (end_of g further_layers).equations (ground_equations g) ≡ ground_equations g
-all_equations d cs g h = ap (λ e. take e.equations (ground_equations g)) h.all ∙ take_all (length g.equations) (ground_equations g) (omega (arith, length_map (equation_piece (ground_terms g)) g.equations))
+all_equations d cs g h = ap (λ e. take e.equations (ground_equations g)) h.all ∙ take_all (length g.equations) (ground_equations g) (omega (arith, length_map (equation_expression (ground_terms g)) g.equations))
 
-pub atom_has : (d : Disjunct) (cs : List Clause) (g : Ground) → IsGround d cs g → (s : Sym) (ts : List Term) → IsGroundPiece d cs (AtomPiece s ts) → Contains (ground_atoms g) (AtomPiece s ts)
-atom_has d cs g h s ts k = subst (λ (xs : List Piece). Contains xs (AtomPiece s ts)) (all_atoms d cs g h) ((h.atoms further_layers s ts (omega arith)).1 k)
+pub atom_has : (d : Disjunct) (cs : List Clause) (g : Ground) → IsGround d cs g → (s : Sym) (ts : List Term) → IsGroundExpression d cs (AtomExpression s ts) → Contains (ground_atoms g) (AtomExpression s ts)
+atom_has d cs g h s ts k = subst (λ (xs : List GroundExpression). Contains xs (AtomExpression s ts)) (all_atoms d cs g h) ((h.atoms further_layers s ts (omega arith)).1 k)
 
-pub has_atom : (d : Disjunct) (cs : List Clause) (g : Ground) → IsGround d cs g → (s : Sym) (ts : List Term) → Contains (ground_atoms g) (AtomPiece s ts) → IsGroundPiece d cs (AtomPiece s ts)
-has_atom d cs g h s ts k = (h.atoms further_layers s ts (omega arith)).0 (subst (λ (xs : List Piece). Contains xs (AtomPiece s ts)) (sym (all_atoms d cs g h)) k)
+pub has_atom : (d : Disjunct) (cs : List Clause) (g : Ground) → IsGround d cs g → (s : Sym) (ts : List Term) → Contains (ground_atoms g) (AtomExpression s ts) → IsGroundExpression d cs (AtomExpression s ts)
+has_atom d cs g h s ts k = (h.atoms further_layers s ts (omega arith)).0 (subst (λ (xs : List GroundExpression). Contains xs (AtomExpression s ts)) (sym (all_atoms d cs g h)) k)
 
-pub equation_has : (d : Disjunct) (cs : List Clause) (g : Ground) → IsGround d cs g → (t u : Term) → IsGroundPiece d cs (EquationPiece t u) → Contains (ground_equations g) (EquationPiece t u)
-equation_has d cs g h t u k = subst (λ (xs : List Piece). Contains xs (EquationPiece t u)) (all_equations d cs g h) ((h.equations further_layers t u (omega arith)).1 k)
+pub equation_has : (d : Disjunct) (cs : List Clause) (g : Ground) → IsGround d cs g → (t u : Term) → IsGroundExpression d cs (EquationExpression t u) → Contains (ground_equations g) (EquationExpression t u)
+equation_has d cs g h t u k = subst (λ (xs : List GroundExpression). Contains xs (EquationExpression t u)) (all_equations d cs g h) ((h.equations further_layers t u (omega arith)).1 k)
 
-pub has_equation : (d : Disjunct) (cs : List Clause) (g : Ground) → IsGround d cs g → (t u : Term) → Contains (ground_equations g) (EquationPiece t u) → IsGroundPiece d cs (EquationPiece t u)
-has_equation d cs g h t u k = (h.equations further_layers t u (omega arith)).0 (subst (λ (xs : List Piece). Contains xs (EquationPiece t u)) (sym (all_equations d cs g h)) k)
+pub has_equation : (d : Disjunct) (cs : List Clause) (g : Ground) → IsGround d cs g → (t u : Term) → Contains (ground_equations g) (EquationExpression t u) → IsGroundExpression d cs (EquationExpression t u)
+has_equation d cs g h t u k = (h.equations further_layers t u (omega arith)).0 (subst (λ (xs : List GroundExpression). Contains xs (EquationExpression t u)) (sym (all_equations d cs g h)) k)
 
 -- the class of a term at a place
 if_same : (b : Bool) (x y : ℕ) → b ≡ true → (if b then x else y) ≡ x

@@ -7,7 +7,7 @@ use Rattle.mz_logic.specs.Formula.{Formula}
 use Rattle.mz_logic.specs.declared.literal.Literal.TheVariants.{Atom}
 use Rattle.mz_logic.specs.declared.disjunct.Disjunct.{Disjunct}
 use Rattle.mz_ground.specs.declared.clause.Clause.{Clause}
-use Rattle.mz_ground.specs.Facts.{turned}
+use Rattle.mz_ground.specs.Facts.{reversed}
 use Rattle.mz_refute.specs.Refuted.{IsRefuted, falsity, atom, equation, disequation, negation, first, second, both, at_term, listed}
 use Rattle.mz_search.specs.declared.row.Head.{Head}
 use Rattle.mz_search.specs.declared.row.Head.TheVariants.{Holds, Fails}
@@ -30,7 +30,7 @@ refuted_down d cs class rows values h false form.Truth a ts all k = falsity
 refuted_down d cs class rows values h true (form.Eq t u) a ts all k =
     elim k [
       | inl x ↦ let y = sides_down d cs class rows values h a ts all t u x in equation (at.at_term 0 ts t) (at.at_term 0 ts u) y.v y.w y.left y.right y.fact
-      | inr x ↦ let y = sides_down d cs class rows values h a ts all u t x in equation (at.at_term 0 ts t) (at.at_term 0 ts u) y.w y.v y.right y.left (turned y.v y.w y.fact)
+      | inr x ↦ let y = sides_down d cs class rows values h a ts all u t x in equation (at.at_term 0 ts t) (at.at_term 0 ts u) y.w y.v y.right y.left (reversed y.v y.w y.fact)
     ]
 refuted_down d cs class rows values h false (form.Eq t u) a ts all k =
     let x = equal_down d cs class rows values h a ts all t u k in

@@ -22,7 +22,7 @@ use Rattle.mz_logic.proofs.Congruence.{atom_congruence, application_congruence}
 use Rattle.mz_logic.proofs.Equivalence.{same_derives}
 use Rattle.mz_ground.specs.declared.clause.Clause.{Clause}
 use Rattle.mz_ground.specs.Laws.{IsGranted}
-use Rattle.mz_ground.proofs.FactsSound.{piece_closed-InLayer, literal_closed-Fact, sides, closed_args, fact_derives, contradiction_derives}
+use Rattle.mz_ground.proofs.FactsSound.{expression_closed-InLayer, literal_closed-Fact, sides, closed_args, fact_derives, contradiction_derives}
 use Rattle.mz_refute.specs.Valued as valued
 use Rattle.mz_refute.specs.Valued.{IsValued, AreValued}
 use Rattle.mz_refute.specs.Alike as alike
@@ -40,7 +40,7 @@ value_closed d cs v t (valued.by_arguments s ts us w vs i f) = (sides (App s (te
 
 mutual
   pub valued_closed : (d : Disjunct) (cs : List Clause) (t v : Term) → IsValued d cs t v → closed t ≡ true
-  valued_closed d cs t v (valued.as_ground u w i f) = piece_closed-InLayer d cs _ _ i
+  valued_closed d cs t v (valued.as_ground u w i f) = expression_closed-InLayer d cs _ _ i
   valued_closed d cs t v (valued.by_arguments s ts us w vs i f) = rw (args_below-terms_of 0 ts) (all_valued_closed d cs ts us vs)
 
   pub all_valued_closed : (d : Disjunct) (cs : List Clause) (ts vs : List Term) → AreValued d cs ts vs → list_all closed ts ≡ true
@@ -58,7 +58,7 @@ mutual
   value_derives ax g d cs h t v (valued.by_arguments s ts us w vs i f) =
       let a : Term = App s (terms_of ts) in
       let b : Term = App s (terms_of us) in
-      let cb : closed b ≡ true = piece_closed-InLayer d cs _ _ i in
+      let cb : closed b ≡ true = expression_closed-InLayer d cs _ _ i in
       let cw : closed w ≡ true = (sides b w (literal_closed-Fact d cs _ f)).1 in
       let e : Derives ax g (formula.Eq a b) = application_congruence ax g s ts us (all_valued_closed d cs ts us vs) (closed_args s us cb) (values_derive ax g d cs h ts us vs) in
       connectives.chained ax g a b w cb cw e (fact_derives ax g d cs h (Eq true b w) f)
@@ -197,7 +197,7 @@ refuted_derives ax g d cs h u p f (refuted.both k l r q) = and_in ax g k l (refu
 refuted_derives ax g d cs h u p f (refuted.at_term b t i r) =
     let a : Formula = All b in
     let at : Formula = body_at b t in
-    not_in ax g a (not_out ax (a ∷ g) at falsity (all_out ax (a ∷ g) b t (piece_closed-InLayer d cs _ _ i) (first ax g a)) (under ax g a (Not at) (refuted_derives ax g d cs h u true at r)))
+    not_in ax g a (not_out ax (a ∷ g) at falsity (all_out ax (a ∷ g) b t (expression_closed-InLayer d cs _ _ i) (first ax g a)) (under ax g a (Not at) (refuted_derives ax g d cs h u true at r)))
 refuted_derives ax g d cs h u p f (refuted.listed b k c a) = listed_derives ax g d cs h (All b) k a (u k c)
 
 -- falsity derives from a closed disjunct

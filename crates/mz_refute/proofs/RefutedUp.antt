@@ -8,7 +8,7 @@ use Rattle.mz_logic.specs.Formula.{Formula}
 use Rattle.mz_logic.specs.declared.literal.Literal.TheVariants.{Atom}
 use Rattle.mz_logic.specs.declared.disjunct.Disjunct.{Disjunct}
 use Rattle.mz_ground.specs.declared.clause.Clause.{Clause}
-use Rattle.mz_ground.specs.Piece.{TermPiece}
+use Rattle.mz_ground.specs.GroundExpression.{TermExpression}
 use Rattle.mz_ground.specs.Layers.{of_universal, earlier}
 use Rattle.mz_ground.specs.Facts.{Fact}
 use Rattle.mz_refute.specs.Valued.{AreValued}
@@ -30,7 +30,7 @@ use Rattle.mz_refute.proofs.AlikeUp.{formula_up, FormulaFilled}
 
 -- the terms of a listed universal that have no index are ground
 pub universal_filled : (d : Disjunct) (cs : List Clause) (u : Formula) → Contains d.universals u → FormulaFilled d cs u
-universal_filled d cs u m v h c = earlier 3 (TermPiece v) (earlier 2 (TermPiece v) (earlier 1 (TermPiece v) (earlier 0 (TermPiece v) (of_universal u (TermPiece v) m h c))))
+universal_filled d cs u m v h c = earlier 3 (TermExpression v) (earlier 2 (TermExpression v) (earlier 1 (TermExpression v) (earlier 0 (TermExpression v) (of_universal u (TermExpression v) m h c))))
 
 -- some member by a member
 some_at : {X : Type 0} (P : X → Type 0) (xs : List X) (x : X) (k : ℕ) → k < length xs → slice_index_or xs k x ≡ x → P x → SomeOf P xs

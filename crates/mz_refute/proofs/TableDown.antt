@@ -11,7 +11,7 @@ use Rattle.mz_logic.specs.declared.literal.Literal.TheVariants.{Eq}
 use Rattle.mz_logic.specs.declared.disjunct.Disjunct.{Disjunct}
 use Rattle.mz_ground.specs.declared.clause.Clause.{Clause}
 use Rattle.mz_ground.specs.Layers.{IsGroundTerm}
-use Rattle.mz_ground.specs.Facts.{Fact, itself}
+use Rattle.mz_ground.specs.Facts.{Fact, reflexive}
 use Rattle.mz_refute.specs.Valued.{IsValued, AreValued, by_arguments, no_values, and_values}
 use Rattle.mz_search.specs.declared.row.Head.{Head}
 use Rattle.mz_search.specs.declared.row.Head.TheVariants.{Constant, Functor, Differ}
@@ -87,7 +87,7 @@ mutual
       let ws : List Term = m.0 in
       let vs : AreValued d cs (map (at_term depth ts) (list_of us)) ws = vals_down d cs class rows values h depth a ts all us ws (parts_ground d cs s ws m.1) (subst (λ (ns : List ℕ). Vals rows depth a us ns) m.2 x.1.1.1) in
       let w : Term = App s (terms_of ws) in
-      let y : IsValued d cs (App s (terms_of (map (at_term depth ts) (list_of us)))) w = by_arguments s (map (at_term depth ts) (list_of us)) ws w vs m.1 (itself w m.1) in
+      let y : IsValued d cs (App s (terms_of (map (at_term depth ts) (list_of us)))) w = by_arguments s (map (at_term depth ts) (list_of us)) ws w vs m.1 (reflexive w m.1) in
       record { value = w; ground = m.1; is = m.3 ∙ eqb-true x.0.value v x.1.1.0; valued = subst (λ (xs : Terms). IsValued d cs (App s xs) w) (sym (at_list depth ts us)) y }
 
   pub vals_down : (d : Disjunct) (cs : List Clause) (class : Term → ℕ) (rows : Head → List Row) (values : List ℕ) → IsTabled d cs class rows values → (depth : ℕ) (a : List ℕ) (ts : List Term) → AllStand d cs class a ts → (us : Terms) (ws : List Term) → AllGround d cs ws → Vals rows depth a us (map class ws) → AreValued d cs (map (at_term depth ts) (list_of us)) ws

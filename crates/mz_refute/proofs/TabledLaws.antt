@@ -8,15 +8,15 @@ use Rattle.mz_logic.specs.declared.literal.Literal.{Literal}
 use Rattle.mz_logic.specs.declared.literal.Literal.TheVariants.{Atom, Eq}
 use Rattle.mz_logic.specs.declared.disjunct.Disjunct.{Disjunct}
 use Rattle.mz_ground.specs.declared.clause.Clause.{Clause}
-use Rattle.mz_ground.specs.declared.ground.Ground.{Ground}
+use Rattle.mz_ground.specs.declared.ground_part.Ground.{Ground}
 use Rattle.mz_ground.specs.declared.ground_term.GroundTerm.{GroundTerm}
 use Rattle.mz_ground.specs.declared.ground_term.GroundTerm.TheVariants as node
 use Rattle.mz_ground.specs.declared.ground_atom.GroundAtom.{GroundAtom}
 use Rattle.mz_ground.specs.declared.ground_equation.GroundEquation.{GroundEquation}
-use Rattle.mz_ground.specs.Piece.{TermPiece, AtomPiece, EquationPiece}
-use Rattle.mz_ground.specs.Layers.{first_constant, earlier, IsGroundTerm, IsGroundPiece, IsGroundLiteral}
-use Rattle.mz_ground.specs.Ground.{ground_terms, term_of_entry, term_at, ground_atoms, ground_equations, atom_piece, equation_piece}
-use Rattle.mz_ground.specs.Facts.{Fact, given, itself, exchanged, chained, alike, carried, turned, fired}
+use Rattle.mz_ground.specs.GroundExpression.{TermExpression, AtomExpression, EquationExpression}
+use Rattle.mz_ground.specs.Layers.{first_constant, earlier, IsGroundTerm, IsGroundExpression, IsGroundLiteral}
+use Rattle.mz_ground.specs.Ground.{ground_terms, term_of_entry, term_at, ground_atoms, ground_equations, atom_expression, equation_expression}
+use Rattle.mz_ground.specs.Facts.{Fact, given, reflexive, symmetric, transitive, congruent, atom_congruence, reversed, fired}
 use Rattle.mz_refute.specs.Entries.{Entry, term_entry, term_entries, atom_entries, equation_entries, row_pair, HasEntries}
 use Rattle.mz_refute.specs.Held.{AreHeld, entries_of}
 use Rattle.mz_search.specs.Heads.{same_head}
@@ -37,32 +37,32 @@ use Rattle.mz_refute.proofs.GroundLaws.{equal_ground}
 use Rattle.mz_refute.proofs.RefutedUp.{some_of_member}
 
 -- facts of atoms and disequations are of ground ones
-atom_fact : (d : Disjunct) (cs : List Clause) (l : Literal) → Fact d cs l → (p : Bool) (s : Sym) (ts : List Term) → l ≡ Atom p s ts → IsGroundPiece d cs (AtomPiece s ts)
+atom_fact : (d : Disjunct) (cs : List Clause) (l : Literal) → Fact d cs l → (p : Bool) (s : Sym) (ts : List Term) → l ≡ Atom p s ts → IsGroundExpression d cs (AtomExpression s ts)
 atom_fact d cs l (given k c g) p s ts e = subst (λ (x : Literal). IsGroundLiteral d cs x) e g
-atom_fact d cs l (itself t g) p s ts e = cc
-atom_fact d cs l (exchanged t u f) p s ts e = cc
-atom_fact d cs l (chained t u v f g) p s ts e = cc
-atom_fact d cs l (alike r vs us g h k) p s ts e = cc
-atom_fact d cs l (carried q r vs us f g k) p s ts e = subst (λ (x : Literal). IsGroundLiteral d cs x) e g
-atom_fact d cs l (turned t u f) p s ts e = cc
+atom_fact d cs l (reflexive t g) p s ts e = cc
+atom_fact d cs l (symmetric t u f) p s ts e = cc
+atom_fact d cs l (transitive t u v f g) p s ts e = cc
+atom_fact d cs l (congruent r vs us g h k) p s ts e = cc
+atom_fact d cs l (atom_congruence q r vs us f g k) p s ts e = subst (λ (x : Literal). IsGroundLiteral d cs x) e g
+atom_fact d cs l (reversed t u f) p s ts e = cc
 atom_fact d cs l (fired c vs a b k g h i) p s ts e = subst (λ (x : Literal). IsGroundLiteral d cs x) e h
 
-pub fact_atom : (d : Disjunct) (cs : List Clause) (p : Bool) (s : Sym) (ts : List Term) → Fact d cs (Atom p s ts) → IsGroundPiece d cs (AtomPiece s ts)
+pub fact_atom : (d : Disjunct) (cs : List Clause) (p : Bool) (s : Sym) (ts : List Term) → Fact d cs (Atom p s ts) → IsGroundExpression d cs (AtomExpression s ts)
 fact_atom d cs p s ts f = atom_fact d cs (Atom p s ts) f p s ts refl
 
-differ_fact : (d : Disjunct) (cs : List Clause) (l : Literal) → Fact d cs l → (v w : Term) → l ≡ Eq false v w → IsGroundPiece d cs (EquationPiece v w) ⊎ IsGroundPiece d cs (EquationPiece w v)
+differ_fact : (d : Disjunct) (cs : List Clause) (l : Literal) → Fact d cs l → (v w : Term) → l ≡ Eq false v w → IsGroundExpression d cs (EquationExpression v w) ⊎ IsGroundExpression d cs (EquationExpression w v)
 differ_fact d cs l (given k c g) v w e = inl (subst (λ (x : Literal). IsGroundLiteral d cs x) e g)
-differ_fact d cs l (itself t g) v w e = cc
-differ_fact d cs l (exchanged t u f) v w e = cc
-differ_fact d cs l (chained t u x f g) v w e = cc
-differ_fact d cs l (alike r vs us g h k) v w e = cc
-differ_fact d cs l (carried q r vs us f g k) v w e = cc
-differ_fact d cs l (turned t u f) v w e =
+differ_fact d cs l (reflexive t g) v w e = cc
+differ_fact d cs l (symmetric t u f) v w e = cc
+differ_fact d cs l (transitive t u x f g) v w e = cc
+differ_fact d cs l (congruent r vs us g h k) v w e = cc
+differ_fact d cs l (atom_congruence q r vs us f g k) v w e = cc
+differ_fact d cs l (reversed t u f) v w e =
     let p : u ≡ v = cc in
     let q : t ≡ w = cc in
     elim (differ_fact d cs (Eq false t u) f t u refl) [
-      | inl a ↦ inr (subst (λ (x : Term). IsGroundPiece d cs (EquationPiece w x)) p (subst (λ (x : Term). IsGroundPiece d cs (EquationPiece x u)) q a))
-      | inr a ↦ inl (subst (λ (x : Term). IsGroundPiece d cs (EquationPiece v x)) q (subst (λ (x : Term). IsGroundPiece d cs (EquationPiece x t)) p a))
+      | inl a ↦ inr (subst (λ (x : Term). IsGroundExpression d cs (EquationExpression w x)) p (subst (λ (x : Term). IsGroundExpression d cs (EquationExpression x u)) q a))
+      | inr a ↦ inl (subst (λ (x : Term). IsGroundExpression d cs (EquationExpression v x)) q (subst (λ (x : Term). IsGroundExpression d cs (EquationExpression x t)) p a))
     ]
 differ_fact d cs l (fired c vs a b k g h i) v w e = inl (subst (λ (x : Literal). IsGroundLiteral d cs x) e h)
 
@@ -241,11 +241,11 @@ pub record AtomPlace (g : Ground) (s : Sym) (us : List Term) : Type 0 where
   pub sym_is : atom.sym ≡ s
   pub args_are : map (term_at (ground_terms g)) atom.args ≡ us
 
-pub atom_place : (d : Disjunct) (cs : List Clause) (g : Ground) (classes : List ℕ) (positive negative apart : List Bool) → AreHeld d cs g classes positive negative apart → (s : Sym) (us : List Term) → IsGroundPiece d cs (AtomPiece s us) → AtomPlace g s us
+pub atom_place : (d : Disjunct) (cs : List Clause) (g : Ground) (classes : List ℕ) (positive negative apart : List Bool) → AreHeld d cs g classes positive negative apart → (s : Sym) (us : List Term) → IsGroundExpression d cs (AtomExpression s us) → AtomPlace g s us
 atom_place d cs g classes positive negative apart h s us k =
     let m = atom_has d cs g h.ground s us k in
-    let x = map_get (atom_piece (ground_terms g)) g.atoms m.0 (AtomPiece s us) (member_get (ground_atoms g) (AtomPiece s us) m) in
-    let e : AtomPiece x.member.sym (map (term_at (ground_terms g)) x.member.args) ≡ AtomPiece s us = x.is in
+    let x = map_get (atom_expression (ground_terms g)) g.atoms m.0 (AtomExpression s us) (member_get (ground_atoms g) (AtomExpression s us) m) in
+    let e : AtomExpression x.member.sym (map (term_at (ground_terms g)) x.member.args) ≡ AtomExpression s us = x.is in
     record { place = m.0; atom = x.member; at = x.at; sym_is = cc; args_are = cc }
 
 holds_rows : (d : Disjunct) (cs : List Clause) (g : Ground) (classes : List ℕ) (positive negative apart : List Bool) → AreHeld d cs g classes positive negative apart → (table : Table) → HasEntries table (entries_of g classes positive negative apart) → (s : Sym) (us : List Term) → Fact d cs (Atom true s us) → SomeOf (λ r. r.args.items ≡ map (class_in (ground_terms g) classes) us) (rows_of table (Holds s))
@@ -276,14 +276,14 @@ pub record EquationPlace (g : Ground) (v w : Term) : Type 0 where
   pub left_is : term_at (ground_terms g) equation.left ≡ v
   pub right_is : term_at (ground_terms g) equation.right ≡ w
 
-pub equation_place : (d : Disjunct) (cs : List Clause) (g : Ground) (classes : List ℕ) (positive negative apart : List Bool) → AreHeld d cs g classes positive negative apart → (v w : Term) → IsGroundPiece d cs (EquationPiece v w) → EquationPlace g v w
+pub equation_place : (d : Disjunct) (cs : List Clause) (g : Ground) (classes : List ℕ) (positive negative apart : List Bool) → AreHeld d cs g classes positive negative apart → (v w : Term) → IsGroundExpression d cs (EquationExpression v w) → EquationPlace g v w
 equation_place d cs g classes positive negative apart h v w k =
     let m = equation_has d cs g h.ground v w k in
-    let x = map_get (equation_piece (ground_terms g)) g.equations m.0 (EquationPiece v w) (member_get (ground_equations g) (EquationPiece v w) m) in
-    let e : EquationPiece (term_at (ground_terms g) x.member.left) (term_at (ground_terms g) x.member.right) ≡ EquationPiece v w = x.is in
+    let x = map_get (equation_expression (ground_terms g)) g.equations m.0 (EquationExpression v w) (member_get (ground_equations g) (EquationExpression v w) m) in
+    let e : EquationExpression (term_at (ground_terms g) x.member.left) (term_at (ground_terms g) x.member.right) ≡ EquationExpression v w = x.is in
     record { place = m.0; equation = x.member; at = x.at; left_is = cc; right_is = cc }
 
-differ_row : (d : Disjunct) (cs : List Clause) (g : Ground) (classes : List ℕ) (positive negative apart : List Bool) → AreHeld d cs g classes positive negative apart → (table : Table) → HasEntries table (entries_of g classes positive negative apart) → (v w : Term) → IsGroundPiece d cs (EquationPiece v w) → Fact d cs (Eq false v w) → SomeOf (λ r. r.args.items ≡ class_in (ground_terms g) classes v ∷ class_in (ground_terms g) classes w ∷ []) (rows_of table Differ)
+differ_row : (d : Disjunct) (cs : List Clause) (g : Ground) (classes : List ℕ) (positive negative apart : List Bool) → AreHeld d cs g classes positive negative apart → (table : Table) → HasEntries table (entries_of g classes positive negative apart) → (v w : Term) → IsGroundExpression d cs (EquationExpression v w) → Fact d cs (Eq false v w) → SomeOf (λ r. r.args.items ≡ class_in (ground_terms g) classes v ∷ class_in (ground_terms g) classes w ∷ []) (rows_of table Differ)
 differ_row d cs g classes positive negative apart h table k v w c f =
     let a = equation_place d cs g classes positive negative apart h v w c in
     let l : Term = term_at (ground_terms g) a.equation.left in
@@ -297,7 +297,7 @@ differ_row d cs g classes positive negative apart h table k v w c f =
 
 differ_rows : (d : Disjunct) (cs : List Clause) (g : Ground) (classes : List ℕ) (positive negative apart : List Bool) → AreHeld d cs g classes positive negative apart → (table : Table) → HasEntries table (entries_of g classes positive negative apart) → (v w : Term) → Fact d cs (Eq false v w) → SomeOf (λ r. r.args.items ≡ class_in (ground_terms g) classes v ∷ class_in (ground_terms g) classes w ∷ []) (rows_of table Differ) ⊎ SomeOf (λ r. r.args.items ≡ class_in (ground_terms g) classes w ∷ class_in (ground_terms g) classes v ∷ []) (rows_of table Differ)
 differ_rows d cs g classes positive negative apart h table k v w f =
-    elim (differ_fact d cs (Eq false v w) f v w refl) [ inl a ↦ inl (differ_row d cs g classes positive negative apart h table k v w a f) | inr a ↦ inr (differ_row d cs g classes positive negative apart h table k w v a (turned v w f)) ]
+    elim (differ_fact d cs (Eq false v w) f v w refl) [ inl a ↦ inl (differ_row d cs g classes positive negative apart h table k v w a f) | inr a ↦ inr (differ_row d cs g classes positive negative apart h table k w v a (reversed v w f)) ]
 
 -- values
 value_has : (d : Disjunct) (cs : List Clause) (g : Ground) (classes : List ℕ) (positive negative apart : List Bool) → AreHeld d cs g classes positive negative apart → (t : Term) → IsGroundTerm d cs t → SomeOf (λ v. v ≡ class_in (ground_terms g) classes t) classes
@@ -317,7 +317,7 @@ term_of d cs g classes positive negative apart h k v e =
     record { term = m.member; ground = place_ground d cs g h.ground k m.member m.at; is = p.class ∙ get_index classes k v e }
 
 zero_ground : (d : Disjunct) (cs : List Clause) → IsGroundTerm d cs (Const 0)
-zero_ground d cs = earlier 3 (TermPiece (Const 0)) (earlier 2 (TermPiece (Const 0)) (earlier 1 (TermPiece (Const 0)) (earlier 0 (TermPiece (Const 0)) first_constant)))
+zero_ground d cs = earlier 3 (TermExpression (Const 0)) (earlier 2 (TermExpression (Const 0)) (earlier 1 (TermExpression (Const 0)) (earlier 0 (TermExpression (Const 0)) first_constant)))
 
 no_term : (d : Disjunct) (cs : List Clause) (g : Ground) (classes : List ℕ) (positive negative apart : List Bool) → AreHeld d cs g classes positive negative apart → (v : ℕ) → ((k : ℕ) → slice_get classes k ≡ Some v → ⊥) → (u : Term) → IsGroundTerm d cs u → class_in (ground_terms g) classes u ≡ v → ⊥
 no_term d cs g classes positive negative apart h v f u a e =

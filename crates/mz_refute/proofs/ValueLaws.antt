@@ -8,20 +8,20 @@ use Rattle.mz_logic.specs.Indices.{closed, args_below}
 use Rattle.mz_logic.specs.declared.literal.Literal.TheVariants.{Eq}
 use Rattle.mz_logic.specs.declared.disjunct.Disjunct.{Disjunct}
 use Rattle.mz_ground.specs.declared.clause.Clause.{Clause}
-use Rattle.mz_ground.specs.Piece.{IsWithin, whole, argument}
+use Rattle.mz_ground.specs.GroundExpression.{IsWithin, whole, argument}
 use Rattle.mz_ground.specs.Layers.{IsGroundTerm}
-use Rattle.mz_ground.specs.Facts.{Fact, itself, exchanged, chained, alike, AreEqual}
+use Rattle.mz_ground.specs.Facts.{Fact, reflexive, symmetric, transitive, congruent, AreEqual}
 use Rattle.mz_ground.specs.Facts as facts
 use Rattle.mz_refute.specs.Valued.{IsValued, as_ground, by_arguments, AreValued, no_values, and_values}
 use Rattle.mz_refute.specs.Alike.{AreAlike, as_written, in_value, one_index, one_symbol, AllAlike, no_terms, and_terms}
 use Rattle.mz_refute.proofs.GroundLaws.{both_left, both_right, member_head, member_tail, ground_closed, AllGround, parts_ground, equal_ground}
 
 pub value_self : (d : Disjunct) (cs : List Clause) (t : Term) → IsGroundTerm d cs t → IsValued d cs t t
-value_self d cs t h = as_ground t t h (itself t h)
+value_self d cs t h = as_ground t t h (reflexive t h)
 
 pub value_moves : (d : Disjunct) (cs : List Clause) (t w u : Term) → IsValued d cs t w → Fact d cs (Eq true w u) → IsValued d cs t u
-value_moves d cs t w u (as_ground x y g f) k = as_ground x u g (chained x y u f k)
-value_moves d cs t w u (by_arguments s ts us y a g f) k = by_arguments s ts us u a g (chained (App s (terms_of us)) y u f k)
+value_moves d cs t w u (as_ground x y g f) k = as_ground x u g (transitive x y u f k)
+value_moves d cs t w u (by_arguments s ts us y a g f) k = by_arguments s ts us u a g (transitive (App s (terms_of us)) y u f k)
 
 pub value_ground : (d : Disjunct) (cs : List Clause) (t v : Term) → IsValued d cs t v → IsGroundTerm d cs v
 value_ground d cs t v (as_ground x y g f) = let z = equal_ground d cs x y f in z.1
@@ -32,7 +32,7 @@ mutual
   pub ground_value : (d : Disjunct) (cs : List Clause) (t w : Term) → IsGroundTerm d cs t → IsValued d cs t w → Fact d cs (Eq true t w)
   ground_value d cs t w c (as_ground x y g f) = f
   ground_value d cs t w c (by_arguments s ts us y a g f) =
-      chained (App s (terms_of ts)) (App s (terms_of us)) y (alike s ts us c g (ground_values d cs ts us (parts_ground d cs s ts c) a)) f
+      transitive (App s (terms_of ts)) (App s (terms_of us)) y (congruent s ts us c g (ground_values d cs ts us (parts_ground d cs s ts c) a)) f
 
   pub ground_values : (d : Disjunct) (cs : List Clause) (ts us : List Term) → AllGround d cs ts → AreValued d cs ts us → AreEqual d cs ts us
   ground_values d cs ts us c no_values = facts.no_terms
@@ -109,11 +109,11 @@ no_closed_index j h = elim (leb_tells (suc j) 0) [ inl a ↦ omega (arith, a.1) 
 mutual
   pub alike_value : (d : Disjunct) (cs : List Clause) (t u : Term) → AreAlike d cs t u → IsFilled d cs u → closed u ≡ true → IsValued d cs t u
   alike_value d cs t u (as_written x k) h c = value_self d cs x (h x whole c)
-  alike_value d cs t u (in_value x y v a b) h c = value_moves d cs x v y a (exchanged y v (ground_value d cs y v (h y whole c) b))
+  alike_value d cs t u (in_value x y v a b) h c = value_moves d cs x v y a (symmetric y v (ground_value d cs y v (h y whole c) b))
   alike_value d cs t u (one_index i) h c = absurd (no_closed_index i c)
   alike_value d cs t u (one_symbol s ts us a) h c =
       let g : IsGroundTerm d cs (App s (terms_of us)) = h (App s (terms_of us)) whole c in
-      by_arguments s ts us (App s (terms_of us)) (all_alike_value d cs ts us a (filled_args d cs s us h) c) g (itself (App s (terms_of us)) g)
+      by_arguments s ts us (App s (terms_of us)) (all_alike_value d cs ts us a (filled_args d cs s us h) c) g (reflexive (App s (terms_of us)) g)
 
   pub all_alike_value : (d : Disjunct) (cs : List Clause) (ts us : List Term) → AllAlike d cs ts us → AreFilled d cs us → args_below 0 (terms_of us) ≡ true → AreValued d cs ts us
   all_alike_value d cs ts us no_terms h c = no_values

@@ -2,7 +2,7 @@
 use Rattle.std.specs.Prelude.{◌≡◌, ◌<◌, ℕ, Bool, List, length, slice_index, slice_get, Some}
 use Rattle.mz_logic.specs.declared.disjunct.Disjunct.{Disjunct}
 use Rattle.mz_ground.specs.declared.clause.Clause.{Clause}
-use Rattle.mz_ground.specs.declared.ground.Ground.{Ground}
+use Rattle.mz_ground.specs.declared.ground_part.Ground.{Ground}
 use Rattle.mz_ground.specs.FactSet.{FactView}
 use Rattle.mz_refute.specs.Entries.{HasEntries}
 use Rattle.mz_refute.specs.Held.{AreHeld, entries_of}

@@ -8,14 +8,14 @@ use Rattle.mz_logic.specs.declared.literal.Literal.TheVariants.{Atom, Eq}
 use Rattle.mz_logic.specs.declared.disjunct.Disjunct.{Disjunct}
 use Rattle.mz_ground.specs.declared.clause.Clause.{Clause}
 use Rattle.mz_logic.specs.Capped.{capped}
-use Rattle.mz_ground.specs.Piece.{EquationPiece}
-use Rattle.mz_ground.specs.Layers.{IsGroundPiece, IsGroundTerm, IsGroundAtom}
+use Rattle.mz_ground.specs.GroundExpression.{EquationExpression}
+use Rattle.mz_ground.specs.Layers.{IsGroundExpression, IsGroundTerm, IsGroundAtom}
 use Rattle.mz_ground.specs.Facts.{Fact}
 use Rattle.mz_refute.specs.Counted.{IsCount}
 
 -- a ground equation whose negation is a fact
 pub record IsApart (d : Disjunct) (cs : List Clause) (sides : Term × Term) : Type 0 where
-  pub ground : IsGroundPiece d cs (EquationPiece sides.0 sides.1)
+  pub ground : IsGroundExpression d cs (EquationExpression sides.0 sides.1)
   pub fact : Fact d cs (Eq false sides.0 sides.1)
 
 -- a ground atom of the symbol with the sign, by its arguments

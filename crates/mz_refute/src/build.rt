@@ -5,7 +5,7 @@ ghost use Rattle.mz_refute.specs.Held.{entries_of};
 ghost use Rattle.mz_search.specs.declared.row.Head.TheVariants.{Holds, Fails, Differ};
 
 use crate::distinct::add_distinct;
-use mz_ground::ground::Ground;
+use mz_ground::ground_part::Ground;
 use mz_ground::ground_atom::GroundAtom;
 use mz_ground::ground_equation::GroundEquation;
 use mz_ground::ground_term::GroundTerm;

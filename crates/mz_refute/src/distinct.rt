@@ -3,7 +3,7 @@ ghost use Rattle.std.specs.Prelude.{◌≡◌, ◌↔◌, ◌∷◌, [], map, On
 ghost use Rattle.mz_refute.specs.Entries.{Grown, IsTermHead, row_pair};
 ghost use Rattle.mz_search.specs.Rows.{SomeOf};
 
-use mz_ground::hash_places::{all_mixed, mixed, sym_mixed};
+use mz_ground::hash_places::{hash_with_all, hash_with, hash_with_symbol};
 use mz_search::row::{Head, Row};
 use mz_search::table::Table;
 use std::alloc::{AllocError, Global};
@@ -32,11 +32,11 @@ pub fn add_distinct(
 
 fn row_hash(head: Head, row: &Row) -> u64 {
     let start = match head {
-        Head::Constant(n) => mixed(0, u64::from(n)),
-        Head::Functor(s) => sym_mixed(1, s),
+        Head::Constant(n) => hash_with(0, u64::from(n)),
+        Head::Functor(s) => hash_with_symbol(1, s),
         _ => 2,
     };
-    all_mixed(mixed(start, row.value as u64), row.args.as_slice())
+    hash_with_all(hash_with(start, row.value as u64), row.args.as_slice())
 }
 
 #[tactic(auto, using(crate::proofs::DistinctLemmas::row_rules))]

@@ -3,8 +3,8 @@ ghost use Rattle.mz_ground.specs.Ground.{IsGround};
 
 use mz_classes::close_classes::close_classes;
 use mz_ground::clauses::Clauses;
-use mz_ground::ground::Ground;
-use mz_ground::making::ground;
+use mz_ground::ground::ground;
+use mz_ground::ground_part::Ground;
 use mz_logic::disjunct::Disjunct;
 use mz_logic::formula::{Formula, FormulaNode};
 use mz_logic::formulas::Formulas;
@@ -150,7 +150,7 @@ fn answer_for_last(
 ) -> Result<Answer, AllocError>
     requires { IsGround d.now clauses.now g.now }
 {
-    let facts = close_classes(alloc, g, d, clauses)?;
+    let facts = close_classes(alloc, g, d, clauses.as_slice())?;
     match d.universals.items.last() {
         Some(u) => refuted(alloc, &facts, d, u),
         None => Err(AllocError),
@@ -160,7 +160,7 @@ fn answer_for_last(
 fn answer_for(alloc: Global, text: &str) -> Result<Answer, AllocError> {
     let d = disjunct(alloc, text)?;
     let clauses = Clauses::new(alloc);
-    match ground(alloc, &d, &clauses) {
+    match ground(alloc, &d, clauses.as_slice()) {
         Ok(g) => answer_for_last(alloc, &d, &clauses, &g),
         Err(_) => Err(AllocError),
     }

@@ -1,12 +1,12 @@
 //! A chain of registrations: what is `one` is `two`, what is `two` is `three`, what is `three` is `four`, and each
 //! value of the functor is `one`. They have no type in their premises.
 use super::sym;
-use crate::by::by;
+use crate::by::{by, by_first};
 use crate::by_verdict::ByVerdict;
 use mz_ground::clause::Clause;
 use mz_ground::clauses::Clauses;
+use mz_ground::ground::ground;
 use mz_ground::layer_end::LayerEnd;
-use mz_ground::making::ground;
 use mz_ground::trigger::Trigger;
 use mz_logic::formula::Formula;
 use mz_logic::formulas::Formulas;
@@ -100,6 +100,34 @@ fn the_chain_is_closed_where_no_cluster_lacks(rt: HostRuntime) -> Result<(), Fai
     Ok(())
 }
 
+/// Under the first of the five clauses alone the chain is open, as long as one of the four that it needs is left out.
+#[test]
+fn the_first_clauses_count(rt: HostRuntime) -> Result<(), Fail> {
+    let alloc = rt.alloc();
+    let mut clauses = Clauses::new(alloc);
+    if let Some(c) = functorial(alloc)? {
+        clauses.push(c)?;
+    }
+    for left in [3, 1, 2, 4] {
+        if let Some(c) = cluster(alloc, left, left.saturating_add(1))? {
+            clauses.push(c)?;
+        }
+    }
+    let open = ByVerdict::Open { disjunct: 1 };
+    for (count, wanted) in [
+        (0, open),
+        (1, open),
+        (3, open),
+        (4, ByVerdict::Closed),
+        (5, ByVerdict::Closed),
+        (usize::MAX, ByVerdict::Closed),
+    ] {
+        let found = by_first(alloc, &problem(alloc)?, &clauses, count)?;
+        assert_eq!(rt; found, wanted, "{count}");
+    }
+    Ok(())
+}
+
 /// The terms are the constant 0, the new constant and the functor's value there. Each layer has one atom more, until
 /// the last adds the one of the conclusion.
 #[test]
@@ -108,7 +136,7 @@ fn one_attribute_a_layer(rt: HostRuntime) -> Result<(), Fail> {
     let split = disjuncts(alloc, &problem(alloc)?)?;
     let clauses = registrations(alloc, &[1, 2, 3])?;
     let d = split.items.first().ok_or("no disjunct")?;
-    let g = ground(alloc, d, &clauses)?;
+    let g = ground(alloc, d, clauses.as_slice())?;
     assert_eq!(rt; g.ends.items.len(), 5);
     for (i, atoms) in [1, 2, 3, 4, 4].into_iter().enumerate() {
         let wanted = LayerEnd {

@@ -1,6 +1,0 @@
-use Rattle.std.proofs.Common.{take}
-use Rattle.mz_ground.specs.Growth.{IsNumbered, Grows, IsPieceOfFormulas}
-use Rattle.mz_ground.proofs.ground.Ground.add_formulas.Given as goal
-
-abbrev pub invariant-loop-f : goal.invariant-loop-f
-invariant-loop-f l = IsNumbered l.fn.self → Grows l.fn.self (IsPieceOfFormulas (take l.f-index l.f-items)) l.self

@@ -1,5 +1,0 @@
-use Rattle.mz_ground.specs.Instances.{piece_at, MatchedBelow}
-use Rattle.mz_ground.proofs.ground.Ground.matching.Given as goal
-
-abbrev pub invariant-loop-index : goal.invariant-loop-index
-invariant-loop-index l = MatchedBelow l.self l.c (piece_at l.self l.at) l.index l.places
