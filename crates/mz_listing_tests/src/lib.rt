@@ -2,10 +2,16 @@
 #![tactic(auto)]
 
 #[cfg(test)]
-mod items;
+mod definitions;
 #[cfg(test)]
 mod listings;
 #[cfg(test)]
+mod others;
+#[cfg(test)]
 mod parts;
 #[cfg(test)]
+mod registrations;
+#[cfg(test)]
 mod reports;
+#[cfg(test)]
+mod statements;

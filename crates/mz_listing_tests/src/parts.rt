@@ -1,9 +1,13 @@
 //! Parts of items. All symbols are of the article A.
 use mz_base::numbers::Numbers;
 use mz_base::text::Text;
+use mz_core::adjective::Adjective;
+use mz_core::adjectives::Adjectives;
 use mz_core::formula_definiens::FormulaDefiniens;
 use mz_core::hidden::set_type;
 use mz_core::pattern::Pattern;
+use mz_core::radix::Radix;
+use mz_core::soft_type::SoftType;
 use mz_core::soft_types::SoftTypes;
 use mz_core::statement::Statement;
 use mz_logic::kind::Kind;
@@ -29,6 +33,11 @@ fn bounds(rt: &impl Abort, alloc: Global, indices: &[u32]) -> Terms {
     ts
 }
 
+/// `On`, without arguments.
+pub fn functor(alloc: Global, number: u32) -> Term {
+    Term::apply(sym(Kind::Functor, number), Terms::new(alloc))
+}
+
 /// `Rn[..]`.
 pub fn atom(rt: &impl Abort, alloc: Global, number: u32, indices: &[u32]) -> Statement {
     let args = bounds(rt, alloc, indices);
@@ -40,13 +49,37 @@ pub fn plain(rt: &impl Abort, alloc: Global, number: u32, indices: &[u32]) -> Fo
     FormulaDefiniens::Plain(atom(rt, alloc, number, indices))
 }
 
-/// `Rn[..]`.
-pub fn literal(rt: &impl Abort, alloc: Global, number: u32, indices: &[u32]) -> Literal {
+/// The literal of a symbol with these arguments.
+pub fn literal(rt: &impl Abort, alloc: Global, sym: Sym, indices: &[u32]) -> Literal {
     let args = bounds(rt, alloc, indices);
     Literal::Atom {
         positive: true,
-        sym: sym(Kind::Predicate, number),
+        sym,
         args,
+    }
+}
+
+/// The adjective `Vn`.
+pub fn adjective(rt: &impl Abort, alloc: Global, number: u32) -> Adjectives {
+    let mut adjectives = Adjectives::new(alloc);
+    adjectives
+        .push(Adjective {
+            positive: true,
+            sym: sym(Kind::Attribute, number),
+            args: Terms::new(alloc),
+        })
+        .expect(rt, "memory");
+    adjectives
+}
+
+/// The mode `M3` as a type.
+pub fn mode(alloc: Global) -> SoftType {
+    SoftType {
+        adjectives: Adjectives::new(alloc),
+        radix: Radix {
+            sym: sym(Kind::Mode, 3),
+            args: Terms::new(alloc),
+        },
     }
 }
 

@@ -1,0 +1,71 @@
+//! Notations, a structure, a set term and a choice.
+use crate::parts::{atom, literal, mode, pattern, sets, sym};
+use mz_core::field::Field;
+use mz_core::fields::Fields;
+use mz_core::hidden::set_type;
+use mz_core::item::Item;
+use mz_core::notation::{Meaning, Notation};
+use mz_core::notations::Notations;
+use mz_core::set_term::{Choice, SetTerm};
+use mz_core::soft_types::SoftTypes;
+use mz_core::structure::Structure;
+use mz_logic::kind::Kind;
+use mz_logic::term::Term;
+use std::alloc::Global;
+use std::process::Abort;
+
+/// `mode M4 is M3`.
+pub fn abbreviation(alloc: Global) -> Item {
+    Item::Abbreviation(Notation {
+        pattern: pattern(alloc, Kind::Mode, SoftTypes::new(alloc)),
+        meaning: Meaning::OfType(mode(alloc)),
+    })
+}
+
+/// A synonym of R4.
+pub fn synonym(rt: &impl Abort, alloc: Global) -> Item {
+    Item::Notation(Notation {
+        pattern: pattern(alloc, Kind::Predicate, SoftTypes::new(alloc)),
+        meaning: Meaning::OfLiteral(literal(rt, alloc, sym(Kind::Predicate, 4), &[])),
+    })
+}
+
+/// `struct G1 (# U1 -> set #)`.
+pub fn structure(rt: &impl Abort, alloc: Global) -> Item {
+    let mut fields = Fields::new(alloc);
+    fields
+        .push(Field {
+            selector: sym(Kind::Selector, 1),
+            ty: set_type(alloc),
+        })
+        .expect(rt, "memory");
+    Item::Structure(Structure {
+        loci: SoftTypes::new(alloc),
+        sym: sym(Kind::Structure, 1),
+        strict: sym(Kind::Attribute, 1),
+        aggregate: sym(Kind::Aggregate, 1),
+        ancestors: SoftTypes::new(alloc),
+        fields,
+        notations: Notations::new(alloc),
+    })
+}
+
+/// `let y be set`: O3 is `{ x where x is M3 : R5[x,y] }`.
+pub fn set_term(rt: &impl Abort, alloc: Global) -> Item {
+    Item::SetTerm(SetTerm {
+        loci: sets(rt, alloc, 1),
+        sym: sym(Kind::Functor, 3),
+        ty: mode(alloc),
+        term: Term::bound(0),
+        formula: atom(rt, alloc, 5, &[0, 1]),
+    })
+}
+
+/// O4 is `the M3`.
+pub fn choice(alloc: Global) -> Item {
+    Item::Choice(Choice {
+        loci: SoftTypes::new(alloc),
+        sym: sym(Kind::Functor, 4),
+        ty: mode(alloc),
+    })
+}
