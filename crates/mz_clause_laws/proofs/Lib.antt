@@ -1,0 +1,11 @@
+pub mod Instances
+pub mod Implications
+pub mod Literals
+pub mod Conjunctions
+pub mod RowProofs
+pub mod StructureProofs
+pub mod Valuations
+pub mod LocusLaws
+pub mod SameProofs
+pub mod PropertyProofs
+pub mod ItemProofs

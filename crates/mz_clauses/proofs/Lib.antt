@@ -1,0 +1,5 @@
+pub mod GroupLemmas
+pub mod GuardLemmas
+pub mod TriggerLemmas
+pub mod SameLemmas
+pub mod StructureLemmas
