@@ -4,6 +4,8 @@
 #[cfg(test)]
 mod gathering;
 #[cfg(test)]
+mod large;
+#[cfg(test)]
 mod limits;
 #[cfg(test)]
 mod orders;

@@ -76,7 +76,7 @@ fn all_texts_are_too_long(rt: HostRuntime) {
 #[test]
 fn articles_are_too_many(rt: HostRuntime) {
     for (count, fits) in [(511, true), (512, false)] {
-        let text = numbered(&rt, rt.alloc(), "environ theorems", "M", count);
+        let text = numbered(&rt, rt.alloc(), "environ theorems", "M", 0, count);
         let mut files = FileList::new(rt.alloc());
         add(
             &rt,
@@ -104,7 +104,7 @@ fn articles_are_too_many(rt: HostRuntime) {
 #[test]
 fn vocabularies_are_too_many(rt: HostRuntime) {
     for (count, fits) in [(512, true), (513, false)] {
-        let text = numbered(&rt, rt.alloc(), "environ vocabularies", "V", count);
+        let text = numbered(&rt, rt.alloc(), "environ vocabularies", "V", 0, count);
         let mut files = FileList::new(rt.alloc());
         add(
             &rt,

@@ -63,11 +63,18 @@ pub fn gathered<R: Abort>(
     gather(alloc, &mut shelf, &names_of(rt, alloc, line))
 }
 
-/// `WORD, PREFIX000, PREFIX001 ..`, so many numbered names.
-pub fn numbered<R: Abort>(rt: &R, alloc: Global, head: &str, prefix: &str, count: u32) -> String {
+/// `HEAD PREFIX000, PREFIX001 ..`, with the numbers from `first` up to the one before `end`.
+pub fn numbered<R: Abort>(
+    rt: &R,
+    alloc: Global,
+    head: &str,
+    prefix: &str,
+    first: u32,
+    end: u32,
+) -> String {
     let mut text = String::from_str(alloc, head).expect(rt, "memory");
-    for i in 0..count {
-        let comma = if i == 0 { "" } else { "," };
+    for i in first..end {
+        let comma = if i == first { "" } else { "," };
         let word = format!(in alloc; "{comma} {prefix}{i:03}").expect(rt, "memory");
         text.push_str(word.as_str()).expect(rt, "memory");
     }
