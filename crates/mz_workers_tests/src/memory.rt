@@ -1,0 +1,40 @@
+//! Workers that meet want of memory.
+use crate::scripted::Scripted;
+use crate::shared::{is_accepted, name};
+use mz_desk::claim::Claim;
+use mz_desk::desk::Desk;
+use mz_desk_tests::corpora::diamond;
+use mz_io::gate::OpenGate;
+use mz_workers::run_all::run_all;
+use mz_workers::work::work;
+use std::alloc::Global;
+use std::sync::{Condvar, Mutex};
+
+/// One worker of two stops, or both do, and the caller finishes; where its own check fails too, it says so.
+#[test]
+fn want_of_memory_in_workers(rt: HostRuntime) {
+    let alloc: Global = rt.alloc();
+    for failing in [1, 2] {
+        let checker = Scripted::failing(name(&rt, "DA"), failing);
+        let corpus = diamond(alloc, "b").expect(&rt, "a corpus");
+        let desk = run_all(&rt, alloc, corpus, &checker, &OpenGate, 2).expect(&rt, "memory");
+        assert!(&rt; is_accepted(&rt, &desk));
+        assert_eq!(&rt; checker.count(), 4 + failing);
+    }
+    let checker = Scripted::failing(name(&rt, "DA"), 3);
+    let corpus = diamond(alloc, "b").expect(&rt, "a corpus");
+    assert!(&rt; run_all(&rt, alloc, corpus, &checker, &OpenGate, 2).is_err());
+}
+
+#[test]
+fn want_of_memory_frees_the_claim(rt: HostRuntime) {
+    let alloc: Global = rt.alloc();
+    let checker = Scripted::failing(name(&rt, "DA"), 1);
+    let corpus = diamond(alloc, "b").expect(&rt, "a corpus");
+    let desk: Desk<Scripted> = Desk::open(alloc, corpus).expect(&rt, "memory");
+    let desk = Mutex::new(desk);
+    let bell = Condvar::new();
+    assert!(&rt; work(&rt, alloc, &desk, &bell, &checker, &OpenGate, 0).is_err());
+    let mut desk = desk.into_inner();
+    assert!(&rt; matches!(desk.claim(alloc, 1).expect(&rt, "memory"), Claim::Take(_)));
+}

@@ -1,0 +1,64 @@
+//! What the tests of workers share.
+use mz_axioms::checker::Semantics;
+use mz_base::name::Name;
+use mz_core::verdict::{Entry, Verdict};
+use mz_desk::desk::Desk;
+use mz_desk_tests::corpora::name_of;
+use std::process::Abort;
+
+/// The articles, in the order of gathering.
+const ARTICLES: [&str; 4] = ["DD", "DB", "DC", "DA"];
+
+/// The library where all of them are accepted, in the order of names.
+pub const LIBRARY: [&str; 7] = ["DA", "DB", "DC", "DD", "HIDDEN", "TARSKI_0", "TARSKI_A"];
+
+pub fn name<R: Abort>(rt: &R, word: &str) -> Name {
+    name_of(word).expect(rt, "a name")
+}
+
+/// How an entry reads, by one letter.
+fn letter(entry: &Entry) -> u8 {
+    match entry.verdict {
+        None => b'-',
+        Some(Verdict::Accepted) => b'a',
+        Some(Verdict::Rejected) => b'r',
+        Some(Verdict::Blocked(_)) => b'b',
+        Some(Verdict::Cyclic) => b'c',
+        Some(Verdict::Missing) => b'm',
+    }
+}
+
+/// Whether the desk has these verdicts of the four articles, by their letters.
+pub fn has_verdicts<C: Semantics, R: Abort>(rt: &R, desk: &Desk<C>, letters: &str) -> bool {
+    let Ok(verdicts) = desk.verdicts() else {
+        return false;
+    };
+    if verdicts.items.len() != 4 {
+        return false;
+    }
+    let wanted = ARTICLES.iter().zip(letters.as_bytes());
+    for (entry, (word, wanted)) in verdicts.items.iter().zip(wanted) {
+        if entry.name != name(rt, word) || letter(entry) != *wanted {
+            return false;
+        }
+    }
+    true
+}
+
+/// Whether the desk's library has exports of these names alone.
+pub fn has_library<C: Semantics, R: Abort>(rt: &R, desk: &Desk<C>, names: &[&str]) -> bool {
+    if desk.library().len() != names.len() {
+        return false;
+    }
+    for (export, word) in desk.library().as_slice().iter().zip(names) {
+        if export.name != name(rt, word) {
+            return false;
+        }
+    }
+    true
+}
+
+/// Whether all four articles are accepted.
+pub fn is_accepted<C: Semantics, R: Abort>(rt: &R, desk: &Desk<C>) -> bool {
+    has_verdicts(rt, desk, "aaaa") && has_library(rt, desk, &LIBRARY)
+}

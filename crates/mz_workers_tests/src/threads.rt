@@ -1,0 +1,51 @@
+//! Workers on several threads. What one article's check waits for, another worker has to bring about.
+use crate::events::Hold;
+use crate::scripted::Scripted;
+use crate::shared::{LIBRARY, has_library, has_verdicts, is_accepted, name};
+use mz_desk_tests::corpora::diamond;
+use mz_desk_tests::plain::Plain;
+use mz_io::gate::OpenGate;
+use mz_workers::run_all::run_all;
+use std::alloc::Global;
+
+/// The text of DB, the verdicts of DD, DB, DC and DA, and the names of the library.
+#[test]
+fn one_worker_and_many(rt: HostRuntime) {
+    let alloc: Global = rt.alloc();
+    let without_db = ["DA", "DC", "HIDDEN", "TARSKI_0", "TARSKI_A"];
+    let rows: [(&str, &str, &[&str]); 3] = [
+        ("b", "aaaa", &LIBRARY),
+        ("+b", "aaaa", &LIBRARY),
+        ("", "braa", &without_db),
+    ];
+    for (text_of_db, letters, names) in rows {
+        for workers in [1, 4, 16] {
+            let corpus = diamond(alloc, text_of_db).expect(&rt, "a corpus");
+            let desk = run_all(&rt, alloc, corpus, &Plain, &OpenGate, workers);
+            let desk = desk.expect(&rt, "memory");
+            assert!(&rt; has_verdicts(&rt, &desk, letters));
+            assert!(&rt; has_library(&rt, &desk, names));
+        }
+    }
+}
+
+#[test]
+fn a_gate_holds_one_until_another_has_entered(rt: HostRuntime) {
+    let alloc: Global = rt.alloc();
+    let gate = Hold::new();
+    let corpus = diamond(alloc, "b").expect(&rt, "a corpus");
+    let desk = run_all(&rt, alloc, corpus, &Plain, &gate, 4).expect(&rt, "memory");
+    assert!(&rt; gate.entered.was_in_time());
+    assert!(&rt; is_accepted(&rt, &desk));
+}
+
+#[test]
+fn a_check_waits_for_another(rt: HostRuntime) {
+    let alloc: Global = rt.alloc();
+    let checker = Scripted::waiting(name(&rt, "DB"), name(&rt, "DC"));
+    let corpus = diamond(alloc, "b").expect(&rt, "a corpus");
+    let desk = run_all(&rt, alloc, corpus, &checker, &OpenGate, 2).expect(&rt, "memory");
+    assert!(&rt; checker.event.was_in_time());
+    assert!(&rt; is_accepted(&rt, &desk));
+    assert_eq!(&rt; checker.count(), 4);
+}
