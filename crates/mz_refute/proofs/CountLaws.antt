@@ -16,18 +16,18 @@ use Rattle.mz_ground.specs.GroundExpression.{AtomExpression, EquationExpression}
 use Rattle.mz_ground.specs.Ground.{ground_terms, term_at, atom_expression, equation_expression}
 use Rattle.mz_ground.specs.Facts.{Fact}
 use Rattle.mz_refute.specs.Counted.{IsCount}
-use Rattle.mz_refute.specs.Work.{IsSigned, IsApart}
+use Rattle.mz_refute.specs.Work.{IsSigned, IsDisequal}
 use Rattle.mz_refute.specs.Entries.{Entry, term_entry, term_entries, sign_entry, atom_entries, equation_entries, rows_for, row_pair, HasEntries}
-use Rattle.mz_refute.specs.Held.{AreHeld, entries_of}
-use Rattle.mz_search.specs.Heads.{same_head}
-use Rattle.mz_search.specs.Rows.{SomeOf}
-use Rattle.mz_search.specs.Table.{rows_of}
+use Rattle.mz_refute.specs.HoldsFacts.{HoldsFacts, entries_of}
+use Rattle.mz_match.specs.Heads.{same_head}
+use Rattle.mz_match.specs.Rows.{SomeOf}
+use Rattle.mz_match.specs.Table.{count_of}
 use Rattle.mz_refute.specs.Tabled.{IsCounted}
-use Rattle.mz_search.specs.declared.row.Head.{Head}
-use Rattle.mz_search.specs.declared.row.Head.TheVariants.{Constant, Functor, Holds, Fails, Differ}
-use Rattle.mz_search.specs.declared.table.Table.{Table}
-use Rattle.mz_search.proofs.AlikeLemmas.{and_cases, and_true}
-use Rattle.mz_search.proofs.SymbolLaws.{same_sym-true, sym-same}
+use Rattle.mz_match.specs.declared.row.Head.{Head}
+use Rattle.mz_match.specs.declared.row.Head.TheVariants.{Constant, Functor, Holds, Fails, Disequal}
+use Rattle.mz_match.specs.declared.table.Table.{Table}
+use Rattle.mz_match.proofs.CongruentLemmas.{and_cases, and_true}
+use Rattle.mz_match.proofs.SymbolLaws.{same_sym-true, sym-same}
 use Rattle.mz_refute.proofs.TableDown.{some_in}
 use Rattle.mz_refute.proofs.RefutedUp.{some_of_member}
 use Rattle.mz_refute.proofs.ListLaws.{get_member, get_map, distinct_places, distinct_rest}
@@ -132,7 +132,7 @@ IsFactHead (Constant n) = ⊥
 IsFactHead (Functor s) = ⊥
 IsFactHead (Holds s) = Unit {0}
 IsFactHead (Fails s) = Unit {0}
-IsFactHead Differ = Unit {0}
+IsFactHead Disequal = Unit {0}
 
 term_other : (classes : List ℕ) (v : ℕ) (e : GroundTerm) (h : Head) → IsFactHead h → same_head (term_entry classes v e).head h ≡ false
 term_other classes v e (Constant n) f = absurd f
@@ -141,8 +141,8 @@ term_other classes v (node.Const n) (Holds s) f = refl
 term_other classes v (node.App r args) (Holds s) f = refl
 term_other classes v (node.Const n) (Fails s) f = refl
 term_other classes v (node.App r args) (Fails s) f = refl
-term_other classes v (node.Const n) Differ f = refl
-term_other classes v (node.App r args) Differ f = refl
+term_other classes v (node.Const n) Disequal f = refl
+term_other classes v (node.App r args) Disequal f = refl
 
 if_none : {X : Type 0} (b : Bool) (x : X) (xs : List X) → b ≡ false → length (if b then x ∷ xs else xs) ≡ length xs
 if_none b x xs e = rw e refl
@@ -207,52 +207,44 @@ count_fails ts s classes (p ∷ ps) (n ∷ ns) (a ∷ os) l =
     let u = picked_length (atom_terms ts) (of_symbol s) n ns a os in
     omega (arith, x, y, z, w, u, count_fails ts s classes ps ns os (omega (arith, l)))
 
-no_atoms : (classes : List ℕ) (ps ns : List Bool) (os : List GroundAtom) → count_for Differ (atom_entries classes ps ns os) ≡ 0
+no_atoms : (classes : List ℕ) (ps ns : List Bool) (os : List GroundAtom) → count_for Disequal (atom_entries classes ps ns os) ≡ 0
 no_atoms classes [] ns os = refl
 no_atoms classes (p ∷ ps) [] os = refl
 no_atoms classes (p ∷ ps) (n ∷ ns) [] = refl
 no_atoms classes (p ∷ ps) (n ∷ ns) (a ∷ os) =
     let args : List ℕ = map (slice_index classes) a.args in
-    let x = count-append Differ (sign_entry p (Holds a.sym) args ++ sign_entry n (Fails a.sym) args) (atom_entries classes ps ns os) in
-    let y = count-append Differ (sign_entry p (Holds a.sym) args) (sign_entry n (Fails a.sym) args) in
-    let z = no_flag p (Holds a.sym) Differ args refl in
-    let w = no_flag n (Fails a.sym) Differ args refl in
+    let x = count-append Disequal (sign_entry p (Holds a.sym) args ++ sign_entry n (Fails a.sym) args) (atom_entries classes ps ns os) in
+    let y = count-append Disequal (sign_entry p (Holds a.sym) args) (sign_entry n (Fails a.sym) args) in
+    let z = no_flag p (Holds a.sym) Disequal args refl in
+    let w = no_flag n (Fails a.sym) Disequal args refl in
     omega (arith, x, y, z, w, no_atoms classes ps ns os)
 
-no_equations : (h : Head) → same_head Differ h ≡ false → (classes : List ℕ) (bs : List Bool) (es : List GroundEquation) → count_for h (equation_entries classes bs es) ≡ 0
+no_equations : (h : Head) → same_head Disequal h ≡ false → (classes : List ℕ) (bs : List Bool) (es : List GroundEquation) → count_for h (equation_entries classes bs es) ≡ 0
 no_equations h f classes [] es = refl
 no_equations h f classes (b ∷ bs) [] = refl
 no_equations h f classes (b ∷ bs) (e ∷ es) =
     let args : List ℕ = slice_index classes e.left ∷ slice_index classes e.right ∷ [] in
-    let x = count-append h (sign_entry b Differ args) (equation_entries classes bs es) in
-    omega (arith, x, no_flag b Differ h args f, no_equations h f classes bs es)
+    let x = count-append h (sign_entry b Disequal args) (equation_entries classes bs es) in
+    omega (arith, x, no_flag b Disequal h args f, no_equations h f classes bs es)
 
-count_differ : (ts : List Term) (classes : List ℕ) (bs : List Bool) (es : List GroundEquation) → count_for Differ (equation_entries classes bs es) ≡ length (picked (equation_terms ts) any_equation bs es)
+count_differ : (ts : List Term) (classes : List ℕ) (bs : List Bool) (es : List GroundEquation) → count_for Disequal (equation_entries classes bs es) ≡ length (picked (equation_terms ts) any_equation bs es)
 count_differ ts classes [] es = refl
 count_differ ts classes (b ∷ bs) [] = refl
 count_differ ts classes (b ∷ bs) (e ∷ es) =
     let args : List ℕ = slice_index classes e.left ∷ slice_index classes e.right ∷ [] in
-    let x = count-append Differ (sign_entry b Differ args) (equation_entries classes bs es) in
-    let z = flag_count b Differ Differ args in
+    let x = count-append Disequal (sign_entry b Disequal args) (equation_entries classes bs es) in
+    let z = flag_count b Disequal Disequal args in
     let u = picked_length (equation_terms ts) any_equation b bs e es in
     omega (arith, x, z, u, count_differ ts classes bs es)
 
-length_mapped : {X Y : Type 0} (f : X → Y) (xs : List X) → length (map f xs) ≡ length xs
-length_mapped f [] = refl
-length_mapped f (x ∷ xs) = ap suc (length_mapped f xs)
-
-rows_count : (table : Table) (es : List Entry) → HasEntries table es → (h : Head) → IsFactHead h → length (rows_of table h) ≡ count_for h es
+rows_count : (table : Table) (es : List Entry) → HasEntries table es → (h : Head) → count_of table h ≡ count_for h es
 unfolding HasEntries
-rows_count table es k (Constant n) f = absurd f
-rows_count table es k (Functor s) f = absurd f
-rows_count table es k (Holds s) f = sym (length_mapped row_pair (rows_of table (Holds s))) ∙ ap length (k (Holds s))
-rows_count table es k (Fails s) f = sym (length_mapped row_pair (rows_of table (Fails s))) ∙ ap length (k (Fails s))
-rows_count table es k Differ f = sym (length_mapped row_pair (rows_of table Differ)) ∙ ap length (k Differ)
+rows_count table es k h = (k h).number
 
-all_counts : (h : Head) (g : Ground) (classes : List ℕ) (positive negative apart : List Bool) → IsFactHead h → count_for h (entries_of g classes positive negative apart) ≡ count_for h (atom_entries classes positive negative g.atoms) + count_for h (equation_entries classes apart g.equations)
-all_counts h g classes positive negative apart f =
-    let x = count-append h (term_entries classes classes g.terms) (atom_entries classes positive negative g.atoms ++ equation_entries classes apart g.equations) in
-    let y = count-append h (atom_entries classes positive negative g.atoms) (equation_entries classes apart g.equations) in
+all_counts : (h : Head) (g : Ground) (classes : List ℕ) (positive negative disequal : List Bool) → IsFactHead h → count_for h (entries_of g classes positive negative disequal) ≡ count_for h (atom_entries classes positive negative g.atoms) + count_for h (equation_entries classes disequal g.equations)
+all_counts h g classes positive negative disequal f =
+    let x = count-append h (term_entries classes classes g.terms) (atom_entries classes positive negative g.atoms ++ equation_entries classes disequal g.equations) in
+    let y = count-append h (atom_entries classes positive negative g.atoms) (equation_entries classes disequal g.equations) in
     omega (arith, x, y, count_terms h f classes classes g.terms)
 
 one_atom : (ts : List Term) (s : Sym) (a b : GroundAtom) → of_symbol s a ≡ true → of_symbol s b ≡ true → atom_terms ts a ≡ atom_terms ts b → atom_expression ts a ≡ atom_expression ts b
@@ -264,92 +256,92 @@ one_atom ts s a b p q e =
 one_equation : (ts : List Term) (a b : GroundEquation) → any_equation a ≡ true → any_equation b ≡ true → equation_terms ts a ≡ equation_terms ts b → equation_expression ts a ≡ equation_expression ts b
 one_equation ts a b p q e = λ i. EquationExpression ((e i).0) ((e i).1)
 
-holds_from : (d : Disjunct) (cs : List Clause) (g : Ground) (classes : List ℕ) (positive negative apart : List Bool) → AreHeld d cs g classes positive negative apart → (s : Sym) (us : List Term) → Contains (picked (atom_terms (ground_terms g)) (of_symbol s) positive g.atoms) us → IsSigned d cs true s us
-holds_from d cs g classes positive negative apart h s us m =
+holds_from : (d : Disjunct) (cs : List Clause) (g : Ground) (classes : List ℕ) (positive negative disequal : List Bool) → HoldsFacts d cs g classes positive negative disequal → (s : Sym) (us : List Term) → Contains (picked (atom_terms (ground_terms g)) (of_symbol s) positive g.atoms) us → IsSigned d cs true s us
+holds_from d cs g classes positive negative disequal h s us m =
     let p = picked_found (atom_terms (ground_terms g)) (of_symbol s) positive g.atoms (λ y. y ≡ us) (some_of_member (λ y. y ≡ us) (picked (atom_terms (ground_terms g)) (of_symbol s) positive g.atoms) us m refl) in
     let f : Fact d cs (Atom true p.member.sym (map (term_at (ground_terms g)) p.member.args)) = (h.holds p.place p.member p.at).0 p.has in
     let k : Fact d cs (Atom true s us) = subst (λ (o : Sym). Fact d cs (Atom true o us)) (same_sym-true p.member.sym s p.kept) (subst (λ (xs : List Term). Fact d cs (Atom true p.member.sym xs)) p.fact f) in
     record { ground = fact_atom d cs true s us k; fact = k }
 
-holds_to : (d : Disjunct) (cs : List Clause) (g : Ground) (classes : List ℕ) (positive negative apart : List Bool) → AreHeld d cs g classes positive negative apart → (s : Sym) (us : List Term) → IsSigned d cs true s us → Contains (picked (atom_terms (ground_terms g)) (of_symbol s) positive g.atoms) us
-holds_to d cs g classes positive negative apart h s us k =
-    let a = atom_place d cs g classes positive negative apart h s us k.ground in
+holds_to : (d : Disjunct) (cs : List Clause) (g : Ground) (classes : List ℕ) (positive negative disequal : List Bool) → HoldsFacts d cs g classes positive negative disequal → (s : Sym) (us : List Term) → IsSigned d cs true s us → Contains (picked (atom_terms (ground_terms g)) (of_symbol s) positive g.atoms) us
+holds_to d cs g classes positive negative disequal h s us k =
+    let a = atom_place d cs g classes positive negative disequal h s us k.ground in
     let f : Fact d cs (Atom true a.atom.sym (map (term_at (ground_terms g)) a.atom.args)) = subst (λ (o : Sym). Fact d cs (Atom true o (map (term_at (ground_terms g)) a.atom.args))) (sym a.sym_is) (subst (λ (xs : List Term). Fact d cs (Atom true s xs)) (sym a.args_are) k.fact) in
     member_of (picked (atom_terms (ground_terms g)) (of_symbol s) positive g.atoms) us
     (picked_find (atom_terms (ground_terms g)) (of_symbol s) positive g.atoms (λ y. y ≡ us) a.place a.atom a.at ((h.holds a.place a.atom a.at).1 f) (sym-same a.atom.sym s a.sym_is) a.args_are)
 
-holds_count : (d : Disjunct) (cs : List Clause) (g : Ground) (classes : List ℕ) (positive negative apart : List Bool) → AreHeld d cs g classes positive negative apart → (table : Table) → HasEntries table (entries_of g classes positive negative apart) → (s : Sym) → IsCount (IsSigned d cs true s) (length (rows_of table (Holds s)))
-holds_count d cs g classes positive negative apart h table k s =
-    let x = rows_count table (entries_of g classes positive negative apart) k (Holds s) tt in
-    let y = all_counts (Holds s) g classes positive negative apart tt in
-    let z = no_equations (Holds s) refl classes apart g.equations in
+holds_count : (d : Disjunct) (cs : List Clause) (g : Ground) (classes : List ℕ) (positive negative disequal : List Bool) → HoldsFacts d cs g classes positive negative disequal → (table : Table) → HasEntries table (entries_of g classes positive negative disequal) → (s : Sym) → IsCount (IsSigned d cs true s) (count_of table (Holds s))
+holds_count d cs g classes positive negative disequal h table k s =
+    let x = rows_count table (entries_of g classes positive negative disequal) k (Holds s) in
+    let y = all_counts (Holds s) g classes positive negative disequal tt in
+    let z = no_equations (Holds s) refl classes disequal g.equations in
     record {
       values = picked (atom_terms (ground_terms g)) (of_symbol s) positive g.atoms;
-      members = λ us. (holds_from d cs g classes positive negative apart h s us, holds_to d cs g classes positive negative apart h s us);
+      members = λ us. (holds_from d cs g classes positive negative disequal h s us, holds_to d cs g classes positive negative disequal h s us);
       distinct = picked_distinct (atom_terms (ground_terms g)) (of_symbol s) (atom_expression (ground_terms g)) positive g.atoms h.ground.distinct_atoms (one_atom (ground_terms g) s);
       number = omega (arith, x, y, z, count_holds (ground_terms g) s classes positive negative g.atoms h.negative_count);
     }
 
-fails_from : (d : Disjunct) (cs : List Clause) (g : Ground) (classes : List ℕ) (positive negative apart : List Bool) → AreHeld d cs g classes positive negative apart → (s : Sym) (us : List Term) → Contains (picked (atom_terms (ground_terms g)) (of_symbol s) negative g.atoms) us → IsSigned d cs false s us
-fails_from d cs g classes positive negative apart h s us m =
+fails_from : (d : Disjunct) (cs : List Clause) (g : Ground) (classes : List ℕ) (positive negative disequal : List Bool) → HoldsFacts d cs g classes positive negative disequal → (s : Sym) (us : List Term) → Contains (picked (atom_terms (ground_terms g)) (of_symbol s) negative g.atoms) us → IsSigned d cs false s us
+fails_from d cs g classes positive negative disequal h s us m =
     let p = picked_found (atom_terms (ground_terms g)) (of_symbol s) negative g.atoms (λ y. y ≡ us) (some_of_member (λ y. y ≡ us) (picked (atom_terms (ground_terms g)) (of_symbol s) negative g.atoms) us m refl) in
     let f : Fact d cs (Atom false p.member.sym (map (term_at (ground_terms g)) p.member.args)) = (h.fails p.place p.member p.at).0 p.has in
     let k : Fact d cs (Atom false s us) = subst (λ (o : Sym). Fact d cs (Atom false o us)) (same_sym-true p.member.sym s p.kept) (subst (λ (xs : List Term). Fact d cs (Atom false p.member.sym xs)) p.fact f) in
     record { ground = fact_atom d cs false s us k; fact = k }
 
-fails_to : (d : Disjunct) (cs : List Clause) (g : Ground) (classes : List ℕ) (positive negative apart : List Bool) → AreHeld d cs g classes positive negative apart → (s : Sym) (us : List Term) → IsSigned d cs false s us → Contains (picked (atom_terms (ground_terms g)) (of_symbol s) negative g.atoms) us
-fails_to d cs g classes positive negative apart h s us k =
-    let a = atom_place d cs g classes positive negative apart h s us k.ground in
+fails_to : (d : Disjunct) (cs : List Clause) (g : Ground) (classes : List ℕ) (positive negative disequal : List Bool) → HoldsFacts d cs g classes positive negative disequal → (s : Sym) (us : List Term) → IsSigned d cs false s us → Contains (picked (atom_terms (ground_terms g)) (of_symbol s) negative g.atoms) us
+fails_to d cs g classes positive negative disequal h s us k =
+    let a = atom_place d cs g classes positive negative disequal h s us k.ground in
     let f : Fact d cs (Atom false a.atom.sym (map (term_at (ground_terms g)) a.atom.args)) = subst (λ (o : Sym). Fact d cs (Atom false o (map (term_at (ground_terms g)) a.atom.args))) (sym a.sym_is) (subst (λ (xs : List Term). Fact d cs (Atom false s xs)) (sym a.args_are) k.fact) in
     member_of (picked (atom_terms (ground_terms g)) (of_symbol s) negative g.atoms) us
     (picked_find (atom_terms (ground_terms g)) (of_symbol s) negative g.atoms (λ y. y ≡ us) a.place a.atom a.at ((h.fails a.place a.atom a.at).1 f) (sym-same a.atom.sym s a.sym_is) a.args_are)
 
-fails_count : (d : Disjunct) (cs : List Clause) (g : Ground) (classes : List ℕ) (positive negative apart : List Bool) → AreHeld d cs g classes positive negative apart → (table : Table) → HasEntries table (entries_of g classes positive negative apart) → (s : Sym) → IsCount (IsSigned d cs false s) (length (rows_of table (Fails s)))
-fails_count d cs g classes positive negative apart h table k s =
-    let x = rows_count table (entries_of g classes positive negative apart) k (Fails s) tt in
-    let y = all_counts (Fails s) g classes positive negative apart tt in
-    let z = no_equations (Fails s) refl classes apart g.equations in
+fails_count : (d : Disjunct) (cs : List Clause) (g : Ground) (classes : List ℕ) (positive negative disequal : List Bool) → HoldsFacts d cs g classes positive negative disequal → (table : Table) → HasEntries table (entries_of g classes positive negative disequal) → (s : Sym) → IsCount (IsSigned d cs false s) (count_of table (Fails s))
+fails_count d cs g classes positive negative disequal h table k s =
+    let x = rows_count table (entries_of g classes positive negative disequal) k (Fails s) in
+    let y = all_counts (Fails s) g classes positive negative disequal tt in
+    let z = no_equations (Fails s) refl classes disequal g.equations in
     record {
       values = picked (atom_terms (ground_terms g)) (of_symbol s) negative g.atoms;
-      members = λ us. (fails_from d cs g classes positive negative apart h s us, fails_to d cs g classes positive negative apart h s us);
+      members = λ us. (fails_from d cs g classes positive negative disequal h s us, fails_to d cs g classes positive negative disequal h s us);
       distinct = picked_distinct (atom_terms (ground_terms g)) (of_symbol s) (atom_expression (ground_terms g)) negative g.atoms h.ground.distinct_atoms (one_atom (ground_terms g) s);
       number = omega (arith, x, y, z, count_fails (ground_terms g) s classes positive negative g.atoms h.positive_count);
     }
 
-apart_from : (d : Disjunct) (cs : List Clause) (g : Ground) (classes : List ℕ) (positive negative apart : List Bool) → AreHeld d cs g classes positive negative apart → (p : Term × Term) → Contains (picked (equation_terms (ground_terms g)) any_equation apart g.equations) p → IsApart d cs p
-apart_from d cs g classes positive negative apart h p m =
-    let x = picked_found (equation_terms (ground_terms g)) any_equation apart g.equations (λ y. y ≡ p) (some_of_member (λ y. y ≡ p) (picked (equation_terms (ground_terms g)) any_equation apart g.equations) p m refl) in
+disequal_from : (d : Disjunct) (cs : List Clause) (g : Ground) (classes : List ℕ) (positive negative disequal : List Bool) → HoldsFacts d cs g classes positive negative disequal → (p : Term × Term) → Contains (picked (equation_terms (ground_terms g)) any_equation disequal g.equations) p → IsDisequal d cs p
+disequal_from d cs g classes positive negative disequal h p m =
+    let x = picked_found (equation_terms (ground_terms g)) any_equation disequal g.equations (λ y. y ≡ p) (some_of_member (λ y. y ≡ p) (picked (equation_terms (ground_terms g)) any_equation disequal g.equations) p m refl) in
     let f : Fact d cs (Eq false (term_at (ground_terms g) x.member.left) (term_at (ground_terms g) x.member.right)) = (h.differ x.place x.member x.at).0 x.has in
     let c : Contains (map (equation_expression (ground_terms g)) g.equations) (equation_expression (ground_terms g) x.member) = get_member (map (equation_expression (ground_terms g)) g.equations) x.place (equation_expression (ground_terms g) x.member) (get_map (equation_expression (ground_terms g)) g.equations x.place x.member x.at) in
-    let q : IsApart d cs (equation_terms (ground_terms g) x.member) = record { ground = has_equation d cs g h.ground (term_at (ground_terms g) x.member.left) (term_at (ground_terms g) x.member.right) c; fact = f } in
-    subst (λ (y : Term × Term). IsApart d cs y) x.fact q
+    let q : IsDisequal d cs (equation_terms (ground_terms g) x.member) = record { ground = has_equation d cs g h.ground (term_at (ground_terms g) x.member.left) (term_at (ground_terms g) x.member.right) c; fact = f } in
+    subst (λ (y : Term × Term). IsDisequal d cs y) x.fact q
 
-apart_to : (d : Disjunct) (cs : List Clause) (g : Ground) (classes : List ℕ) (positive negative apart : List Bool) → AreHeld d cs g classes positive negative apart → (p : Term × Term) → IsApart d cs p → Contains (picked (equation_terms (ground_terms g)) any_equation apart g.equations) p
-apart_to d cs g classes positive negative apart h p k =
-    let a = equation_place d cs g classes positive negative apart h p.0 p.1 k.ground in
+disequal_to : (d : Disjunct) (cs : List Clause) (g : Ground) (classes : List ℕ) (positive negative disequal : List Bool) → HoldsFacts d cs g classes positive negative disequal → (p : Term × Term) → IsDisequal d cs p → Contains (picked (equation_terms (ground_terms g)) any_equation disequal g.equations) p
+disequal_to d cs g classes positive negative disequal h p k =
+    let a = equation_place d cs g classes positive negative disequal h p.0 p.1 k.ground in
     let l : Term = term_at (ground_terms g) a.equation.left in
     let r : Term = term_at (ground_terms g) a.equation.right in
     let f : Fact d cs (Eq false l r) = subst (λ (y : Term). Fact d cs (Eq false y r)) (sym a.left_is) (subst (λ (y : Term). Fact d cs (Eq false p.0 y)) (sym a.right_is) k.fact) in
-    member_of (picked (equation_terms (ground_terms g)) any_equation apart g.equations) p
-    (picked_find (equation_terms (ground_terms g)) any_equation apart g.equations (λ y. y ≡ p) a.place a.equation a.at ((h.differ a.place a.equation a.at).1 f) refl (λ i. (a.left_is i, a.right_is i)))
+    member_of (picked (equation_terms (ground_terms g)) any_equation disequal g.equations) p
+    (picked_find (equation_terms (ground_terms g)) any_equation disequal g.equations (λ y. y ≡ p) a.place a.equation a.at ((h.differ a.place a.equation a.at).1 f) refl (λ i. (a.left_is i, a.right_is i)))
 
-apart_count : (d : Disjunct) (cs : List Clause) (g : Ground) (classes : List ℕ) (positive negative apart : List Bool) → AreHeld d cs g classes positive negative apart → (table : Table) → HasEntries table (entries_of g classes positive negative apart) → IsCount (IsApart d cs) (length (rows_of table Differ))
-apart_count d cs g classes positive negative apart h table k =
-    let x = rows_count table (entries_of g classes positive negative apart) k Differ tt in
-    let y = all_counts Differ g classes positive negative apart tt in
+disequal_count : (d : Disjunct) (cs : List Clause) (g : Ground) (classes : List ℕ) (positive negative disequal : List Bool) → HoldsFacts d cs g classes positive negative disequal → (table : Table) → HasEntries table (entries_of g classes positive negative disequal) → IsCount (IsDisequal d cs) (count_of table Disequal)
+disequal_count d cs g classes positive negative disequal h table k =
+    let x = rows_count table (entries_of g classes positive negative disequal) k Disequal in
+    let y = all_counts Disequal g classes positive negative disequal tt in
     let z = no_atoms classes positive negative g.atoms in
     record {
-      values = picked (equation_terms (ground_terms g)) any_equation apart g.equations;
-      members = λ p. (apart_from d cs g classes positive negative apart h p, apart_to d cs g classes positive negative apart h p);
-      distinct = picked_distinct (equation_terms (ground_terms g)) any_equation (equation_expression (ground_terms g)) apart g.equations h.ground.distinct_equations (one_equation (ground_terms g));
-      number = omega (arith, x, y, z, count_differ (ground_terms g) classes apart g.equations);
+      values = picked (equation_terms (ground_terms g)) any_equation disequal g.equations;
+      members = λ p. (disequal_from d cs g classes positive negative disequal h p, disequal_to d cs g classes positive negative disequal h p);
+      distinct = picked_distinct (equation_terms (ground_terms g)) any_equation (equation_expression (ground_terms g)) disequal g.equations h.ground.distinct_equations (one_equation (ground_terms g));
+      number = omega (arith, x, y, z, count_differ (ground_terms g) classes disequal g.equations);
     }
 
-pub counted : (d : Disjunct) (cs : List Clause) (g : Ground) (classes : List ℕ) (positive negative apart : List Bool) → AreHeld d cs g classes positive negative apart → (table : Table) → HasEntries table (entries_of g classes positive negative apart) → IsCounted d cs (rows_of table) classes
-counted d cs g classes positive negative apart h table k =
+pub counted : (d : Disjunct) (cs : List Clause) (g : Ground) (classes : List ℕ) (positive negative disequal : List Bool) → HoldsFacts d cs g classes positive negative disequal → (table : Table) → HasEntries table (entries_of g classes positive negative disequal) → IsCounted d cs (count_of table) (length classes)
+counted d cs g classes positive negative disequal h table k =
     record {
-      holds = holds_count d cs g classes positive negative apart h table k;
-      fails = fails_count d cs g classes positive negative apart h table k;
-      differ = apart_count d cs g classes positive negative apart h table k;
+      holds = holds_count d cs g classes positive negative disequal h table k;
+      fails = fails_count d cs g classes positive negative disequal h table k;
+      differ = disequal_count d cs g classes positive negative disequal h table k;
       terms = record { values = (ground_terms g); members = λ t. (has_ground d cs g h.ground t, ground_has d cs g h.ground t); distinct = h.ground.distinct_terms; number = ground_length g ∙ sym h.class_count };
     }

@@ -4,15 +4,15 @@ use Rattle.std.specs.Prelude.{slice_get, slice_index, Some, if◌then◌else◌}
 use Rattle.mz_ground.specs.declared.ground_term.GroundTerm.{GroundTerm}
 use Rattle.mz_ground.specs.declared.ground_atom.GroundAtom.{GroundAtom}
 use Rattle.mz_ground.specs.declared.ground_equation.GroundEquation.{GroundEquation}
-use Rattle.mz_search.specs.Heads.{same_head}
-use Rattle.mz_search.specs.Table.{rows_of}
-use Rattle.mz_search.specs.Rows.{SomeOf}
+use Rattle.mz_match.specs.Heads.{same_head}
+use Rattle.mz_match.specs.Table.{rows_of}
+use Rattle.mz_match.specs.Rows.{SomeOf}
 use Rattle.mz_refute.specs.Entries.{Entry, term_entry, term_entries, sign_entry, atom_entries, equation_entries, rows_for, row_pair, HasEntries}
-use Rattle.mz_search.specs.declared.row.Head.{Head}
-use Rattle.mz_search.specs.declared.row.Head.TheVariants.{Holds, Fails, Differ}
-use Rattle.mz_search.specs.declared.table.Table.{Table}
+use Rattle.mz_match.specs.declared.row.Head.{Head}
+use Rattle.mz_match.specs.declared.row.Head.TheVariants.{Holds, Fails, Disequal}
+use Rattle.mz_match.specs.declared.table.Table.{Table}
 use Rattle.mz_refute.proofs.RowLists.{rows_to, rows_back}
-use Rattle.mz_search.proofs.SomeLemmas.{some_left, some_right, some_cases, into_map, out_of_map}
+use Rattle.mz_match.proofs.SomeLemmas.{some_left, some_right, some_cases, into_map, out_of_map}
 
 -- what the rows with a head are, by the entries
 if_first : (P : List ℕ × ℕ → Type 0) (p : List ℕ × ℕ) (ps : List (List ℕ × ℕ)) (b : Bool) → SomeOf P (if b then p ∷ ps else ps) → ((b ≡ true) × P p) ⊎ SomeOf P ps
@@ -37,11 +37,11 @@ entries_find h P (e ∷ es) k =
 
 pub rows_found : (table : Table) (es : List Entry) → HasEntries table es → (h : Head) (P : List ℕ × ℕ → Type 0) → SomeOf (λ r. P (row_pair r)) (rows_of table h) → SomeOf (λ e. (same_head e.head h ≡ true) × P (e.args, e.value)) es
 unfolding HasEntries
-rows_found table es k h P s = entries_found h P es (rows_to h P (map row_pair (rows_of table h)) (rows_for h es) (k h) (into_map P row_pair (rows_of table h) s))
+rows_found table es k h P s = entries_found h P es (rows_to P (map row_pair (rows_of table h)) (rows_for h es) (k h).members (into_map P row_pair (rows_of table h) s))
 
 pub rows_find : (table : Table) (es : List Entry) → HasEntries table es → (h : Head) (P : List ℕ × ℕ → Type 0) → SomeOf (λ e. (same_head e.head h ≡ true) × P (e.args, e.value)) es → SomeOf (λ r. P (row_pair r)) (rows_of table h)
 unfolding HasEntries
-rows_find table es k h P s = out_of_map P row_pair (rows_of table h) (rows_back h P (map row_pair (rows_of table h)) (rows_for h es) (k h) (entries_find h P es s))
+rows_find table es k h P s = out_of_map P row_pair (rows_of table h) (rows_back P (map row_pair (rows_of table h)) (rows_for h es) (k h).members (entries_find h P es s))
 
 -- what an entry comes from
 pub record FromTerm (P : Entry → Type 0) (classes vs : List ℕ) (ts : List GroundTerm) : Type 0 where
@@ -137,7 +137,7 @@ fails_find P classes (p ∷ ps) (n ∷ ns) (b ∷ os) (suc k) a l x y z =
 
 -- of an equation
 abbrev pub differ_entry : List ℕ → GroundEquation → Entry
-differ_entry classes e = record { head = Differ; args = slice_index classes e.left ∷ slice_index classes e.right ∷ []; value = 0 }
+differ_entry classes e = record { head = Disequal; args = slice_index classes e.left ∷ slice_index classes e.right ∷ []; value = 0 }
 
 pub record FromEquation (P : Entry → Type 0) (classes : List ℕ) (bs : List Bool) (es : List GroundEquation) : Type 0 where
   pub place : ℕ
@@ -151,8 +151,8 @@ equation_found P classes [] es k = absurd k
 equation_found P classes (b ∷ bs) [] k = absurd k
 equation_found P classes (b ∷ bs) (e ∷ es) k =
     let args : List ℕ = slice_index classes e.left ∷ slice_index classes e.right ∷ [] in
-    elim (some_cases P (sign_entry b Differ args) (equation_entries classes bs es) k) [
-      | inl x ↦ let z = sign_found P b Differ args x in record { place = zero; equation = e; at = refl; has = ap (λ c. Some c) z.0; fact = z.1 }
+    elim (some_cases P (sign_entry b Disequal args) (equation_entries classes bs es) k) [
+      | inl x ↦ let z = sign_found P b Disequal args x in record { place = zero; equation = e; at = refl; has = ap (λ c. Some c) z.0; fact = z.1 }
       | inr x ↦ let y = equation_found P classes bs es x in record { place = suc y.place; equation = y.equation; at = y.at; has = y.has; fact = y.fact }
     ]
 
@@ -161,7 +161,7 @@ equation_find P classes [] es k e x y z = cc
 equation_find P classes (b ∷ bs) [] k e x y z = cc
 equation_find P classes (b ∷ bs) (d ∷ es) zero e x y z =
     let q : d ≡ e = cc in
-    some_left P (sign_entry b Differ (slice_index classes d.left ∷ slice_index classes d.right ∷ [])) (equation_entries classes bs es)
-    (sign_find P b Differ (slice_index classes d.left ∷ slice_index classes d.right ∷ []) (bool_injective b true y) (subst (λ (c : GroundEquation). P (differ_entry classes c)) (sym q) z))
+    some_left P (sign_entry b Disequal (slice_index classes d.left ∷ slice_index classes d.right ∷ [])) (equation_entries classes bs es)
+    (sign_find P b Disequal (slice_index classes d.left ∷ slice_index classes d.right ∷ []) (bool_injective b true y) (subst (λ (c : GroundEquation). P (differ_entry classes c)) (sym q) z))
 equation_find P classes (b ∷ bs) (d ∷ es) (suc k) e x y z =
-    some_right P (sign_entry b Differ (slice_index classes d.left ∷ slice_index classes d.right ∷ [])) (equation_entries classes bs es) (equation_find P classes bs es k e x y z)
+    some_right P (sign_entry b Disequal (slice_index classes d.left ∷ slice_index classes d.right ∷ [])) (equation_entries classes bs es) (equation_find P classes bs es k e x y z)

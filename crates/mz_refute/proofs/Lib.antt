@@ -1,5 +1,5 @@
-pub mod AlikeDown
-pub mod AlikeUp
+pub mod CongruentDown
+pub mod CongruentUp
 pub mod AtTerms
 pub mod GroundLaws
 pub mod RefutedDown
@@ -22,5 +22,5 @@ pub mod TermEquality
 pub mod RefutedSound
 pub mod CountLemmas
 pub mod WorkLemmas
-pub mod HeldLaws
+pub mod HoldsLaws
 pub mod IndexLaws

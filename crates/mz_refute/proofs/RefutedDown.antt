@@ -9,19 +9,19 @@ use Rattle.mz_logic.specs.declared.disjunct.Disjunct.{Disjunct}
 use Rattle.mz_ground.specs.declared.clause.Clause.{Clause}
 use Rattle.mz_ground.specs.Facts.{reversed}
 use Rattle.mz_refute.specs.Refuted.{IsRefuted, falsity, atom, equation, disequation, negation, first, second, both, at_term, listed}
-use Rattle.mz_search.specs.declared.row.Head.{Head}
-use Rattle.mz_search.specs.declared.row.Head.TheVariants.{Holds, Fails}
-use Rattle.mz_search.specs.declared.row.Row.{Row}
-use Rattle.mz_search.specs.Rows.{Vals, RowOn}
-use Rattle.mz_search.specs.RowsAlike.{AlikeFormula}
-use Rattle.mz_search.specs.RowsRefuted.{RowsRefute}
+use Rattle.mz_match.specs.declared.row.Head.{Head}
+use Rattle.mz_match.specs.declared.row.Head.TheVariants.{Holds, Fails}
+use Rattle.mz_match.specs.declared.row.Row.{Row}
+use Rattle.mz_match.specs.Rows.{Vals, RowOn}
+use Rattle.mz_match.specs.RowsCongruent.{AreCongruentFormulas}
+use Rattle.mz_match.specs.RowsRefuted.{RowsRefute}
 use Rattle.mz_refute.specs.Tabled.{IsTabled}
 use Rattle.mz_refute.proofs.AtTerms as at
 use Rattle.mz_refute.proofs.AtTerms.{at_formula}
 use Rattle.mz_logic.proofs.ValueLaws.{substitute_formula-one_others, substitute_formula-no_values}
 use Rattle.mz_refute.proofs.GroundLaws.{fact_ground}
 use Rattle.mz_refute.proofs.TableDown.{some_in, AllStand, args_down, equal_down, sides_down}
-use Rattle.mz_refute.proofs.AlikeDown.{formula_down}
+use Rattle.mz_refute.proofs.CongruentDown.{formula_down}
 
 pub refuted_down : (d : Disjunct) (cs : List Clause) (class : Term → ℕ) (rows : Head → List Row) (values : List ℕ) → IsTabled d cs class rows values → (s : Bool) (f : Formula) (a : List ℕ) (ts : List Term) → AllStand d cs class a ts → RowsRefute rows values d.universals s a f → IsRefuted d cs s (at_formula 0 ts f)
 unfolding RowsRefute RowOn
@@ -57,7 +57,7 @@ refuted_down d cs class rows values h true (form.All b) a ts all k =
     let r : IsRefuted d cs true (at_formula 0 (p.0 ∷ ts) b) = refuted_down d cs class rows values h true b (k.0 ∷ a) (p.0 ∷ ts) (p.1, all) k.1 in
     at_term (at_formula (0 + 1) ts b) p.0 p.1.0 (subst (λ (x : Formula). IsRefuted d cs true x) (sym (substitute_formula-one_others 0 p.0 ts b)) r)
 refuted_down d cs class rows values h false (form.All b) a ts all k =
-    let x = some_in (λ u. AlikeFormula rows 0 a true (form.All b) true u) d.universals k in
+    let x = some_in (λ u. AreCongruentFormulas rows 0 a true (form.All b) true u) d.universals k in
     listed (at_formula (0 + 1) ts b) x.0 x.1.0 (formula_down d cs class rows values h 0 a ts all true (form.All b) true x.0 x.1.1)
 
 -- a formula as it stands

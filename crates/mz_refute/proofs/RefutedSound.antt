@@ -25,8 +25,8 @@ use Rattle.mz_ground.specs.Laws.{IsGranted}
 use Rattle.mz_ground.proofs.FactsSound.{expression_closed-InLayer, literal_closed-Fact, sides, closed_args, fact_derives, contradiction_derives}
 use Rattle.mz_refute.specs.Valued as valued
 use Rattle.mz_refute.specs.Valued.{IsValued, AreValued}
-use Rattle.mz_refute.specs.Alike as alike
-use Rattle.mz_refute.specs.Alike.{plain, AreAlike, AllAlike, AreAlikeFormulas}
+use Rattle.mz_refute.specs.EqualModuloFacts as equal
+use Rattle.mz_refute.specs.EqualModuloFacts.{plain, EqualModuloFacts, AllEqualModuloFacts, FormulasEqualModuloFacts}
 use Rattle.mz_refute.specs.Refuted as refuted
 use Rattle.mz_refute.specs.Refuted.{IsRefuted}
 use Rattle.mz_refute.specs.Closes as closes
@@ -119,49 +119,49 @@ RespectsTerms K = (t u : Term) (xs ys : List Term) → ArgsReplaced t u (terms_o
 abbrev RespectsFormula : (Formula → Formula) → Type 0
 RespectsFormula K = (t u : Term) (x y : Formula) → Replaced t u x y → Replaced t u (K x) (K y)
 
--- what is alike may stand for one another
+-- what is congruent may stand for one another
 mutual
-  alike_term : (ax g : List Formula) (d : Disjunct) (cs : List Clause) → IsGranted ax g d cs → (t u : Term) → AreAlike d cs t u → (K : Term → Formula) → RespectsTerm K → Derives ax g (K u) → Derives ax g (K t)
-  alike_term ax g d cs h t u (alike.as_written v c) K r e = e
-  alike_term ax g d cs h t u (alike.in_value v w x a b) K r e =
+  congruent_term : (ax g : List Formula) (d : Disjunct) (cs : List Clause) → IsGranted ax g d cs → (t u : Term) → EqualModuloFacts d cs t u → (K : Term → Formula) → RespectsTerm K → Derives ax g (K u) → Derives ax g (K t)
+  congruent_term ax g d cs h t u (equal.as_written v c) K r e = e
+  congruent_term ax g d cs h t u (equal.in_value v w x a b) K r e =
       let cv : closed v ≡ true = valued_closed d cs v x a in
       let cw : closed w ≡ true = valued_closed d cs w x b in
       let cx : closed x ≡ true = value_closed d cs x v a in
       let equal : Derives ax g (formula.Eq w v) = connectives.chained ax g w x v cx cv (value_derives ax g d cs h w x b) (value_turned ax g d cs h v x a) in
       replace ax g w v (K w) (K v) cw cv (r w v w v replaced) equal e
-  alike_term ax g d cs h t u (alike.one_index index) K r e = e
-  alike_term ax g d cs h t u (alike.one_symbol s ts us a) K r e =
-      alike_terms ax g d cs h ts us a (λ xs. K (App s (terms_of xs))) (λ v w xs ys m. r v w (App s (terms_of xs)) (App s (terms_of ys)) (within s (terms_of xs) (terms_of ys) m)) e
+  congruent_term ax g d cs h t u (equal.one_index index) K r e = e
+  congruent_term ax g d cs h t u (equal.one_symbol s ts us a) K r e =
+      congruent_terms ax g d cs h ts us a (λ xs. K (App s (terms_of xs))) (λ v w xs ys m. r v w (App s (terms_of xs)) (App s (terms_of ys)) (within s (terms_of xs) (terms_of ys) m)) e
 
-  alike_terms : (ax g : List Formula) (d : Disjunct) (cs : List Clause) → IsGranted ax g d cs → (ts us : List Term) → AllAlike d cs ts us → (K : List Term → Formula) → RespectsTerms K → Derives ax g (K us) → Derives ax g (K ts)
-  alike_terms ax g d cs h ts us alike.no_terms K r e = e
-  alike_terms ax g d cs h ts us (alike.and_terms t u vs ws a rest) K r e =
+  congruent_terms : (ax g : List Formula) (d : Disjunct) (cs : List Clause) → IsGranted ax g d cs → (ts us : List Term) → AllEqualModuloFacts d cs ts us → (K : List Term → Formula) → RespectsTerms K → Derives ax g (K us) → Derives ax g (K ts)
+  congruent_terms ax g d cs h ts us equal.no_terms K r e = e
+  congruent_terms ax g d cs h ts us (equal.and_terms t u vs ws a rest) K r e =
       let head : Derives ax g (K (t ∷ ws)) =
-      alike_term ax g d cs h t u a (λ x. K (x ∷ ws)) (λ v w x y m. r v w (x ∷ ws) (y ∷ ws) (next x y (terms_of ws) (terms_of ws) m (all_kept v w ws))) e in
-      alike_terms ax g d cs h vs ws rest (λ xs. K (t ∷ xs)) (λ v w xs ys m. r v w (t ∷ xs) (t ∷ ys) (next t t (terms_of xs) (terms_of ys) (kept t) m)) head
+      congruent_term ax g d cs h t u a (λ x. K (x ∷ ws)) (λ v w x y m. r v w (x ∷ ws) (y ∷ ws) (next x y (terms_of ws) (terms_of ws) m (all_kept v w ws))) e in
+      congruent_terms ax g d cs h vs ws rest (λ xs. K (t ∷ xs)) (λ v w xs ys m. r v w (t ∷ xs) (t ∷ ys) (next t t (terms_of xs) (terms_of ys) (kept t) m)) head
 
-alike_formula : (ax g : List Formula) (d : Disjunct) (cs : List Clause) → IsGranted ax g d cs → (f k : Formula) → AreAlikeFormulas d cs f k → (K : Formula → Formula) → RespectsFormula K → Derives ax g (K k) → Derives ax g (K f)
-alike_formula ax g d cs h f k alike.truths K r e = e
-alike_formula ax g d cs h f k (alike.equations t u v w a b) K r e =
+congruent_formula : (ax g : List Formula) (d : Disjunct) (cs : List Clause) → IsGranted ax g d cs → (f k : Formula) → FormulasEqualModuloFacts d cs f k → (K : Formula → Formula) → RespectsFormula K → Derives ax g (K k) → Derives ax g (K f)
+congruent_formula ax g d cs h f k equal.truths K r e = e
+congruent_formula ax g d cs h f k (equal.equations t u v w a b) K r e =
     let left : Derives ax g (K (formula.Eq t w)) =
-    alike_term ax g d cs h t v a (λ x. K (formula.Eq x w)) (λ p q x y m. r p q (formula.Eq x w) (formula.Eq y w) (m, kept w)) e in
-    alike_term ax g d cs h u w b (λ x. K (formula.Eq t x)) (λ p q x y m. r p q (formula.Eq t x) (formula.Eq t y) (kept t, m)) left
-alike_formula ax g d cs h f k (alike.atoms s ts us a) K r e =
-    alike_terms ax g d cs h ts us a (λ xs. K (formula.Atom s xs)) (λ p q xs ys m. r p q (formula.Atom s xs) (formula.Atom s ys) (refl, m)) e
-alike_formula ax g d cs h f k (alike.negations l m a) K r e =
-    alike_formula ax g d cs h l m a (λ x. K (Not x)) (λ p q x y n. r p q (Not x) (Not y) n) e
-alike_formula ax g d cs h f k (alike.conjunctions l m n o a b) K r e =
+    congruent_term ax g d cs h t v a (λ x. K (formula.Eq x w)) (λ p q x y m. r p q (formula.Eq x w) (formula.Eq y w) (m, kept w)) e in
+    congruent_term ax g d cs h u w b (λ x. K (formula.Eq t x)) (λ p q x y m. r p q (formula.Eq t x) (formula.Eq t y) (kept t, m)) left
+congruent_formula ax g d cs h f k (equal.atoms s ts us a) K r e =
+    congruent_terms ax g d cs h ts us a (λ xs. K (formula.Atom s xs)) (λ p q xs ys m. r p q (formula.Atom s xs) (formula.Atom s ys) (refl, m)) e
+congruent_formula ax g d cs h f k (equal.negations l m a) K r e =
+    congruent_formula ax g d cs h l m a (λ x. K (Not x)) (λ p q x y n. r p q (Not x) (Not y) n) e
+congruent_formula ax g d cs h f k (equal.conjunctions l m n o a b) K r e =
     let left : Derives ax g (K (And l o)) =
-    alike_formula ax g d cs h l n a (λ x. K (And x o)) (λ p q x y z. r p q (And x o) (And y o) (z, formula_kept p q o)) e in
-    alike_formula ax g d cs h m o b (λ x. K (And l x)) (λ p q x y z. r p q (And l x) (And l y) (formula_kept p q l, z)) left
-alike_formula ax g d cs h f k (alike.universals l m a) K r e =
-    alike_formula ax g d cs h l m a (λ x. K (All x)) (λ p q x y n. r p q (All x) (All y) n) e
+    congruent_formula ax g d cs h l n a (λ x. K (And x o)) (λ p q x y z. r p q (And x o) (And y o) (z, formula_kept p q o)) e in
+    congruent_formula ax g d cs h m o b (λ x. K (And l x)) (λ p q x y z. r p q (And l x) (And l y) (formula_kept p q l, z)) left
+congruent_formula ax g d cs h f k (equal.universals l m a) K r e =
+    congruent_formula ax g d cs h l m a (λ x. K (All x)) (λ p q x y n. r p q (All x) (All y) n) e
 
--- a universal that is alike one that derives
-listed_derives : (ax g : List Formula) (d : Disjunct) (cs : List Clause) → IsGranted ax g d cs → (f u : Formula) → AreAlikeFormulas d cs (plain f) (plain u) → Derives ax g u → Derives ax g f
+-- a universal that is congruent to one that derives
+listed_derives : (ax g : List Formula) (d : Disjunct) (cs : List Clause) → IsGranted ax g d cs → (f u : Formula) → FormulasEqualModuloFacts d cs (plain f) (plain u) → Derives ax g u → Derives ax g f
 listed_derives ax g d cs h f u a e =
     let from_plain : Derives ax g (plain u) = same_derives ax g u (plain u) (IsSame-plain u) e in
-    let to_plain : Derives ax g (plain f) = alike_formula ax g d cs h (plain f) (plain u) a (λ x. x) (λ p q x y m. m) from_plain in
+    let to_plain : Derives ax g (plain f) = congruent_formula ax g d cs h (plain f) (plain u) a (λ x. x) (λ p q x y m. m) from_plain in
     same_derives ax g (plain f) f (exchanged f (plain f) (IsSame-plain f)) to_plain
 
 pub refuted_derives : (ax g : List Formula) (d : Disjunct) (cs : List Clause) → IsGranted ax g d cs → AreGranted ax g d → (positive : Bool) (f : Formula) → IsRefuted d cs positive f → Derives ax g (refutation positive f)

@@ -13,20 +13,20 @@ use Rattle.mz_ground.specs.Layers.{of_universal, earlier}
 use Rattle.mz_ground.specs.Facts.{Fact}
 use Rattle.mz_refute.specs.Valued.{AreValued}
 use Rattle.mz_refute.specs.Refuted.{IsRefuted, falsity, atom, equation, disequation, negation, first, second, both, at_term, listed}
-use Rattle.mz_search.specs.declared.row.Head.{Head}
-use Rattle.mz_search.specs.declared.row.Head.TheVariants.{Holds, Fails}
-use Rattle.mz_search.specs.declared.row.Row.{Row}
-use Rattle.mz_search.specs.Rows.{SomeOf, Vals, RowOn}
-use Rattle.mz_search.specs.RowsAlike.{AlikeFormula}
-use Rattle.mz_search.specs.RowsRefuted.{RowsRefute}
+use Rattle.mz_match.specs.declared.row.Head.{Head}
+use Rattle.mz_match.specs.declared.row.Head.TheVariants.{Holds, Fails}
+use Rattle.mz_match.specs.declared.row.Row.{Row}
+use Rattle.mz_match.specs.Rows.{SomeOf, Vals, RowOn}
+use Rattle.mz_match.specs.RowsCongruent.{AreCongruentFormulas}
+use Rattle.mz_match.specs.RowsRefuted.{RowsRefute}
 use Rattle.mz_refute.specs.Tabled.{IsTabled}
-use Rattle.mz_search.proofs.SomeLemmas.{some_map}
+use Rattle.mz_match.proofs.SomeLemmas.{some_map}
 use Rattle.mz_refute.proofs.AtTerms as at
 use Rattle.mz_refute.proofs.AtTerms.{at_formula}
 use Rattle.mz_logic.proofs.ValueLaws.{substitute_formula-one_others, substitute_formula-no_values}
 use Rattle.mz_refute.proofs.GroundLaws.{AllGround}
 use Rattle.mz_refute.proofs.TableUp.{list_up, equal_up, sides_up}
-use Rattle.mz_refute.proofs.AlikeUp.{formula_up, FormulaFilled}
+use Rattle.mz_refute.proofs.CongruentUp.{formula_up, FormulaFilled}
 
 -- the terms of a listed universal that have no index are ground
 pub universal_filled : (d : Disjunct) (cs : List Clause) (u : Formula) → Contains d.universals u → FormulaFilled d cs u
@@ -67,7 +67,7 @@ refuted_up d cs class rows values h s (form.All b) ts all (at_term x t c r) =
     let q : IsRefuted d cs true (at_formula 0 (t ∷ ts) b) = subst (λ (k : Formula). IsRefuted d cs true k) (substitute_formula-one_others 0 t ts b) r in
     (class t, refuted_up d cs class rows values h true b (t ∷ ts) (c, all) q)
 refuted_up d cs class rows values h s (form.All b) ts all (listed x u m k) =
-    some_of_member (λ g. AlikeFormula rows 0 (map class ts) true (form.All b) true g) d.universals u m
+    some_of_member (λ g. AreCongruentFormulas rows 0 (map class ts) true (form.All b) true g) d.universals u m
     (formula_up d cs class rows values h 0 ts all true (form.All b) true u (universal_filled d cs u m) k)
 
 -- a formula as it stands

@@ -5,7 +5,7 @@ use Rattle.mz_logic.specs.Negation.{negated}
 use Rattle.mz_logic.specs.Formula.{Formula, Truth, Eq, Atom, Not, And, All}
 use Rattle.mz_logic.specs.declared.disjunct.Disjunct.{Disjunct}
 use Rattle.mz_ground.specs.declared.clause.Clause.{Clause}
-use Rattle.mz_refute.specs.Alike.{plain, AreAlikeFormulas, truths, equations, atoms, negations, conjunctions, universals}
+use Rattle.mz_refute.specs.EqualModuloFacts.{plain, FormulasEqualModuloFacts, truths, equations, atoms, negations, conjunctions, universals}
 
 abbrev pub signed_as : Bool → Formula → Formula
 signed_as true f = f
@@ -76,15 +76,15 @@ pub signed_not : (p : Bool) (f : Formula) → signed_plain p (Not f) ≡ signed_
 signed_not true f = refl
 signed_not false f = negated_twice (plain f) (plain_single f)
 
-pub are_alike_signed : (d : Disjunct) (cs : List Clause) (p q : Bool) (x y : Formula) → IsHead x → IsHead y → p ≡ q → AreAlikeFormulas d cs x y → AreAlikeFormulas d cs (signed_as p x) (signed_as q y)
-are_alike_signed d cs true true x y a b e h = h
-are_alike_signed d cs true false x y a b e h = cc
-are_alike_signed d cs false true x y a b e h = cc
-are_alike_signed d cs false false x y a b e h =
-    subst (λ (z : Formula). AreAlikeFormulas d cs z (negated y)) (sym (negated_head x a)) (subst (λ (z : Formula). AreAlikeFormulas d cs (Not x) z) (sym (negated_head y b)) (negations x y h))
+pub are_congruent_signed : (d : Disjunct) (cs : List Clause) (p q : Bool) (x y : Formula) → IsHead x → IsHead y → p ≡ q → FormulasEqualModuloFacts d cs x y → FormulasEqualModuloFacts d cs (signed_as p x) (signed_as q y)
+are_congruent_signed d cs true true x y a b e h = h
+are_congruent_signed d cs true false x y a b e h = cc
+are_congruent_signed d cs false true x y a b e h = cc
+are_congruent_signed d cs false false x y a b e h =
+    subst (λ (z : Formula). FormulasEqualModuloFacts d cs z (negated y)) (sym (negated_head x a)) (subst (λ (z : Formula). FormulasEqualModuloFacts d cs (Not x) z) (sym (negated_head y b)) (negations x y h))
 
--- a negation is alike negations only
-left_not : (d : Disjunct) (cs : List Clause) (x y z : Formula) → AreAlikeFormulas d cs x y → x ≡ Not z → IsHead y → ⊥
+-- a negation is congruent to negations only
+left_not : (d : Disjunct) (cs : List Clause) (x y z : Formula) → FormulasEqualModuloFacts d cs x y → x ≡ Not z → IsHead y → ⊥
 left_not d cs x y z truths e b = cc
 left_not d cs x y z (equations t u v w h k) e b = cc
 left_not d cs x y z (atoms s ts us h) e b = cc
@@ -92,7 +92,7 @@ left_not d cs x y z (negations f g h) e b = b
 left_not d cs x y z (conjunctions f g h k a c) e b = cc
 left_not d cs x y z (universals f g h) e b = cc
 
-right_not : (d : Disjunct) (cs : List Clause) (x y z : Formula) → AreAlikeFormulas d cs x y → y ≡ Not z → IsHead x → ⊥
+right_not : (d : Disjunct) (cs : List Clause) (x y z : Formula) → FormulasEqualModuloFacts d cs x y → y ≡ Not z → IsHead x → ⊥
 right_not d cs x y z truths e b = cc
 right_not d cs x y z (equations t u v w h k) e b = cc
 right_not d cs x y z (atoms s ts us h) e b = cc
@@ -100,12 +100,12 @@ right_not d cs x y z (negations f g h) e b = b
 right_not d cs x y z (conjunctions f g h k a c) e b = cc
 right_not d cs x y z (universals f g h) e b = cc
 
-both_not : (d : Disjunct) (cs : List Clause) (x y : Formula) → AreAlikeFormulas d cs (Not x) (Not y) → AreAlikeFormulas d cs x y
+both_not : (d : Disjunct) (cs : List Clause) (x y : Formula) → FormulasEqualModuloFacts d cs (Not x) (Not y) → FormulasEqualModuloFacts d cs x y
 both_not d cs x y (negations f g h) = h
 
-pub signed_parts : (d : Disjunct) (cs : List Clause) (p q : Bool) (x y : Formula) → IsHead x → IsHead y → AreAlikeFormulas d cs (signed_as p x) (signed_as q y) → (p ≡ q) × AreAlikeFormulas d cs x y
+pub signed_parts : (d : Disjunct) (cs : List Clause) (p q : Bool) (x y : Formula) → IsHead x → IsHead y → FormulasEqualModuloFacts d cs (signed_as p x) (signed_as q y) → (p ≡ q) × FormulasEqualModuloFacts d cs x y
 signed_parts d cs true true x y a b h = (refl, h)
 signed_parts d cs true false x y a b h = absurd (right_not d cs x (negated y) y h (negated_head y b) a)
 signed_parts d cs false true x y a b h = absurd (left_not d cs (negated x) y x h (negated_head x a) b)
 signed_parts d cs false false x y a b h =
-    (refl, both_not d cs x y (subst (λ (z : Formula). AreAlikeFormulas d cs (Not x) z) (negated_head y b) (subst (λ (z : Formula). AreAlikeFormulas d cs z (negated y)) (negated_head x a) h)))
+    (refl, both_not d cs x y (subst (λ (z : Formula). FormulasEqualModuloFacts d cs (Not x) z) (negated_head y b) (subst (λ (z : Formula). FormulasEqualModuloFacts d cs z (negated y)) (negated_head x a) h)))

@@ -13,10 +13,10 @@ use Rattle.mz_ground.specs.declared.clause.Clause.{Clause}
 use Rattle.mz_ground.specs.Layers.{IsGroundTerm}
 use Rattle.mz_ground.specs.Facts.{Fact, reflexive}
 use Rattle.mz_refute.specs.Valued.{IsValued, AreValued, by_arguments, no_values, and_values}
-use Rattle.mz_search.specs.declared.row.Head.{Head}
-use Rattle.mz_search.specs.declared.row.Head.TheVariants.{Constant, Functor, Differ}
-use Rattle.mz_search.specs.declared.row.Row.{Row}
-use Rattle.mz_search.specs.Rows.{SomeOf, IsNone, has_value, Val, Vals, RowOn, OneValue}
+use Rattle.mz_match.specs.declared.row.Head.{Head}
+use Rattle.mz_match.specs.declared.row.Head.TheVariants.{Constant, Functor, Disequal}
+use Rattle.mz_match.specs.declared.row.Row.{Row}
+use Rattle.mz_match.specs.Rows.{SomeOf, IsNone, has_value, Val, Vals, RowOn, OneValue}
 use Rattle.mz_refute.specs.Tabled.{IsTabled, StandsFor}
 use Rattle.mz_refute.proofs.GroundLaws.{AllGround, member_head, member_tail, ground_closed, parts_ground, fact_ground}
 use Rattle.mz_refute.proofs.ValueLaws.{value_self, value_moves}
@@ -152,11 +152,11 @@ pub record SidesDown (d : Disjunct) (cs : List Clause) (t u : Term) : Type 0 whe
 two_values : (d : Disjunct) (cs : List Clause) (t u v w : Term) (ts : List Term) → AreValued d cs (at_term 0 ts t ∷ at_term 0 ts u ∷ []) (v ∷ w ∷ []) → IsValued d cs (at_term 0 ts t) v × IsValued d cs (at_term 0 ts u) w
 two_values d cs t u v w ts (and_values x y xs ys a (and_values x2 y2 xs2 ys2 b no_values)) = (a, b)
 
-pub sides_down : (d : Disjunct) (cs : List Clause) (class : Term → ℕ) (rows : Head → List Row) (values : List ℕ) → IsTabled d cs class rows values → (a : List ℕ) (ts : List Term) → AllStand d cs class a ts → (t u : Term) → RowOn rows a Differ (term.more t (term.more u term.none)) → SidesDown d cs (at_term 0 ts t) (at_term 0 ts u)
+pub sides_down : (d : Disjunct) (cs : List Clause) (class : Term → ℕ) (rows : Head → List Row) (values : List ℕ) → IsTabled d cs class rows values → (a : List ℕ) (ts : List Term) → AllStand d cs class a ts → (t u : Term) → RowOn rows a Disequal (term.more t (term.more u term.none)) → SidesDown d cs (at_term 0 ts t) (at_term 0 ts u)
 unfolding RowOn
 sides_down d cs class rows values h a ts all t u k =
-    let x = some_in (λ r. Vals rows 0 a (term.more t (term.more u term.none)) r.args.items) (rows Differ) k in
-    let m = h.means Differ x.0 x.1.0 in
+    let x = some_in (λ r. Vals rows 0 a (term.more t (term.more u term.none)) r.args.items) (rows Disequal) k in
+    let m = h.means Disequal x.0 x.1.0 in
     let g = fact_ground d cs (Eq false m.0 m.1) m.2 in
     let vs : AreValued d cs (at_term 0 ts t ∷ at_term 0 ts u ∷ []) (m.0 ∷ m.1 ∷ []) = args_down d cs class rows values h a ts all (t ∷ u ∷ []) (m.0 ∷ m.1 ∷ []) x.0.args.items (g.0, (g.1, tt)) m.3 x.1.1 in
     let y = two_values d cs t u m.0 m.1 ts vs in

@@ -12,12 +12,12 @@ use Rattle.mz_ground.specs.declared.clause.Clause.{Clause}
 use Rattle.mz_ground.specs.Layers.{IsGroundTerm}
 use Rattle.mz_ground.specs.Facts.{Fact}
 use Rattle.mz_refute.specs.Valued.{IsValued, AreValued, as_ground, by_arguments, no_values, and_values}
-use Rattle.mz_search.specs.declared.row.Head.{Head}
-use Rattle.mz_search.specs.declared.row.Head.TheVariants.{Constant, Functor, Differ}
-use Rattle.mz_search.specs.declared.row.Row.{Row}
-use Rattle.mz_search.specs.Rows.{IsNone, has_value, Val, Vals, RowOn, OneValue}
+use Rattle.mz_match.specs.declared.row.Head.{Head}
+use Rattle.mz_match.specs.declared.row.Head.TheVariants.{Constant, Functor, Disequal}
+use Rattle.mz_match.specs.declared.row.Row.{Row}
+use Rattle.mz_match.specs.Rows.{IsNone, has_value, Val, Vals, RowOn, OneValue}
 use Rattle.mz_refute.specs.Tabled.{IsTabled}
-use Rattle.mz_search.proofs.SomeLemmas.{some_map}
+use Rattle.mz_match.proofs.SomeLemmas.{some_map}
 use Rattle.mz_refute.proofs.GroundLaws.{AllGround, all_closed}
 use Rattle.mz_refute.proofs.ValueLaws.{value_parts, ground_value, value_closed, value_ground}
 use Rattle.mz_refute.proofs.AtTerms.{at_term, at_args, at_list, at_inner, at_outer, at_free}
@@ -105,12 +105,12 @@ equal_up d cs class rows values h ts all (Bound i) (Bound j) w a b =
 equal_up d cs class rows values h ts all (Const n) (Bound j) w a b = (class w, (val_up d cs class rows values h 0 ts all (Const n) w a, val_up d cs class rows values h 0 ts all (Bound j) w b))
 equal_up d cs class rows values h ts all (App s us) (Bound j) w a b = (class w, (val_up d cs class rows values h 0 ts all (App s us) w a, val_up d cs class rows values h 0 ts all (Bound j) w b))
 
-pub sides_up : (d : Disjunct) (cs : List Clause) (class : Term → ℕ) (rows : Head → List Row) (values : List ℕ) → IsTabled d cs class rows values → (ts : List Term) → AllGround d cs ts → (t u v w : Term) → IsValued d cs (at_term 0 ts t) v → IsValued d cs (at_term 0 ts u) w → Fact d cs (Eq false v w) → RowOn rows (map class ts) Differ (term.more t (term.more u term.none)) ⊎ RowOn rows (map class ts) Differ (term.more u (term.more t term.none))
+pub sides_up : (d : Disjunct) (cs : List Clause) (class : Term → ℕ) (rows : Head → List Row) (values : List ℕ) → IsTabled d cs class rows values → (ts : List Term) → AllGround d cs ts → (t u v w : Term) → IsValued d cs (at_term 0 ts t) v → IsValued d cs (at_term 0 ts u) w → Fact d cs (Eq false v w) → RowOn rows (map class ts) Disequal (term.more t (term.more u term.none)) ⊎ RowOn rows (map class ts) Disequal (term.more u (term.more t term.none))
 unfolding RowOn
 sides_up d cs class rows values h ts all t u v w a b f =
     elim (h.differ v w f) [
-      | inl k ↦ inl (some_map (λ r. r.args.items ≡ class v ∷ class w ∷ []) (λ r. Vals rows 0 (map class ts) (term.more t (term.more u term.none)) r.args.items) (rows Differ)
+      | inl k ↦ inl (some_map (λ r. r.args.items ≡ class v ∷ class w ∷ []) (λ r. Vals rows 0 (map class ts) (term.more t (term.more u term.none)) r.args.items) (rows Disequal)
           (λ r e. list_up d cs class rows values h ts all (t ∷ u ∷ []) (v ∷ w ∷ []) r.args.items (and_values (at_term 0 ts t) v (at_term 0 ts u ∷ []) (w ∷ []) a (and_values (at_term 0 ts u) w [] [] b no_values)) e) k)
-      | inr k ↦ inr (some_map (λ r. r.args.items ≡ class w ∷ class v ∷ []) (λ r. Vals rows 0 (map class ts) (term.more u (term.more t term.none)) r.args.items) (rows Differ)
+      | inr k ↦ inr (some_map (λ r. r.args.items ≡ class w ∷ class v ∷ []) (λ r. Vals rows 0 (map class ts) (term.more u (term.more t term.none)) r.args.items) (rows Disequal)
           (λ r e. list_up d cs class rows values h ts all (u ∷ t ∷ []) (w ∷ v ∷ []) r.args.items (and_values (at_term 0 ts u) w (at_term 0 ts t ∷ []) (v ∷ []) b (and_values (at_term 0 ts t) v [] [] a no_values)) e) k)
     ]

@@ -3,8 +3,8 @@ use Rattle.std.proofs.Common.{◌≡◌, refl, ap, true, eqb-true, eq-eqb}
 use Rattle.mz_logic.specs.Sym.{same_sym}
 use Rattle.mz_logic.specs.Term.{Term, Terms, Bound, Const, App, none, more}
 use Rattle.mz_refute.specs.TermClass.{same_term, same_terms}
-use Rattle.mz_search.proofs.AlikeLemmas.{and_cases, and_true}
-use Rattle.mz_search.proofs.SymbolLaws.{same_sym-true, sym-same}
+use Rattle.mz_match.proofs.CongruentLemmas.{and_cases, and_true}
+use Rattle.mz_match.proofs.SymbolLaws.{same_sym-true, sym-same}
 
 mutual
   pub same_term-true : (t u : Term) → same_term t u ≡ true → t ≡ u

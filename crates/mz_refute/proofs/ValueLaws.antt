@@ -1,4 +1,4 @@
--- Values of terms, and terms that are alike.
+-- Values of terms, and terms that are congruent.
 use Rattle.std.proofs.lemmas.Bool.Decides.{leb_tells}
 use Rattle.std.proofs.Common.{inl, inr, ◌≡◌, ℕ, suc, List, [], ◌∷◌, refl, arith, sym, ◌∙◌, true, subst}
 use Rattle.std.specs.Prelude.{Contains}
@@ -13,7 +13,7 @@ use Rattle.mz_ground.specs.Layers.{IsGroundTerm}
 use Rattle.mz_ground.specs.Facts.{Fact, reflexive, symmetric, transitive, congruent, AreEqual}
 use Rattle.mz_ground.specs.Facts as facts
 use Rattle.mz_refute.specs.Valued.{IsValued, as_ground, by_arguments, AreValued, no_values, and_values}
-use Rattle.mz_refute.specs.Alike.{AreAlike, as_written, in_value, one_index, one_symbol, AllAlike, no_terms, and_terms}
+use Rattle.mz_refute.specs.EqualModuloFacts.{EqualModuloFacts, as_written, in_value, one_index, one_symbol, AllEqualModuloFacts, no_terms, and_terms}
 use Rattle.mz_refute.proofs.GroundLaws.{both_left, both_right, member_head, member_tail, ground_closed, AllGround, parts_ground, equal_ground}
 
 pub value_self : (d : Disjunct) (cs : List Clause) (t : Term) → IsGroundTerm d cs t → IsValued d cs t t
@@ -74,17 +74,17 @@ value_parts d cs x w (by_arguments r ts us y a g f) s vs e =
     let z : terms_of vs ≡ terms_of ts = cc in
     subst (λ (k : Sym). Parts d cs k (terms_of vs) y) q (record { ts = ts; us = us; args = z; ground = g; values = a; fact = f })
 
--- alike terms have an index together
+-- congruent terms have an index together
 mutual
-  pub alike_closed : (d : Disjunct) (cs : List Clause) (t u : Term) → AreAlike d cs t u → closed t ≡ closed u
-  alike_closed d cs t u (as_written x c) = refl
-  alike_closed d cs t u (in_value x y v a b) = value_closed d cs x v a ∙ sym (value_closed d cs y v b)
-  alike_closed d cs t u (one_index i) = refl
-  alike_closed d cs t u (one_symbol s ts us a) = all_alike_closed d cs ts us a
+  pub congruent_closed : (d : Disjunct) (cs : List Clause) (t u : Term) → EqualModuloFacts d cs t u → closed t ≡ closed u
+  congruent_closed d cs t u (as_written x c) = refl
+  congruent_closed d cs t u (in_value x y v a b) = value_closed d cs x v a ∙ sym (value_closed d cs y v b)
+  congruent_closed d cs t u (one_index i) = refl
+  congruent_closed d cs t u (one_symbol s ts us a) = all_congruent_closed d cs ts us a
 
-  pub all_alike_closed : (d : Disjunct) (cs : List Clause) (ts us : List Term) → AllAlike d cs ts us → args_below 0 (terms_of ts) ≡ args_below 0 (terms_of us)
-  all_alike_closed d cs ts us no_terms = refl
-  all_alike_closed d cs ts us (and_terms t u vs ws a b) = rw (alike_closed d cs t u a, all_alike_closed d cs vs ws b) refl
+  pub all_congruent_closed : (d : Disjunct) (cs : List Clause) (ts us : List Term) → AllEqualModuloFacts d cs ts us → args_below 0 (terms_of ts) ≡ args_below 0 (terms_of us)
+  all_congruent_closed d cs ts us no_terms = refl
+  all_congruent_closed d cs ts us (and_terms t u vs ws a b) = rw (congruent_closed d cs t u a, all_congruent_closed d cs vs ws b) refl
 
 -- each term without an index within it is ground
 abbrev pub IsFilled : Disjunct → List Clause → Term → Type 0
@@ -105,18 +105,18 @@ filled_rest d cs u us h v m = h v (member_tail v u us m)
 no_closed_index : (j : ℕ) → closed (Bound j) ≡ true → ⊥
 no_closed_index j h = elim (leb_tells (suc j) 0) [ inl a ↦ omega (arith, a.1) | inr b ↦ let z = b.0 in cc ]
 
--- a term alike one without an index has its value
+-- a term congruent to one without an index has its value
 mutual
-  pub alike_value : (d : Disjunct) (cs : List Clause) (t u : Term) → AreAlike d cs t u → IsFilled d cs u → closed u ≡ true → IsValued d cs t u
-  alike_value d cs t u (as_written x k) h c = value_self d cs x (h x whole c)
-  alike_value d cs t u (in_value x y v a b) h c = value_moves d cs x v y a (symmetric y v (ground_value d cs y v (h y whole c) b))
-  alike_value d cs t u (one_index i) h c = absurd (no_closed_index i c)
-  alike_value d cs t u (one_symbol s ts us a) h c =
+  pub congruent_value : (d : Disjunct) (cs : List Clause) (t u : Term) → EqualModuloFacts d cs t u → IsFilled d cs u → closed u ≡ true → IsValued d cs t u
+  congruent_value d cs t u (as_written x k) h c = value_self d cs x (h x whole c)
+  congruent_value d cs t u (in_value x y v a b) h c = value_moves d cs x v y a (symmetric y v (ground_value d cs y v (h y whole c) b))
+  congruent_value d cs t u (one_index i) h c = absurd (no_closed_index i c)
+  congruent_value d cs t u (one_symbol s ts us a) h c =
       let g : IsGroundTerm d cs (App s (terms_of us)) = h (App s (terms_of us)) whole c in
-      by_arguments s ts us (App s (terms_of us)) (all_alike_value d cs ts us a (filled_args d cs s us h) c) g (reflexive (App s (terms_of us)) g)
+      by_arguments s ts us (App s (terms_of us)) (all_congruent_value d cs ts us a (filled_args d cs s us h) c) g (reflexive (App s (terms_of us)) g)
 
-  pub all_alike_value : (d : Disjunct) (cs : List Clause) (ts us : List Term) → AllAlike d cs ts us → AreFilled d cs us → args_below 0 (terms_of us) ≡ true → AreValued d cs ts us
-  all_alike_value d cs ts us no_terms h c = no_values
-  all_alike_value d cs ts us (and_terms t u vs ws a b) h c =
-      and_values t u vs ws (alike_value d cs t u a (filled_first d cs u ws h) (both_left (closed u) (args_below 0 (terms_of ws)) c))
-      (all_alike_value d cs vs ws b (filled_rest d cs u ws h) (both_right (closed u) (args_below 0 (terms_of ws)) c))
+  pub all_congruent_value : (d : Disjunct) (cs : List Clause) (ts us : List Term) → AllEqualModuloFacts d cs ts us → AreFilled d cs us → args_below 0 (terms_of us) ≡ true → AreValued d cs ts us
+  all_congruent_value d cs ts us no_terms h c = no_values
+  all_congruent_value d cs ts us (and_terms t u vs ws a b) h c =
+      and_values t u vs ws (congruent_value d cs t u a (filled_first d cs u ws h) (both_left (closed u) (args_below 0 (terms_of ws)) c))
+      (all_congruent_value d cs vs ws b (filled_rest d cs u ws h) (both_right (closed u) (args_below 0 (terms_of ws)) c))

@@ -1,16 +1,16 @@
 -- The entries of a table: what facts over a ground part it is made of.
-use Rattle.std.specs.Prelude.{◌≡◌, ◌↔◌, ℕ, Bool, true, false, List, [], ◌∷◌, ◌++◌, map, slice_index, if◌then◌else◌}
+use Rattle.std.specs.Prelude.{◌≡◌, ◌↔◌, ℕ, Bool, true, false, List, [], ◌∷◌, ◌++◌, map, length, slice_index, if◌then◌else◌}
 use Rattle.mz_ground.specs.declared.ground_term.GroundTerm.{GroundTerm}
 use Rattle.mz_ground.specs.declared.ground_term.GroundTerm.TheVariants as node
 use Rattle.mz_ground.specs.declared.ground_atom.GroundAtom.{GroundAtom}
 use Rattle.mz_ground.specs.declared.ground_equation.GroundEquation.{GroundEquation}
-use Rattle.mz_search.specs.Heads.{same_head}
-use Rattle.mz_search.specs.Rows.{SomeOf}
-use Rattle.mz_search.specs.Table.{rows_of}
-use Rattle.mz_search.specs.declared.row.Head.{Head}
-use Rattle.mz_search.specs.declared.row.Head.TheVariants.{Constant, Functor, Holds, Fails, Differ}
-use Rattle.mz_search.specs.declared.row.Row.{Row}
-use Rattle.mz_search.specs.declared.table.Table.{Table}
+use Rattle.mz_match.specs.Heads.{same_head}
+use Rattle.mz_match.specs.Rows.{SomeOf}
+use Rattle.mz_match.specs.Table.{rows_of, count_of}
+use Rattle.mz_match.specs.declared.row.Head.{Head}
+use Rattle.mz_match.specs.declared.row.Head.TheVariants.{Constant, Functor, Holds, Fails, Disequal}
+use Rattle.mz_match.specs.declared.row.Row.{Row}
+use Rattle.mz_match.specs.declared.table.Table.{Table}
 
 pub record Entry : Type 0 where
   pub head : Head
@@ -42,7 +42,7 @@ atom_entries classes (p ∷ ps) (n ∷ ns) (a ∷ os) = (sign_entry p (Holds a.s
 abbrev pub equation_entries : List ℕ → List Bool → List GroundEquation → List Entry
 equation_entries classes [] es = []
 equation_entries classes (b ∷ bs) [] = []
-equation_entries classes (b ∷ bs) (e ∷ es) = sign_entry b Differ (slice_index classes e.left ∷ slice_index classes e.right ∷ []) ++ equation_entries classes bs es
+equation_entries classes (b ∷ bs) (e ∷ es) = sign_entry b Disequal (slice_index classes e.left ∷ slice_index classes e.right ∷ []) ++ equation_entries classes bs es
 
 -- the rows with a head, by the entries
 abbrev pub rows_for : Head → List Entry → List (List ℕ × ℕ)
@@ -52,29 +52,18 @@ rows_for h (e ∷ es) = if same_head e.head h then (e.args, e.value) ∷ rows_fo
 abbrev pub row_pair : Row → List ℕ × ℕ
 row_pair r = (r.args.items, r.value)
 
--- the head is that of a term
-abbrev pub IsTermHead : Head → Type 0
-IsTermHead (Constant n) = Unit {0}
-IsTermHead (Functor s) = Unit {0}
-IsTermHead (Holds s) = ⊥
-IsTermHead (Fails s) = ⊥
-IsTermHead Differ = ⊥
-
 -- the lists have the same members
-abbrev pub HaveSameMembers : List (List ℕ × ℕ) → List (List ℕ × ℕ) → Type 0
-HaveSameMembers xs ys = (p : List ℕ × ℕ) → SomeOf (λ x. x ≡ p) xs ↔ SomeOf (λ y. y ≡ p) ys
+abbrev pub HaveSameMembers : {X : Type 0} → List X → List X → Type 0
+HaveSameMembers {X} xs ys = (p : X) → SomeOf (λ x. x ≡ p) xs ↔ SomeOf (λ y. y ≡ p) ys
 
--- of terms the lists have the same rows, each perhaps more often in one than in the other; of facts they are one
-abbrev pub AreRows : Head → List (List ℕ × ℕ) → List (List ℕ × ℕ) → Type 0
-AreRows (Constant n) xs ys = HaveSameMembers xs ys
-AreRows (Functor s) xs ys = HaveSameMembers xs ys
-AreRows (Holds s) xs ys = xs ≡ ys
-AreRows (Fails s) xs ys = xs ≡ ys
-AreRows Differ xs ys = xs ≡ ys
+-- the rows with a head are those of the entries, and the count is theirs, equal ones counted each
+pub record AreRows (rows : List Row) (count : ℕ) (ps : List (List ℕ × ℕ)) : Type 0 where
+  pub members : HaveSameMembers (map row_pair rows) ps
+  pub number : count ≡ length ps
 
 -- the table has the rows of the entries
 unfoldable pub HasEntries : Table → List Entry → Type 0
-HasEntries table es = (h : Head) → AreRows h (map row_pair (rows_of table h)) (rows_for h es)
+HasEntries table es = (h : Head) → AreRows (rows_of table h) (count_of table h) (rows_for h es)
 
 -- the table has further entries
 unfoldable pub Grown : Table → Table → List Entry → Type 0

@@ -4,18 +4,21 @@ use Rattle.mz_logic.specs.declared.disjunct.Disjunct.{Disjunct}
 use Rattle.mz_ground.specs.declared.clause.Clause.{Clause}
 use Rattle.mz_ground.specs.declared.ground_part.Ground.{Ground}
 use Rattle.mz_ground.specs.FactSet.{FactView}
-use Rattle.mz_refute.specs.Entries.{HasEntries}
-use Rattle.mz_refute.specs.Held.{AreHeld, entries_of}
+use Rattle.mz_refute.specs.Entries.{HasEntries, HaveSameMembers}
+use Rattle.mz_refute.specs.HoldsFacts.{HoldsFacts, entries_of}
 use Rattle.mz_refute.specs.declared.fact_index.FactIndex.{FactIndex}
 
--- the index has the rows of the facts of the disjunct under the clauses, and the classes of its ground terms
+-- the index has the rows of the facts of the disjunct under the clauses, the classes of its ground terms, and their count
 pub record IsFactIndex (d : Disjunct) (cs : List Clause) (x : FactIndex) : Type 0 where
   pub part : Ground
+  pub classes : List ℕ
   pub positive : List Bool
   pub negative : List Bool
   pub disequal : List Bool
-  pub held : AreHeld d cs part x.values.items positive negative disequal
-  pub entries : HasEntries x.table (entries_of part x.values.items positive negative disequal)
+  pub held : HoldsFacts d cs part classes positive negative disequal
+  pub entries : HasEntries x.table (entries_of part classes positive negative disequal)
+  pub values : HaveSameMembers x.values.items classes
+  pub terms : x.terms ≡ length classes
 
 -- the numbers of the ground terms
 pub record AreClasses (v : FactView) (classes : List ℕ) : Type 0 where

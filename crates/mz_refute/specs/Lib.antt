@@ -1,5 +1,5 @@
 pub mod Valued
-pub mod Alike
+pub mod EqualModuloFacts
 pub mod Refuted
 pub mod Counted
 pub mod Work
@@ -9,6 +9,7 @@ pub mod RowsWork
 pub mod Answered
 pub mod TermClass
 pub mod Entries
-pub mod Held
+pub mod Distinct
+pub mod HoldsFacts
 pub mod Laws
 pub mod FactIndex

@@ -11,7 +11,7 @@ use Rattle.mz_ground.specs.declared.clause.Clause.{Clause}
 use Rattle.mz_ground.specs.Layers.{IsGroundTerm}
 use Rattle.mz_ground.specs.Facts.{Fact}
 use Rattle.mz_refute.specs.Valued.{IsValued, AreValued}
-use Rattle.mz_refute.specs.Alike.{plain, AreAlikeFormulas}
+use Rattle.mz_refute.specs.EqualModuloFacts.{plain, FormulasEqualModuloFacts}
 
 -- `IsRefuted d cs true f`: the formula f is refuted; `IsRefuted d cs false f`: its negation is
 pub data IsRefuted (d : Disjunct) (cs : List Clause) : Bool → Formula → Type 0 where
@@ -32,5 +32,5 @@ pub data IsRefuted (d : Disjunct) (cs : List Clause) : Bool → Formula → Type
   both : (f g : Formula) → IsRefuted d cs false f → IsRefuted d cs false g → IsRefuted d cs false (And f g)
   -- a universal, where its body is at some ground term
   at_term : (b : Formula) (t : Term) → IsGroundTerm d cs t → IsRefuted d cs true (body_at b t) → IsRefuted d cs true (All b)
-  -- a negated universal, where the universal is alike one of the disjunct's
-  listed : (b u : Formula) → Contains d.universals u → AreAlikeFormulas d cs (plain (All b)) (plain u) → IsRefuted d cs false (All b)
+  -- a negated universal, where the universal is congruent to one of the disjunct's
+  listed : (b u : Formula) → Contains d.universals u → FormulasEqualModuloFacts d cs (plain (All b)) (plain u) → IsRefuted d cs false (All b)

@@ -14,7 +14,7 @@ use Rattle.mz_ground.specs.Facts.{Fact}
 use Rattle.mz_refute.specs.Counted.{IsCount}
 
 -- a ground equation whose negation is a fact
-pub record IsApart (d : Disjunct) (cs : List Clause) (sides : Term × Term) : Type 0 where
+pub record IsDisequal (d : Disjunct) (cs : List Clause) (sides : Term × Term) : Type 0 where
   pub ground : IsGroundExpression d cs (EquationExpression sides.0 sides.1)
   pub fact : Fact d cs (Eq false sides.0 sides.1)
 
@@ -30,7 +30,7 @@ pub data IsWork (d : Disjunct) (cs : List Clause) : Bool → Formula → ℕ →
   -- the ground atoms with the symbol and the other sign
   of_atom : (positive : Bool) (s : Sym) (ts : List Term) (n : ℕ) → IsCount (IsSigned d cs (not positive) s) n → IsWork d cs positive (formula.Atom s ts) (capped n)
   -- the ground equations whose negations are facts
-  of_equation : (t u : Term) (n : ℕ) → IsCount (IsApart d cs) n → IsWork d cs true (formula.Eq t u) (capped n)
+  of_equation : (t u : Term) (n : ℕ) → IsCount (IsDisequal d cs) n → IsWork d cs true (formula.Eq t u) (capped n)
   -- the ground terms
   of_disequation : (t u : Term) (n : ℕ) → IsCount (IsGroundTerm d cs) n → IsWork d cs false (formula.Eq t u) (capped n)
   of_negation : (positive : Bool) (f : Formula) (n : ℕ) → IsWork d cs (not positive) f n → IsWork d cs positive (Not f) n

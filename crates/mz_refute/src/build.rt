@@ -1,18 +1,16 @@
 //! The table of facts.
 ghost use Rattle.std.specs.Prelude.{◌≡◌, ◌++◌, ◌∷◌, ◌<◌, [], Bool, List, ℕ, IfOk, OnOk, length, map, slice_index};
 ghost use Rattle.mz_refute.specs.Entries.{Grown, HasEntries, term_entry, term_entries, atom_entries, equation_entries, sign_entry};
-ghost use Rattle.mz_refute.specs.Held.{entries_of};
-ghost use Rattle.mz_search.specs.declared.row.Head.TheVariants.{Holds, Fails, Differ};
+ghost use Rattle.mz_refute.specs.HoldsFacts.{entries_of};
+ghost use Rattle.mz_match.specs.declared.row.Head.TheVariants.{Holds, Fails, Disequal};
 
-use crate::distinct::add_distinct;
-use mz_ground::ground_part::Ground;
 use mz_ground::ground_atom::GroundAtom;
 use mz_ground::ground_equation::GroundEquation;
+use mz_ground::ground_part::Ground;
 use mz_ground::ground_term::GroundTerm;
-use mz_search::row::{Head, Row};
-use mz_search::table::Table;
+use mz_match::row::{Head, Row};
+use mz_match::table::Table;
 use std::alloc::{AllocError, Global};
-use std::collections::HashSet;
 
 fn class_of(classes: &[usize], place: usize) -> usize
     ensures { result ≡ slice_index classes.now place }
@@ -38,7 +36,6 @@ fn classes_of(alloc: Global, classes: &[usize], places: &[usize]) -> Result<Vec<
 fn add_term(
     alloc: Global,
     table: &mut Table,
-    seen: &mut HashSet<u64>,
     classes: &[usize],
     e: &GroundTerm,
     value: usize,
@@ -48,12 +45,12 @@ fn add_term(
     match e {
         GroundTerm::Const(n) => {
             let args = Vec::new(alloc);
-            add_distinct(alloc, table, seen, Head::Constant(*n), Row { args, value })?;
+            table.add(alloc, Head::Constant(*n), Row { args, value })?;
             Ok(())
         }
         GroundTerm::App { sym, args } => {
             let args = classes_of(alloc, classes, args.as_slice())?;
-            add_distinct(alloc, table, seen, Head::Functor(*sym), Row { args, value })?;
+            table.add(alloc, Head::Functor(*sym), Row { args, value })?;
             Ok(())
         }
     }
@@ -69,16 +66,8 @@ fn add_terms(
     requires { length classes.now ≡ length ground.now.terms }
     ensures { OnOk result (Grown table.old table.new (term_entries classes.now classes.now ground.now.terms)) }
 {
-    let mut seen = HashSet::new(alloc);
     for i in 0..classes.len() {
-        add_term(
-            alloc,
-            table,
-            &mut seen,
-            classes,
-            ground.terms.get(i),
-            classes[i],
-        )?;
+        add_term(alloc, table, classes, ground.terms.get(i), classes[i])?;
     }
     Ok(())
 }
@@ -164,16 +153,16 @@ fn add_equation(
     table: &mut Table,
     classes: &[usize],
     e: &GroundEquation,
-    apart: bool,
+    disequal: bool,
 ) -> Result<(), AllocError>
-    ensures { OnOk result (Grown table.old table.new (sign_entry apart Differ (slice_index classes.now e.now.left ∷ slice_index classes.now e.now.right ∷ []))) }
+    ensures { OnOk result (Grown table.old table.new (sign_entry disequal Disequal (slice_index classes.now e.now.left ∷ slice_index classes.now e.now.right ∷ []))) }
 {
     add_fact(
         alloc,
         table,
         classes,
-        apart,
-        Head::Differ,
+        disequal,
+        Head::Disequal,
         &[e.left, e.right],
     )
 }
@@ -184,13 +173,13 @@ fn add_equations(
     table: &mut Table,
     ground: &Ground,
     classes: &[usize],
-    apart: &[bool],
+    disequal: &[bool],
 ) -> Result<(), AllocError>
-    requires { length apart.now ≡ length ground.now.equations }
-    ensures { OnOk result (Grown table.old table.new (equation_entries classes.now apart.now ground.now.equations)) }
+    requires { length disequal.now ≡ length ground.now.equations }
+    ensures { OnOk result (Grown table.old table.new (equation_entries classes.now disequal.now ground.now.equations)) }
 {
-    for i in 0..apart.len() {
-        add_equation(alloc, table, classes, ground.equations.get(i), apart[i])?;
+    for i in 0..disequal.len() {
+        add_equation(alloc, table, classes, ground.equations.get(i), disequal[i])?;
     }
     Ok(())
 }
@@ -211,17 +200,17 @@ pub fn table_of(
     classes: &[usize],
     positive: &[bool],
     negative: &[bool],
-    apart: &[bool],
+    disequal: &[bool],
 ) -> Result<Table, AllocError>
     requires classes { length classes.now ≡ length ground.now.terms }
     requires positive { length positive.now ≡ length ground.now.atoms }
     requires negative { length negative.now ≡ length ground.now.atoms }
-    requires apart { length apart.now ≡ length ground.now.equations }
-    ensures { IfOk result (λ t. HasEntries t (entries_of ground.now classes.now positive.now negative.now apart.now)) }
+    requires disequal { length disequal.now ≡ length ground.now.equations }
+    ensures { IfOk result (λ t. HasEntries t (entries_of ground.now classes.now positive.now negative.now disequal.now)) }
 {
     let mut table = no_rows(alloc);
     add_terms(alloc, &mut table, ground, classes)?;
     add_atoms(alloc, &mut table, ground, classes, positive, negative)?;
-    add_equations(alloc, &mut table, ground, classes, apart)?;
+    add_equations(alloc, &mut table, ground, classes, disequal)?;
     Ok(table)
 }

@@ -1,66 +1,40 @@
-//! Rows of terms, of which equal ones stand once, so that congruent terms don't multiply what matches.
-ghost use Rattle.std.specs.Prelude.{◌≡◌, ◌↔◌, ◌∷◌, [], map, OnOk, IsTrue};
-ghost use Rattle.mz_refute.specs.Entries.{Grown, IsTermHead, row_pair};
-ghost use Rattle.mz_search.specs.Rows.{SomeOf};
+//! Numbers of which equal ones stand once.
+ghost use Rattle.std.specs.Prelude.{◌≡◌, ◌++◌, ◌∷◌, [], ℕ, List, true, not, IfOk, OnOk, nat_eq, if◌then◌else◌};
+ghost use Rattle.std.specs.HashSet.{contains};
+ghost use Rattle.mz_refute.specs.Distinct.{AreNoted};
+ghost use Rattle.mz_refute.specs.Entries.{HaveSameMembers};
 
-use mz_ground::hash_places::{hash_with_all, hash_with, hash_with_symbol};
-use mz_search::row::{Head, Row};
-use mz_search::table::Table;
 use std::alloc::{AllocError, Global};
 use std::collections::HashSet;
 
-/// Puts the row of a term into the table, unless an equal one stands there. `seen` has the hashes of the rows so far.
-#[tactic(auto, using(crate::proofs::GrowLemmas::distinct_rules))]
-pub fn add_distinct(
-    alloc: Global,
-    table: &mut Table,
-    seen: &mut HashSet<u64>,
-    head: Head,
-    row: Row,
-) -> Result<(), AllocError>
-    requires { IsTermHead head }
-    ensures { OnOk result (Grown table.old table.new (record { head = head; args = row.args.items; value = row.value } ∷ [])) }
+/// The numbers, each once.
+pub fn distinct(alloc: Global, numbers: &[usize]) -> Result<Vec<usize>, AllocError>
+    ensures { IfOk result (λ out. HaveSameMembers out.items numbers.now) }
 {
-    let hash = row_hash(head, &row);
-    if seen.contains(&hash) && has_row(table.rows(head), &row) {
-        return Ok(());
+    let mut seen = HashSet::new(alloc);
+    let mut out = Vec::new(alloc);
+    for n in numbers {
+        put_once(&mut out, &mut seen, *n)?;
     }
-    seen.insert(hash)?;
-    table.add(alloc, head, row)?;
-    Ok(())
+    Ok(out)
 }
 
-fn row_hash(head: Head, row: &Row) -> u64 {
-    let start = match head {
-        Head::Constant(n) => hash_with(0, u64::from(n)),
-        Head::Functor(s) => hash_with_symbol(1, s),
-        _ => 2,
-    };
-    hash_with_all(hash_with(start, row.value as u64), row.args.as_slice())
+#[tactic(auto, using(crate::proofs::DistinctLemmas::put_rules))]
+fn put_once(out: &mut Vec<usize>, seen: &mut HashSet<usize>, n: usize) -> Result<(), AllocError>
+    ensures { OnOk result ((ns : List ℕ) → AreNoted ns out.old.items seen.old → AreNoted (ns ++ n ∷ []) out.new.items seen.new) }
+{
+    if note(seen, n)? {
+        out.push(n)?;
+        Ok(())
+    } else {
+        Ok(())
+    }
 }
 
-#[tactic(auto, using(crate::proofs::DistinctLemmas::row_rules))]
-fn has_row(rows: &[Row], row: &Row) -> bool
-    ensures { IsTrue result → SomeOf (λ x. x ≡ row_pair row.now) (map row_pair rows.now) }
+/// Notes a number, and tells whether it is noted for the first time.
+fn note(seen: &mut HashSet<usize>, n: usize) -> Result<bool, AllocError>
+    ensures first { IfOk result (λ first. first ≡ not (contains nat_eq seen.old n)) }
+    ensures noted { OnOk result ((v : ℕ) → contains nat_eq seen.new v ≡ (if nat_eq n v then true else contains nat_eq seen.old v)) }
 {
-    for r in rows {
-        if r.value == row.value && are_same(r.args.as_slice(), row.args.as_slice()) {
-            return true;
-        }
-    }
-    false
-}
-
-fn are_same(left: &[usize], right: &[usize]) -> bool
-    ensures { IsTrue result ↔ (left.now ≡ right.now) }
-{
-    if left.len() != right.len() {
-        return false;
-    }
-    for i in 0..left.len() {
-        if left[i] != right[i] {
-            return false;
-        }
-    }
-    true
+    Ok(seen.insert(n)?)
 }

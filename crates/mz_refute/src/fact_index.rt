@@ -8,19 +8,22 @@ ghost use Rattle.mz_refute.specs.FactIndex.{IsFactIndex, AreClasses, AreSigns, A
 
 use crate::answer::Answer;
 use crate::build::table_of;
+use crate::distinct::distinct;
 use crate::work::answer;
 use mz_ground::fact_set::FactSet;
 use mz_logic::disjunct::Disjunct;
 use mz_logic::formula::Formula;
-use mz_search::table::Table;
+use mz_match::table::Table;
 use std::alloc::{AllocError, Global};
 
 /// The facts of a disjunct, made into rows once for all of its universals.
 #[derive(Drop)]
 pub struct FactIndex {
     table: Table,
-    /// The numbers of the ground terms.
+    /// The numbers of the ground terms' classes, each once.
     values: Vec<usize>,
+    /// How many ground terms there are.
+    terms: usize,
 }
 
 impl FactIndex {
@@ -28,19 +31,24 @@ impl FactIndex {
     pub fn new<F: FactSet>(alloc: Global, f: &F) -> Result<FactIndex, AllocError>
         ensures { IfOk result (λ x. (d : Disjunct) (cs : List Clause) → HasFacts d cs (F.view f.now) → IsFactIndex d cs x) }
     {
-        let values = classes(alloc, f)?;
+        let classes = classes(alloc, f)?;
         let positive = signs(alloc, f, true)?;
         let negative = signs(alloc, f, false)?;
         let disequal = disequal(alloc, f)?;
         let table = table_of(
             alloc,
             f.ground(),
-            values.as_slice(),
+            classes.as_slice(),
             positive.as_slice(),
             negative.as_slice(),
             disequal.as_slice(),
         )?;
-        Ok(FactIndex { table, values })
+        let values = distinct(alloc, classes.as_slice())?;
+        Ok(FactIndex {
+            table,
+            values,
+            terms: classes.len(),
+        })
     }
 
     /// Whether the facts refute a universal of the disjunct, or its work where that passes the limit
@@ -56,6 +64,7 @@ impl FactIndex {
         let r = answer(
             alloc,
             &self.table,
+            self.terms,
             self.values.as_slice(),
             &d.universals,
             universal,

@@ -1,8 +1,8 @@
 //! The work of a refutation.
-ghost use Rattle.std.specs.Prelude.{◌≡◌, true, IfOk, length, if◌then◌else◌};
-ghost use Rattle.mz_search.specs.declared.row.Head.TheVariants.{Holds, Fails};
-ghost use Rattle.mz_refute.specs.RowsWork.{rows_work, RowsAnswer};
-ghost use Rattle.mz_search.specs.Table.{rows_of};
+ghost use Rattle.std.specs.Prelude.{◌≡◌, true, IfOk, if◌then◌else◌};
+ghost use Rattle.mz_match.specs.declared.row.Head.TheVariants.{Holds, Fails};
+ghost use Rattle.mz_refute.specs.RowsWork.{counted_work, RowsAnswer};
+ghost use Rattle.mz_match.specs.Table.{count_of};
 ghost use Rattle.mz_logic.specs.Capped.{capped};
 
 use crate::answer::Answer;
@@ -10,9 +10,9 @@ use mz_logic::capped::{capped_product, capped_sum};
 use mz_logic::formula::{Formula, FormulaNode};
 use mz_logic::formulas::Formulas;
 use mz_logic::sym::Sym;
-use mz_search::row::Head;
+use mz_match::row::Head;
+use mz_match::table::Table;
 use mz_search::search::is_refuted;
-use mz_search::table::Table;
 use std::alloc::{AllocError, Global};
 
 /// The greatest work with which a refutation is looked for.
@@ -27,33 +27,33 @@ fn capped(n: usize) -> u64
 
 /// The work of an atom of the symbol, or of its negation where `positive` is false.
 fn atom_work(table: &Table, positive: bool, s: Sym) -> u64
-    ensures { result ≡ (if positive then capped (length (rows_of table.now (Fails s))) else capped (length (rows_of table.now (Holds s)))) }
+    ensures { result ≡ (if positive then capped (count_of table.now (Fails s)) else capped (count_of table.now (Holds s))) }
 {
     if positive {
-        capped(table.rows(Head::Fails(s)).len())
+        capped(table.count(Head::Fails(s)))
     } else {
-        capped(table.rows(Head::Holds(s)).len())
+        capped(table.count(Head::Holds(s)))
     }
 }
 
 /// The work of a formula, or of its negation where `positive` is false.
-fn work(table: &Table, values: &[usize], universals: &Formulas, positive: bool, f: &Formula) -> u64
-    ensures { result ≡ rows_work (rows_of table.now) values.now universals.now positive f.now }
+fn work(table: &Table, terms: usize, universals: &Formulas, positive: bool, f: &Formula) -> u64
+    ensures { result ≡ counted_work (count_of table.now) terms universals.now positive f.now }
 {
     match &f.node {
         FormulaNode::Truth => 1,
         FormulaNode::Eq(_, _) => {
             if positive {
-                capped(table.rows(Head::Differ).len())
+                capped(table.count(Head::Disequal))
             } else {
-                capped(values.len())
+                capped(terms)
             }
         }
         FormulaNode::Atom(s, _) => atom_work(table, positive, *s),
-        FormulaNode::Not(g) => work(table, values, universals, !positive, g),
+        FormulaNode::Not(g) => work(table, terms, universals, !positive, g),
         FormulaNode::And(g, h) => {
-            let left = work(table, values, universals, positive, g);
-            let right = work(table, values, universals, positive, h);
+            let left = work(table, terms, universals, positive, g);
+            let right = work(table, terms, universals, positive, h);
             if positive {
                 capped_sum(left, right)
             } else {
@@ -62,7 +62,7 @@ fn work(table: &Table, values: &[usize], universals: &Formulas, positive: bool, 
         }
         FormulaNode::All(b) => {
             if positive {
-                work(table, values, universals, true, b)
+                work(table, terms, universals, true, b)
             } else {
                 capped(universals.len())
             }
@@ -75,13 +75,14 @@ fn work(table: &Table, values: &[usize], universals: &Formulas, positive: bool, 
 pub fn answer(
     alloc: Global,
     table: &Table,
+    terms: usize,
     values: &[usize],
     universals: &Formulas,
     f: &Formula,
 ) -> Result<Answer, AllocError>
-    ensures { IfOk result (λ r. RowsAnswer (rows_of table.now) values.now universals.now f.now r) }
+    ensures { IfOk result (λ r. RowsAnswer table.now terms values.now universals.now f.now r) }
 {
-    let work = work(table, values, universals, true, f);
+    let work = work(table, terms, universals, true, f);
     if work > LIMIT {
         return Ok(Answer::Over { work });
     }

@@ -13,10 +13,10 @@ use mz_logic::literal::Literal;
 use mz_logic::literals::Literals;
 use mz_logic::sym::Sym;
 use mz_logic::term::{Term, Terms};
+use mz_match::row::{Head, Row};
+use mz_match::table::Table;
 use mz_refute::answer::Answer;
 use mz_refute::refuted::refuted;
-use mz_search::row::{Head, Row};
-use mz_search::table::Table;
 use std::alloc::{AllocError, Global};
 use std::test::Fail;
 
@@ -279,7 +279,7 @@ fn heads_are_compared(rt: HostRuntime) {
         Head::Holds(p),
         Head::Fails(p),
         Head::Fails(sym(Kind::Predicate, b'Q')),
-        Head::Differ,
+        Head::Disequal,
     ];
     for i in 0..heads.len() {
         for j in 0..heads.len() {
@@ -302,7 +302,7 @@ fn rows_by_their_heads(rt: HostRuntime) -> Result<(), Fail> {
         (Head::Constant(1), [5, 7].as_slice()),
         (Head::Constant(2), &[]),
         (holds, &[6]),
-        (Head::Differ, &[]),
+        (Head::Disequal, &[]),
     ] {
         let rows = table.rows(head);
         assert_eq!(rt; rows.len(), wanted.len());

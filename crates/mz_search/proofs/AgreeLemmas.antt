@@ -7,15 +7,15 @@ use Rattle.mz_logic.specs.Term.{Term, Terms, Bound, Const, App, terms_of}
 use Rattle.mz_logic.specs.Indices.{is_below, args_below}
 use Rattle.mz_logic.specs.Formula as form
 use Rattle.mz_logic.specs.Formula.{Formula}
-use Rattle.mz_search.specs.declared.row.Head.{Head}
-use Rattle.mz_search.specs.declared.row.Head.TheVariants.{Functor, Holds, Fails, Differ}
-use Rattle.mz_search.specs.declared.row.Row.{Row}
-use Rattle.mz_search.specs.Rows.{has_value, Val, Vals, RowOn, OneValue}
-use Rattle.mz_search.specs.RowsAlike.{IsIndex, AlikeTerm, AlikeTerms, AlikeFormula}
-use Rattle.mz_search.specs.RowsRefuted.{RowsRefute}
+use Rattle.mz_match.specs.declared.row.Head.{Head}
+use Rattle.mz_match.specs.declared.row.Head.TheVariants.{Functor, Holds, Fails, Disequal}
+use Rattle.mz_match.specs.declared.row.Row.{Row}
+use Rattle.mz_match.specs.Rows.{has_value, Val, Vals, RowOn, OneValue}
+use Rattle.mz_match.specs.RowsCongruent.{IsIndex, AreCongruent, AllCongruent, AreCongruentFormulas}
+use Rattle.mz_match.specs.RowsRefuted.{RowsRefute}
 use Rattle.mz_search.specs.Kept.{flag_at, index_kept, term_kept, terms_kept, formula_kept}
-use Rattle.mz_search.proofs.SomeLemmas.{some_map}
-use Rattle.mz_search.proofs.AlikeLemmas.{and_cases}
+use Rattle.mz_match.proofs.SomeLemmas.{some_map}
+use Rattle.mz_match.proofs.CongruentLemmas.{and_cases}
 
 -- the indices that are kept under `kept` binders have the same classes in both lists, `depth` binders having none
 abbrev pub SameKept : List Bool → ℕ → ℕ → List ℕ → List ℕ → Type 0
@@ -117,7 +117,7 @@ mutual
       let c = and_cases (is_below 0 t) (args_below 0 ts) h in
       and_both (term_kept flags kept t) (terms_kept flags kept ts) (closed_kept flags kept t c.0) (all_closed_kept flags kept ts c.1)
 
--- alike
+-- congruent
 index_agrees : (depth : ℕ) (a b : List ℕ) → length a ≡ length b → (t : Term) (j : ℕ) → IsIndex depth a t j → IsIndex depth b t j
 index_agrees depth a b e (Bound i) j h = elim h [ inl x ↦ inl x | inr x ↦ inr (omega (arith, e, x.0), omega (arith, e, x.1)) ]
 index_agrees depth a b e (Const n) j h = h
@@ -127,64 +127,64 @@ pair_agrees : (rows : Head → List Row) (flags : List Bool) (kept depth : ℕ) 
 pair_agrees rows flags kept depth a b s t u k l h = (h.0, (val_agrees rows flags kept depth a b s t h.0 k h.1.0, val_agrees rows flags kept depth a b s u h.0 l h.1.1))
 
 mutual
-  unfolding AlikeTerm AlikeTerms
+  unfolding AreCongruent AllCongruent
 
-  alike_term_agrees : (rows : Head → List Row) (flags : List Bool) (kept depth : ℕ) (a b : List ℕ) → SameKept flags kept depth a b → length a ≡ length b → (t u : Term) → term_kept flags kept t ≡ true → AlikeTerm rows depth a t u → AlikeTerm rows depth b t u
-  alike_term_agrees rows flags kept depth a b s e t (Bound j) k h = index_agrees depth a b e t j h
-  alike_term_agrees rows flags kept depth a b s e t (Const n) k h = pair_agrees rows flags kept depth a b s t (Const n) k refl h
-  alike_term_agrees rows flags kept depth a b s e (Bound i) (App f us) k h = (h.0, pair_agrees rows flags kept depth a b s (Bound i) (App f us) k (all_closed_kept flags kept us h.0) h.1)
-  alike_term_agrees rows flags kept depth a b s e (Const n) (App f us) k h = (h.0, pair_agrees rows flags kept depth a b s (Const n) (App f us) k (all_closed_kept flags kept us h.0) h.1)
-  alike_term_agrees rows flags kept depth a b s e (App r ts) (App f us) k h =
+  congruent_term_agrees : (rows : Head → List Row) (flags : List Bool) (kept depth : ℕ) (a b : List ℕ) → SameKept flags kept depth a b → length a ≡ length b → (t u : Term) → term_kept flags kept t ≡ true → AreCongruent rows depth a t u → AreCongruent rows depth b t u
+  congruent_term_agrees rows flags kept depth a b s e t (Bound j) k h = index_agrees depth a b e t j h
+  congruent_term_agrees rows flags kept depth a b s e t (Const n) k h = pair_agrees rows flags kept depth a b s t (Const n) k refl h
+  congruent_term_agrees rows flags kept depth a b s e (Bound i) (App f us) k h = (h.0, pair_agrees rows flags kept depth a b s (Bound i) (App f us) k (all_closed_kept flags kept us h.0) h.1)
+  congruent_term_agrees rows flags kept depth a b s e (Const n) (App f us) k h = (h.0, pair_agrees rows flags kept depth a b s (Const n) (App f us) k (all_closed_kept flags kept us h.0) h.1)
+  congruent_term_agrees rows flags kept depth a b s e (App r ts) (App f us) k h =
       elim h [
         | inl x ↦ inl (x.0, pair_agrees rows flags kept depth a b s (App r ts) (App f us) k (all_closed_kept flags kept us x.0) x.1)
-        | inr x ↦ inr (x.0, x.1, alike_terms_agree rows flags kept depth a b s e ts us k x.2)
+        | inr x ↦ inr (x.0, x.1, all_congruent_agree rows flags kept depth a b s e ts us k x.2)
       ]
 
-  alike_terms_agree : (rows : Head → List Row) (flags : List Bool) (kept depth : ℕ) (a b : List ℕ) → SameKept flags kept depth a b → length a ≡ length b → (ts us : Terms) → terms_kept flags kept ts ≡ true → AlikeTerms rows depth a ts us → AlikeTerms rows depth b ts us
-  alike_terms_agree rows flags kept depth a b s e term.none term.none k h = h
-  alike_terms_agree rows flags kept depth a b s e term.none (term.more u us) k h = absurd h
-  alike_terms_agree rows flags kept depth a b s e (term.more t ts) term.none k h = absurd h
-  alike_terms_agree rows flags kept depth a b s e (term.more t ts) (term.more u us) k h =
+  all_congruent_agree : (rows : Head → List Row) (flags : List Bool) (kept depth : ℕ) (a b : List ℕ) → SameKept flags kept depth a b → length a ≡ length b → (ts us : Terms) → terms_kept flags kept ts ≡ true → AllCongruent rows depth a ts us → AllCongruent rows depth b ts us
+  all_congruent_agree rows flags kept depth a b s e term.none term.none k h = h
+  all_congruent_agree rows flags kept depth a b s e term.none (term.more u us) k h = absurd h
+  all_congruent_agree rows flags kept depth a b s e (term.more t ts) term.none k h = absurd h
+  all_congruent_agree rows flags kept depth a b s e (term.more t ts) (term.more u us) k h =
       let c = and_cases (term_kept flags kept t) (terms_kept flags kept ts) k in
-      (alike_term_agrees rows flags kept depth a b s e t u c.0 h.0, alike_terms_agree rows flags kept depth a b s e ts us c.1 h.1)
+      (congruent_term_agrees rows flags kept depth a b s e t u c.0 h.0, all_congruent_agree rows flags kept depth a b s e ts us c.1 h.1)
 
-alike_agrees : (rows : Head → List Row) (flags : List Bool) (kept depth : ℕ) (a b : List ℕ) → SameKept flags kept depth a b → length a ≡ length b → (p : Bool) (f : Formula) (q : Bool) (g : Formula) → formula_kept flags kept f ≡ true → AlikeFormula rows depth a p f q g → AlikeFormula rows depth b p f q g
-unfolding AlikeFormula
-alike_agrees rows flags kept depth a b s e p (form.Not f) q g k h = alike_agrees rows flags kept depth a b s e (not p) f q g k h
-alike_agrees rows flags kept depth a b s e p form.Truth q (form.Not i) k h = alike_agrees rows flags kept depth a b s e p form.Truth (not q) i k h
-alike_agrees rows flags kept depth a b s e p form.Truth q form.Truth k h = h
-alike_agrees rows flags kept depth a b s e p form.Truth q (form.Eq v w) k h = absurd h
-alike_agrees rows flags kept depth a b s e p form.Truth q (form.Atom c us) k h = absurd h
-alike_agrees rows flags kept depth a b s e p form.Truth q (form.And i j) k h = absurd h
-alike_agrees rows flags kept depth a b s e p form.Truth q (form.All i) k h = absurd h
-alike_agrees rows flags kept depth a b s e p (form.Eq t u) q (form.Not i) k h = alike_agrees rows flags kept depth a b s e p (form.Eq t u) (not q) i k h
-alike_agrees rows flags kept depth a b s e p (form.Eq t u) q form.Truth k h = absurd h
-alike_agrees rows flags kept depth a b s e p (form.Eq t u) q (form.Eq v w) k h =
+congruent_agrees : (rows : Head → List Row) (flags : List Bool) (kept depth : ℕ) (a b : List ℕ) → SameKept flags kept depth a b → length a ≡ length b → (p : Bool) (f : Formula) (q : Bool) (g : Formula) → formula_kept flags kept f ≡ true → AreCongruentFormulas rows depth a p f q g → AreCongruentFormulas rows depth b p f q g
+unfolding AreCongruentFormulas
+congruent_agrees rows flags kept depth a b s e p (form.Not f) q g k h = congruent_agrees rows flags kept depth a b s e (not p) f q g k h
+congruent_agrees rows flags kept depth a b s e p form.Truth q (form.Not i) k h = congruent_agrees rows flags kept depth a b s e p form.Truth (not q) i k h
+congruent_agrees rows flags kept depth a b s e p form.Truth q form.Truth k h = h
+congruent_agrees rows flags kept depth a b s e p form.Truth q (form.Eq v w) k h = absurd h
+congruent_agrees rows flags kept depth a b s e p form.Truth q (form.Atom c us) k h = absurd h
+congruent_agrees rows flags kept depth a b s e p form.Truth q (form.And i j) k h = absurd h
+congruent_agrees rows flags kept depth a b s e p form.Truth q (form.All i) k h = absurd h
+congruent_agrees rows flags kept depth a b s e p (form.Eq t u) q (form.Not i) k h = congruent_agrees rows flags kept depth a b s e p (form.Eq t u) (not q) i k h
+congruent_agrees rows flags kept depth a b s e p (form.Eq t u) q form.Truth k h = absurd h
+congruent_agrees rows flags kept depth a b s e p (form.Eq t u) q (form.Eq v w) k h =
     let c = and_cases (term_kept flags kept t) (term_kept flags kept u) k in
-    (h.0, alike_term_agrees rows flags kept depth a b s e t v c.0 h.1, alike_term_agrees rows flags kept depth a b s e u w c.1 h.2)
-alike_agrees rows flags kept depth a b s e p (form.Eq t u) q (form.Atom c us) k h = absurd h
-alike_agrees rows flags kept depth a b s e p (form.Eq t u) q (form.And i j) k h = absurd h
-alike_agrees rows flags kept depth a b s e p (form.Eq t u) q (form.All i) k h = absurd h
-alike_agrees rows flags kept depth a b s e p (form.Atom r ts) q (form.Not i) k h = alike_agrees rows flags kept depth a b s e p (form.Atom r ts) (not q) i k h
-alike_agrees rows flags kept depth a b s e p (form.Atom r ts) q form.Truth k h = absurd h
-alike_agrees rows flags kept depth a b s e p (form.Atom r ts) q (form.Eq v w) k h = absurd h
-alike_agrees rows flags kept depth a b s e p (form.Atom r ts) q (form.Atom c us) k h = (h.0, h.1, alike_terms_agree rows flags kept depth a b s e (terms_of ts) (terms_of us) k h.2)
-alike_agrees rows flags kept depth a b s e p (form.Atom r ts) q (form.And i j) k h = absurd h
-alike_agrees rows flags kept depth a b s e p (form.Atom r ts) q (form.All i) k h = absurd h
-alike_agrees rows flags kept depth a b s e p (form.And f g) q (form.Not i) k h = alike_agrees rows flags kept depth a b s e p (form.And f g) (not q) i k h
-alike_agrees rows flags kept depth a b s e p (form.And f g) q form.Truth k h = absurd h
-alike_agrees rows flags kept depth a b s e p (form.And f g) q (form.Eq v w) k h = absurd h
-alike_agrees rows flags kept depth a b s e p (form.And f g) q (form.Atom c us) k h = absurd h
-alike_agrees rows flags kept depth a b s e p (form.And f g) q (form.And i j) k h =
+    (h.0, congruent_term_agrees rows flags kept depth a b s e t v c.0 h.1, congruent_term_agrees rows flags kept depth a b s e u w c.1 h.2)
+congruent_agrees rows flags kept depth a b s e p (form.Eq t u) q (form.Atom c us) k h = absurd h
+congruent_agrees rows flags kept depth a b s e p (form.Eq t u) q (form.And i j) k h = absurd h
+congruent_agrees rows flags kept depth a b s e p (form.Eq t u) q (form.All i) k h = absurd h
+congruent_agrees rows flags kept depth a b s e p (form.Atom r ts) q (form.Not i) k h = congruent_agrees rows flags kept depth a b s e p (form.Atom r ts) (not q) i k h
+congruent_agrees rows flags kept depth a b s e p (form.Atom r ts) q form.Truth k h = absurd h
+congruent_agrees rows flags kept depth a b s e p (form.Atom r ts) q (form.Eq v w) k h = absurd h
+congruent_agrees rows flags kept depth a b s e p (form.Atom r ts) q (form.Atom c us) k h = (h.0, h.1, all_congruent_agree rows flags kept depth a b s e (terms_of ts) (terms_of us) k h.2)
+congruent_agrees rows flags kept depth a b s e p (form.Atom r ts) q (form.And i j) k h = absurd h
+congruent_agrees rows flags kept depth a b s e p (form.Atom r ts) q (form.All i) k h = absurd h
+congruent_agrees rows flags kept depth a b s e p (form.And f g) q (form.Not i) k h = congruent_agrees rows flags kept depth a b s e p (form.And f g) (not q) i k h
+congruent_agrees rows flags kept depth a b s e p (form.And f g) q form.Truth k h = absurd h
+congruent_agrees rows flags kept depth a b s e p (form.And f g) q (form.Eq v w) k h = absurd h
+congruent_agrees rows flags kept depth a b s e p (form.And f g) q (form.Atom c us) k h = absurd h
+congruent_agrees rows flags kept depth a b s e p (form.And f g) q (form.And i j) k h =
     let c = and_cases (formula_kept flags kept f) (formula_kept flags kept g) k in
-    (h.0, alike_agrees rows flags kept depth a b s e true f true i c.0 h.1, alike_agrees rows flags kept depth a b s e true g true j c.1 h.2)
-alike_agrees rows flags kept depth a b s e p (form.And f g) q (form.All i) k h = absurd h
-alike_agrees rows flags kept depth a b s e p (form.All f) q (form.Not i) k h = alike_agrees rows flags kept depth a b s e p (form.All f) (not q) i k h
-alike_agrees rows flags kept depth a b s e p (form.All f) q form.Truth k h = absurd h
-alike_agrees rows flags kept depth a b s e p (form.All f) q (form.Eq v w) k h = absurd h
-alike_agrees rows flags kept depth a b s e p (form.All f) q (form.Atom c us) k h = absurd h
-alike_agrees rows flags kept depth a b s e p (form.All f) q (form.And i j) k h = absurd h
-alike_agrees rows flags kept depth a b s e p (form.All f) q (form.All i) k h = (h.0, alike_agrees rows flags (kept + 1) (depth + 1) a b (deeper flags kept depth a b s) e true f true i k h.1)
+    (h.0, congruent_agrees rows flags kept depth a b s e true f true i c.0 h.1, congruent_agrees rows flags kept depth a b s e true g true j c.1 h.2)
+congruent_agrees rows flags kept depth a b s e p (form.And f g) q (form.All i) k h = absurd h
+congruent_agrees rows flags kept depth a b s e p (form.All f) q (form.Not i) k h = congruent_agrees rows flags kept depth a b s e p (form.All f) (not q) i k h
+congruent_agrees rows flags kept depth a b s e p (form.All f) q form.Truth k h = absurd h
+congruent_agrees rows flags kept depth a b s e p (form.All f) q (form.Eq v w) k h = absurd h
+congruent_agrees rows flags kept depth a b s e p (form.All f) q (form.Atom c us) k h = absurd h
+congruent_agrees rows flags kept depth a b s e p (form.All f) q (form.And i j) k h = absurd h
+congruent_agrees rows flags kept depth a b s e p (form.All f) q (form.All i) k h = (h.0, congruent_agrees rows flags (kept + 1) (depth + 1) a b (deeper flags kept depth a b s) e true f true i k h.1)
 
 -- formulas
 pub refute_agrees : (rows : Head → List Row) (values : List ℕ) (us : List Formula) (flags : List Bool) (kept : ℕ) (a b : List ℕ) → SameKept flags kept 0 a b → length a ≡ length b → (p : Bool) (f : Formula) → formula_kept flags kept f ≡ true → RowsRefute rows values us p a f → RowsRefute rows values us p b f
@@ -194,8 +194,8 @@ refute_agrees rows values us flags kept a b s e false form.Truth k h = h
 refute_agrees rows values us flags kept a b s e true (form.Eq t u) k h =
     let c = and_cases (term_kept flags kept t) (term_kept flags kept u) k in
     elim h [
-      | inl x ↦ inl (row_agrees rows flags kept a b s Differ (term.more t (term.more u term.none)) (and_both (term_kept flags kept t) (term_kept flags kept u && true) c.0 (and_both (term_kept flags kept u) true c.1 refl)) x)
-      | inr x ↦ inr (row_agrees rows flags kept a b s Differ (term.more u (term.more t term.none)) (and_both (term_kept flags kept u) (term_kept flags kept t && true) c.1 (and_both (term_kept flags kept t) true c.0 refl)) x)
+      | inl x ↦ inl (row_agrees rows flags kept a b s Disequal (term.more t (term.more u term.none)) (and_both (term_kept flags kept t) (term_kept flags kept u && true) c.0 (and_both (term_kept flags kept u) true c.1 refl)) x)
+      | inr x ↦ inr (row_agrees rows flags kept a b s Disequal (term.more u (term.more t term.none)) (and_both (term_kept flags kept u) (term_kept flags kept t && true) c.1 (and_both (term_kept flags kept t) true c.0 refl)) x)
     ]
 refute_agrees rows values us flags kept a b s e false (form.Eq t u) k h = let c = and_cases (term_kept flags kept t) (term_kept flags kept u) k in one_agrees rows values flags kept a b s t u c.0 c.1 h
 refute_agrees rows values us flags kept a b s e true (form.Atom p ts) k h = row_agrees rows flags kept a b s (Fails p) (terms_of ts) k h
@@ -214,4 +214,4 @@ refute_agrees rows values us flags kept a b s e false (form.And f g) k h =
 refute_agrees rows values us flags kept a b s e true (form.All f) k h =
     (h.0, refute_agrees rows values us flags (kept + 1) (h.0 ∷ a) (h.0 ∷ b) (one_more flags kept h.0 a b s) (ap suc e) true f k h.1)
 refute_agrees rows values us flags kept a b s e false (form.All f) k h =
-    some_map (λ u. AlikeFormula rows 0 a true (form.All f) true u) (λ u. AlikeFormula rows 0 b true (form.All f) true u) us (λ u c. alike_agrees rows flags kept 0 a b s e true (form.All f) true u k c) h
+    some_map (λ u. AreCongruentFormulas rows 0 a true (form.All f) true u) (λ u. AreCongruentFormulas rows 0 b true (form.All f) true u) us (λ u c. congruent_agrees rows flags kept 0 a b s e true (form.All f) true u k c) h

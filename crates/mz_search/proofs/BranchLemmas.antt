@@ -6,17 +6,19 @@ use Rattle.std.specs.List.{AllByRecursion}
 use Rattle.mz_logic.specs.Formula as form
 use Rattle.mz_logic.specs.Formula.{Formula}
 use Rattle.mz_logic.specs.FormulaStorage.{formula_size}
-use Rattle.mz_search.specs.Rows.{SomeOf}
-use Rattle.mz_search.specs.RowsRefuted.{RowsRefute}
-use Rattle.mz_search.specs.Matches.{Assignment}
-use Rattle.mz_search.specs.Fitting.{Fits, Covered}
+use Rattle.mz_match.specs.Rows.{SomeOf}
+use Rattle.mz_match.specs.RowsRefuted.{RowsRefute}
+use Rattle.mz_match.specs.Slots.{Assignment, slot_at}
+use Rattle.mz_match.specs.Fitting.{Fits, Covered}
 use Rattle.mz_search.specs.Hopeless.{MayRefute}
-use Rattle.mz_search.specs.Places.{Agrees, Extends, slot_at}
-use Rattle.mz_search.specs.Goals.{Known, Goal, Refute, Meets, IsBelow, IsLiteral, match_literal, size_of, sizes}
+use Rattle.mz_match.specs.Places.{Agrees, Extends}
+use Rattle.mz_match.specs.Literals.{IsLiteral, match_literal}
+use Rattle.mz_match.specs.declared.table.Table.{Table}
+use Rattle.mz_search.specs.Goals.{Known, Goal, Refute, Meets, IsBelow, known, size_of, sizes}
 use Rattle.mz_search.specs.States.{State, Solvable, AreBranches, IsSmaller, IsPart, IsPushed, AreTaken}
-use Rattle.mz_search.proofs.SomeLemmas.{some_map, some_left, some_right, some_cases, pull, witness}
-use Rattle.mz_search.proofs.LiteralLemmas.{literal_found, literal_finds}
-use Rattle.mz_search.proofs.PlaceLemmas.{places_fit, wider_there, wider_back}
+use Rattle.mz_match.proofs.SomeLemmas.{some_map, some_left, some_right, some_cases, pull, witness}
+use Rattle.mz_match.proofs.LiteralLemmas.{literal_found, literal_finds}
+use Rattle.mz_match.proofs.PlaceLemmas.{places_fit, wider_there, wider_back}
 use Rattle.mz_search.proofs.StateLemmas.{all_append, all_left, all_right, below_more}
 
 pub size_positive : (f : Formula) → 0 < formula_size f
@@ -211,18 +213,19 @@ all_taken : {X : Type 0} (P Q : X → Type 0) (xs : List X) → ((x : X) → P x
 all_taken P Q [] f h = tt
 all_taken P Q (x ∷ xs) f h = (f x h.0, all_taken P Q xs f h.1)
 
-pub told_matched : (k : Known) (scope : List ℕ) (s : Bool) (f : Formula) (e local : Assignment) (single found : List Assignment) (bs : List State) → IsLiteral s f → local ≡ map (slot_at e) scope → single ≡ local ∷ [] → found ≡ match_literal k.rows k.values k.universals s f single → AreTaken scope e found bs → AreBranches k (Refute scope s f) e bs
+pub told_matched : (table : Table) (values : List ℕ) (us : List Formula) (scope : List ℕ) (s : Bool) (f : Formula) (e local : Assignment) (single found : List Assignment) (bs : List State) → IsLiteral s f → local ≡ map (slot_at e) scope → single ≡ local ∷ [] → found ≡ match_literal table values us s f single → AreTaken scope e found bs → AreBranches (known table values us) (Refute scope s f) e bs
 unfolding Meets
-told_matched k scope s f e local single found bs l q h m t =
+told_matched table values us scope s f e local single found bs l q h m t =
+    let k : Known = known table values us in
     by_points k (Refute scope s f) e bs
     (λ a x.
     let y = t.there a (some_map (MeetsAt k a) (λ b. Agrees b.1 a) bs (λ b c. c.0) x) in
-    let z = literal_found k.rows k.values k.universals s f (map a scope) single l (subst (λ (ds : List Assignment). Covered ds (map a scope)) m y.1) in
+    let z = literal_found table values us s f (map a scope) single l (subst (λ (ds : List Assignment). Covered ds (map a scope)) m y.1) in
     (y.0, z.1))
     (λ a c r.
     some_each (λ b. Agrees b.1 a) (λ b. (b.0 ≡ []) × (length b.1 ≡ length e)) (MeetsAt k a) bs
     (λ b x y. (x, subst (λ (gs : List Goal). AllByRecursion (Meets k a) gs) (sym y.0) tt))
-    (t.back a c (subst (λ (ds : List Assignment). Covered ds (map a scope)) (sym m) (literal_finds k.rows k.values k.universals s f (map a scope) single l (covered_here e a scope local single q h c) r)))
+    (t.back a c (subst (λ (ds : List Assignment). Covered ds (map a scope)) (sym m) (literal_finds table values us s f (map a scope) single l (covered_here e a scope local single q h c) r)))
     t.each)
     (all_taken (λ b. (b.0 ≡ []) × (length b.1 ≡ length e)) (IsSmaller e (formula_size f)) bs (λ b x. taken_smaller e (formula_size f) b (size_positive f) x) t.each)
 

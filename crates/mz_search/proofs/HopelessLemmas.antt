@@ -4,14 +4,16 @@ use Rattle.std.specs.Prelude.{not}
 use Rattle.std.proofs.Math.Bool.{beq}
 use Rattle.mz_logic.specs.Formula as form
 use Rattle.mz_logic.specs.Formula.{Formula}
-use Rattle.mz_search.specs.declared.row.Head.{Head}
-use Rattle.mz_search.specs.declared.row.Row.{Row}
-use Rattle.mz_search.specs.Matches.{Assignment}
-use Rattle.mz_search.specs.Goals.{match_literal, IsLiteral}
-use Rattle.mz_search.specs.RowsRefuted.{RowsRefute}
-use Rattle.mz_search.specs.Fitting.{Covered}
+use Rattle.mz_match.specs.declared.row.Head.{Head}
+use Rattle.mz_match.specs.declared.row.Row.{Row}
+use Rattle.mz_match.specs.Slots.{Assignment}
+use Rattle.mz_match.specs.Literals.{match_literal, IsLiteral}
+use Rattle.mz_match.specs.Table.{rows_of}
+use Rattle.mz_match.specs.declared.table.Table.{Table}
+use Rattle.mz_match.specs.RowsRefuted.{RowsRefute}
+use Rattle.mz_match.specs.Fitting.{Covered}
 use Rattle.mz_search.specs.Hopeless.{MayRefute}
-use Rattle.mz_search.proofs.LiteralLemmas.{literal_finds}
+use Rattle.mz_match.proofs.LiteralLemmas.{literal_finds}
 
 true_not_false : true ≡ false → ⊥
 true_not_false e = cc
@@ -44,10 +46,10 @@ told_may_right rows values us false f g h es b d e q m k = λ n a c r. k n a c (
 
 pub ruleset may_rules = (told_may, told_may_not, told_may_left, told_may_right)
 
-pub told_may_literal : (rows : Head → List Row) (values : List ℕ) (us : List Formula) (s : Bool) (f : Formula) (es found : List Assignment) (b : Bool) → IsLiteral s f → found ≡ match_literal rows values us s f es → (b ≡ false → found ≡ []) → MayRefute rows values us s f es b
+pub told_may_literal : (table : Table) (values : List ℕ) (us : List Formula) (s : Bool) (f : Formula) (es found : List Assignment) (b : Bool) → IsLiteral s f → found ≡ match_literal table values us s f es → (b ≡ false → found ≡ []) → MayRefute (rows_of table) values us s f es b
 unfolding MayRefute
-told_may_literal rows values us s f es found b l e n = λ q a c k. subst (λ (ds : List Assignment). Covered ds a) (sym e ∙ n q) (literal_finds rows values us s f a es l c k)
+told_may_literal table values us s f es found b l e n = λ q a c k. subst (λ (ds : List Assignment). Covered ds a) (sym e ∙ n q) (literal_finds table values us s f a es l c k)
 
-pub told_may_matched : (rows : Head → List Row) (values : List ℕ) (us : List Formula) (s : Bool) (f : Formula) (es found : List Assignment) (empty : Bool) → IsLiteral s f → found ≡ match_literal rows values us s f es → (empty ≡ true → found ≡ []) → MayRefute rows values us s f es (not empty)
-told_may_matched rows values us s f es found true l e n = told_may_literal rows values us s f es found false l e (λ q. n refl)
-told_may_matched rows values us s f es found false l e n = told_may rows values us s f es true refl
+pub told_may_matched : (table : Table) (values : List ℕ) (us : List Formula) (s : Bool) (f : Formula) (es found : List Assignment) (empty : Bool) → IsLiteral s f → found ≡ match_literal table values us s f es → (empty ≡ true → found ≡ []) → MayRefute (rows_of table) values us s f es (not empty)
+told_may_matched table values us s f es found true l e n = told_may_literal table values us s f es found false l e (λ q. n refl)
+told_may_matched table values us s f es found false l e n = told_may (rows_of table) values us s f es true refl

@@ -4,8 +4,8 @@ use Rattle.std.specs.Prelude.{slice_get, Option, None, Some, not, nat_lt, â—Œ||â
 use Rattle.std.specs.List.{AllByRecursion}
 use Rattle.std.proofs.lemmas.List.Sorted.{IsPermutation-refl, IsPermutation-sym, IsPermutation-cons}
 use Rattle.std.proofs.lemmas.Bool.Decides.{leb_tells}
-use Rattle.mz_search.specs.Matches.{Assignment}
-use Rattle.mz_search.specs.Places.{Agrees, slot_at}
+use Rattle.mz_match.specs.Slots.{Assignment, slot_at}
+use Rattle.mz_match.specs.Places.{Agrees}
 use Rattle.mz_search.specs.Kept.{flag_at, has_class, place_kept, goal_kept}
 use Rattle.mz_search.specs.Goals.{Known, Goal, Refute, Meets, goal_of}
 use Rattle.mz_search.specs.States.{Solvable, AreParts, AreSplit}

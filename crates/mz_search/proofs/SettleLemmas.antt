@@ -9,13 +9,13 @@ use Rattle.mz_search.specs.declared.goal.Goal as code
 use Rattle.mz_search.specs.declared.branch.Branch.{Branch}
 use Rattle.mz_search.specs.declared.parted.Parts.{Parts}
 use Rattle.mz_search.specs.declared.settle.Choice.{Choice}
-use Rattle.mz_search.specs.Rows.{SomeOf}
-use Rattle.mz_search.specs.RowsRefuted.{RowsRefute}
-use Rattle.mz_search.specs.Matches.{Assignment}
-use Rattle.mz_search.specs.Places.{Agrees, slot_at}
+use Rattle.mz_match.specs.Rows.{SomeOf}
+use Rattle.mz_match.specs.RowsRefuted.{RowsRefute}
+use Rattle.mz_match.specs.Slots.{Assignment, slot_at}
+use Rattle.mz_match.specs.Places.{Agrees}
 use Rattle.mz_search.specs.Goals.{Known, Goal, Refute, goal_of, Meets, IsBelow, size_of, sizes}
 use Rattle.mz_search.specs.States.{State, state_of, Solvable, IsWithin, IsSmaller, AreBranches, AreParts, IsChoice, IsNext}
-use Rattle.mz_search.proofs.PlaceLemmas.{some_agree}
+use Rattle.mz_match.proofs.PlaceLemmas.{some_agree}
 use Rattle.mz_search.proofs.BranchLemmas.{size_positive}
 use Rattle.mz_search.proofs.StateLemmas.{all_append, all_left, all_right, all_permuted, goals_below_more, sizes_permuted, sizes-append, solvable_permuted}
 

@@ -5,7 +5,7 @@ use Rattle.std.specs.List.{AllByRecursion, sum_by}
 use Rattle.std.proofs.lemmas.List.Sorted.{All-permutation, sum_by-IsPermutation}
 use Rattle.std.proofs.lemmas.List.Sums.{sum_by-cons}
 use Rattle.std.proofs.lemmas.List.Elements.{All-from_recursion, recursion_from_All}
-use Rattle.mz_search.specs.Matches.{Assignment}
+use Rattle.mz_match.specs.Slots.{Assignment}
 use Rattle.mz_search.specs.Goals.{Known, Goal, Refute, Meets, IsBelow, size_of, sizes}
 use Rattle.mz_search.specs.States.{Solvable}
 

@@ -2,8 +2,7 @@
 use Rattle.std.specs.Prelude.{ℕ, zero, suc, ◌+◌, ◌-◌, Bool, true, false, not, ◌&&◌, ◌||◌, Option, None, Some, List, [], ◌∷◌, map, nat_lt, if◌then◌else◌}
 use Rattle.mz_logic.specs.Term.{Term, Terms, Bound, Const, App, none, more, terms_of}
 use Rattle.mz_logic.specs.Formula.{Formula, Truth, Eq, Atom, Not, And, All}
-use Rattle.mz_search.specs.Matches.{Assignment}
-use Rattle.mz_search.specs.Places.{slot_at}
+use Rattle.mz_match.specs.Slots.{Assignment, slot_at}
 use Rattle.mz_search.specs.Goals.{Goal, Refute}
 
 abbrev pub flag_at : List Bool → ℕ → Bool

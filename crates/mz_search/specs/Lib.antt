@@ -1,12 +1,4 @@
-pub mod Heads
-pub mod Table
-pub mod Rows
-pub mod RowsAlike
-pub mod RowsRefuted
-pub mod Matches
-pub mod Fitting
 pub mod Hopeless
-pub mod Places
 pub mod Goals
 pub mod States
 pub mod Kept

@@ -5,10 +5,10 @@ use Rattle.mz_search.specs.declared.branch.Branch.{Branch}
 use Rattle.mz_search.specs.declared.parted.Parts.{Parts}
 use Rattle.mz_search.specs.declared.settle.Choice.{Choice}
 use Rattle.mz_search.specs.Kept.{goal_kept}
-use Rattle.mz_search.specs.Rows.{SomeOf}
-use Rattle.mz_search.specs.Matches.{Assignment}
-use Rattle.mz_search.specs.Fitting.{Fits, Covered}
-use Rattle.mz_search.specs.Places.{Agrees, Extends}
+use Rattle.mz_match.specs.Rows.{SomeOf}
+use Rattle.mz_match.specs.Slots.{Assignment}
+use Rattle.mz_match.specs.Fitting.{Fits, Covered}
+use Rattle.mz_match.specs.Places.{Agrees, Extends}
 use Rattle.mz_search.specs.Goals.{Known, Goal, goal_of, Meets, IsBelow, size_of, sizes}
 
 -- goals, and classes at places

@@ -3,9 +3,9 @@ ghost use Rattle.std.specs.Prelude.{◌≡◌, ◌++◌, ◌∷◌, [], false, m
 ghost use Rattle.mz_search.specs.Goals.{Refute, goal_of};
 ghost use Rattle.mz_search.specs.States.{state_of};
 
-use crate::assignment::Assignment;
 use crate::goal::{Goal, copied_goals, goal_at};
 use mz_logic::formula::Formula;
+use mz_match::assignment::Assignment;
 use std::alloc::{AllocError, Global};
 
 /// Goals, with the classes that their variables have so far.

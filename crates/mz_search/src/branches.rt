@@ -2,18 +2,19 @@
 ghost use Rattle.std.specs.Prelude.{◌≡◌, ◌++◌, ◌∷◌, [], true, false, None, map, length, IfOk, OnOk, ◌<◌};
 ghost use Rattle.std.specs.List.{AllByRecursion};
 ghost use Rattle.mz_logic.specs.Formula.{And};
-ghost use Rattle.mz_search.specs.Goals.{Refute, known, IsLiteral};
+ghost use Rattle.mz_match.specs.Literals.{IsLiteral};
+ghost use Rattle.mz_search.specs.Goals.{Refute, known};
 ghost use Rattle.mz_search.specs.States.{AreBranches, AreTaken, IsPart, IsPushed, state_of};
 
-use crate::assignment::Assignment;
-use crate::assignments::Assignments;
 use crate::branch::{Branch, one_goal, only, two_goals, with_goal};
 use crate::goal::goal_under;
 use crate::hopeless::may_refute;
-use crate::literals::match_literal;
-use crate::table::Table;
 use mz_logic::formula::{Formula, FormulaNode};
 use mz_logic::formulas::Formulas;
+use mz_match::assignment::Assignment;
+use mz_match::assignments::Assignments;
+use mz_match::literals::match_literal;
+use mz_match::table::Table;
 use std::alloc::{AllocError, Global};
 
 /// The branches of a goal: for a literal those that match it, for a conjunction its parts that may be refuted, else one.

@@ -1,12 +1,12 @@
 //! How many branches a goal has, so that the one with fewest is taken.
-use crate::assignment::Assignment;
-use crate::assignments::Assignments;
 use crate::goal::Goal;
 use crate::hopeless::{is_quick, may_refute};
-use crate::literals::match_literal;
-use crate::table::Table;
 use mz_logic::formula::{Formula, FormulaNode};
 use mz_logic::formulas::Formulas;
+use mz_match::assignment::Assignment;
+use mz_match::assignments::Assignments;
+use mz_match::literals::match_literal;
+use mz_match::table::Table;
 use std::alloc::{AllocError, Global};
 
 /// About how many branches the goal has; any answer is right. It is exact for literals that are quickly matched.

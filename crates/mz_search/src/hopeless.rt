@@ -1,15 +1,15 @@
 //! Which formulas needn't be followed further.
 ghost use Rattle.std.specs.Prelude.{IfOk};
-ghost use Rattle.mz_search.specs.Goals.{IsLiteral};
+ghost use Rattle.mz_match.specs.Literals.{IsLiteral};
 ghost use Rattle.mz_search.specs.Hopeless.{MayRefute};
-ghost use Rattle.mz_search.specs.Table.{rows_of};
+ghost use Rattle.mz_match.specs.Table.{rows_of};
 
-use crate::assignments::Assignments;
-use crate::literals::match_literal;
 use crate::open_variables::is_quickly_matched;
-use crate::table::Table;
 use mz_logic::formula::{Formula, FormulaNode};
 use mz_logic::formulas::Formulas;
+use mz_match::assignments::Assignments;
+use mz_match::literals::match_literal;
+use mz_match::table::Table;
 use std::alloc::{AllocError, Global};
 
 /// Whether something that fits the assignments may refute the formula, or its negation where `positive` is false.

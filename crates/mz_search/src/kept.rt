@@ -4,10 +4,10 @@ ghost use Rattle.mz_logic.specs.Term.{terms_of};
 ghost use Rattle.mz_search.specs.Goals.{goal_of};
 ghost use Rattle.mz_search.specs.Kept.{flag_at, index_kept, term_kept, terms_kept, formula_kept, place_kept, goal_kept};
 
-use crate::assignment::Assignment;
 use crate::goal::Goal;
 use mz_logic::formula::{Formula, FormulaNode};
 use mz_logic::term::{Term, TermNode, Terms};
+use mz_match::assignment::Assignment;
 use std::alloc::{AllocError, Global};
 
 fn flag_at(flags: &[bool], i: usize) -> bool

@@ -1,9 +1,9 @@
 //! Marks for the variables that hang together.
-use crate::assignment::Assignment;
 use crate::goal::Goal;
 use crate::kept::goal_kept;
 use mz_logic::formula::{Formula, FormulaNode};
 use mz_logic::term::{Term, TermNode, Terms};
+use mz_match::assignment::Assignment;
 use std::alloc::{AllocError, Global};
 
 /// Marks for the variables of a goal and of those goals that it hangs together with by variables without a class.

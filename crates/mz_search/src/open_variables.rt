@@ -1,18 +1,18 @@
 //! Which variables of terms have no class yet.
-use crate::assignment::Assignment;
 use mz_logic::formula::{Formula, FormulaNode};
 use mz_logic::term::{Term, TermNode, Terms};
+use mz_match::assignment::Assignment;
 
 /// A literal is matched ahead only where no more variables than these have to be found within applications.
 const FEW: u32 = 2;
 
 /// Whether a literal has few assignments that match it: its sides or arguments are variables, constants and
 /// applications that together have at most two variables without a class, and it isn't the negation of an equation of
-/// two variables.
+/// two such variables.
 pub fn is_quickly_matched(positive: bool, f: &Formula, e: &Assignment) -> bool {
     match &f.node {
         FormulaNode::Eq(t, u) => {
-            let free = !positive && is_variable(t) && is_variable(u);
+            let free = !positive && is_open(t, e) && is_open(u, e);
             let left = within(t, e, 0);
             !free && are_few(within(u, e, left))
         }
@@ -27,9 +27,10 @@ pub fn is_quickly_matched(positive: bool, f: &Formula, e: &Assignment) -> bool {
     }
 }
 
-fn is_variable(t: &Term) -> bool {
+// Whether the term is a variable without a class.
+fn is_open(t: &Term, e: &Assignment) -> bool {
     match &t.node {
-        TermNode::Bound(_) => true,
+        TermNode::Bound(index) => open_bit(e, *index as usize) != 0,
         _ => false,
     }
 }

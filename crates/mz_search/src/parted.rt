@@ -5,10 +5,10 @@ ghost use Rattle.mz_search.specs.Kept.{goal_kept};
 ghost use Rattle.mz_search.specs.Goals.{goal_of};
 ghost use Rattle.mz_search.specs.States.{AreParts, AreSplit};
 
-use crate::assignment::Assignment;
 use crate::goal::Goal;
 use crate::kept::goal_kept;
 use crate::marks::marks_from;
+use mz_match::assignment::Assignment;
 use std::alloc::{AllocError, Global};
 
 /// Goals in two parts.

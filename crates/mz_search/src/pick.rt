@@ -1,11 +1,11 @@
 //! The goal that is taken first.
 ghost use Rattle.std.specs.Prelude.{◌≡◌, ◌++◌, ◌∷◌, [], IfOk, IsPermutation};
 
-use crate::assignment::Assignment;
 use crate::estimate::estimate;
 use crate::goal::Goal;
-use crate::table::Table;
 use mz_logic::formulas::Formulas;
+use mz_match::assignment::Assignment;
+use mz_match::table::Table;
 use std::alloc::{AllocError, Global};
 
 /// A goal and the others.

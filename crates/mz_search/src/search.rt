@@ -1,18 +1,18 @@
 //! The search for classes of the variables that refute a formula.
 ghost use Rattle.std.specs.Prelude.{◌≡◌, ◌↔◌, ◌∷◌, [], true, map, IfOk, IsTrue};
 ghost use Rattle.mz_search.specs.Goals.{known, goal_of};
-ghost use Rattle.mz_search.specs.RowsRefuted.{RowsRefute};
+ghost use Rattle.mz_match.specs.RowsRefuted.{RowsRefute};
 ghost use Rattle.mz_search.specs.States.{Solvable, IsWithin, state_of};
-ghost use Rattle.mz_search.specs.Table.{rows_of};
+ghost use Rattle.mz_match.specs.Table.{rows_of};
 
-use crate::assignment::Assignment;
 use crate::branch::{Branch, joined, with_goal};
 use crate::goal::goal_at;
 use crate::parted::{Parts, parted};
 use crate::settle::{Choice, settle};
-use crate::table::Table;
 use mz_logic::formula::Formula;
 use mz_logic::formulas::Formulas;
+use mz_match::assignment::Assignment;
+use mz_match::table::Table;
 use std::alloc::{AllocError, Global};
 
 /// Whether some classes for the variables refute a formula without free indices by the rows of the

@@ -4,13 +4,13 @@ ghost use Rattle.std.specs.List.{AllByRecursion};
 ghost use Rattle.mz_search.specs.Goals.{Known, known, goal_of, IsBelow};
 ghost use Rattle.mz_search.specs.States.{State, Solvable, IsWithin, IsChoice, IsNext, state_of};
 
-use crate::assignment::Assignment;
 use crate::branch::Branch;
 use crate::branches::branches;
 use crate::goal::Goal;
 use crate::pick::{Picked, pick};
-use crate::table::Table;
 use mz_logic::formulas::Formulas;
+use mz_match::assignment::Assignment;
+use mz_match::table::Table;
 use std::alloc::{AllocError, Global};
 
 /// A goal with its branches, and the other goals.

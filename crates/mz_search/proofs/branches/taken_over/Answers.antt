@@ -1,5 +1,5 @@
 use Rattle.std.proofs.Common.{sym, subst, List, take, map}
-use Rattle.mz_search.specs.Matches.{Assignment}
+use Rattle.mz_match.specs.Slots.{Assignment}
 use Rattle.mz_search.specs.States.{AreTaken, state_of}
 use Rattle.mz_search.proofs.BranchLemmas.{told_taken}
 use Rattle.mz_search.proofs.StateLemmas.{take_next}

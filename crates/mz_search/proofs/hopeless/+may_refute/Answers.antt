@@ -2,7 +2,7 @@ use Rattle.std.proofs.Common.{◌≡◌, ap, sym, ◌∙◌, subst}
 use Rattle.mz_logic.specs.Formula.{Formula, And}
 use Rattle.mz_logic.specs.FormulaView.{formula_of}
 use Rattle.mz_search.specs.Hopeless.{MayRefute}
-use Rattle.mz_search.specs.Table.{rows_of}
+use Rattle.mz_match.specs.Table.{rows_of}
 use Rattle.mz_search.proofs.HopelessLemmas.{told_may_left, same_flags}
 use Rattle.mz_search.proofs.hopeless.+may_refute.Goals as goal
 

@@ -1,6 +1,6 @@
 use Rattle.std.proofs.Common.{◌++◌, map, take}
 use Rattle.mz_search.specs.Goals.{known, goal_of, sizes}
-use Rattle.mz_search.specs.Rows.{SomeOf}
+use Rattle.mz_match.specs.Rows.{SomeOf}
 use Rattle.mz_search.specs.States.{Solvable, state_of}
 use Rattle.mz_search.proofs.search.+is_solvable.Given as goal
 

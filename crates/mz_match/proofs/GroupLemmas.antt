@@ -1,0 +1,200 @@
+-- The rows of a table with one row more.
+use Rattle.std.proofs.Common.{◌≡◌, ◌<◌, ◌+◌, ◌⊎◌, inl, inr, ℕ, zero, suc, List, [], ◌∷◌, ◌++◌, length, set, refl, arith, ap, sym, ◌∙◌, subst, Bool, true, false}
+use Rattle.std.specs.Prelude.{nat_eq, if◌then◌else◌, slice_index_or, Some, None, Option}
+use Rattle.std.specs.BTreeMap.{get, BTreeMap, is_at}
+use Rattle.std.specs.Map.{lookup}
+use Rattle.std.specs.Prelude.{cond, nat_lt}
+use Rattle.std.proofs.Common.{Less, Equal, Greater, is_eq}
+use Rattle.std.proofs.lemmas.Bool.Decides.{leb_tells}
+use Rattle.std.proofs.lemmas.Bool.Decides.{eqb_tells}
+use Rattle.mz_logic.specs.declared.sym.Sym.{Sym}
+use Rattle.std.specs.Ordering.{nat_cmp}
+use Rattle.mz_match.specs.Heads.{same_head}
+use Rattle.mz_match.specs.Rows.{SomeOf}
+use Rattle.mz_match.specs.Table.{rows_in, count_in, group_of, rows_at, HasNoGroup, IsGroupAt, NoneBefore, IsAdded, IsAddedWhere, GroupsGrow, ConstantsGrow, Grows}
+use Rattle.mz_match.specs.declared.row.Head.{Head}
+use Rattle.mz_match.specs.declared.row.Head.TheVariants.{Constant, Functor, Holds, Fails, Disequal}
+use Rattle.mz_match.specs.declared.row.Row.{Row}
+use Rattle.mz_match.specs.declared.table.Group.{Group}
+use Rattle.mz_match.specs.declared.rows.Rows.{Rows}
+use Rattle.mz_match.specs.declared.table.Table.{Table}
+use Rattle.mz_match.proofs.HeadLemmas.{same_head-true, same_head-self}
+
+pub none_more : (h : Head) (gs : List Group) (i : ℕ) (g : Group) → i < length gs → g ≡ slice_index_or gs i g → same_head g.head h ≡ false → NoneBefore h gs i → NoneBefore h gs (suc i)
+none_more h [] i g lt e n b = absurd (omega arith)
+none_more h (k ∷ gs) zero g lt e n b = (subst (λ (x : Group). same_head x.head h ≡ false) e n, tt)
+none_more h (k ∷ gs) (suc i) g lt e n b = (b.0, none_more h gs i g (omega arith) e n b.1)
+
+pub group_at : (h : Head) (gs : List Group) (i : ℕ) (g : Group) → i < length gs → g ≡ slice_index_or gs i g → same_head g.head h ≡ true → NoneBefore h gs i → IsGroupAt h gs i
+group_at h [] i g lt e n b = absurd (omega arith)
+group_at h (k ∷ gs) zero g lt e n b = subst (λ (x : Group). same_head x.head h ≡ true) e n
+group_at h (k ∷ gs) (suc i) g lt e n b = (b.0, group_at h gs i g (omega arith) e n b.1)
+
+pub at_within : (h : Head) (gs : List Group) (i : ℕ) → IsGroupAt h gs i → i < length gs
+at_within h [] i a = absurd a
+at_within h (k ∷ gs) zero a = omega arith
+at_within h (k ∷ gs) (suc i) a = omega (arith, at_within h gs i a.1)
+
+pub none_all : (h : Head) (gs : List Group) (i : ℕ) → i ≡ length gs → NoneBefore h gs i → HasNoGroup h gs
+none_all h [] i e b = tt
+none_all h (k ∷ gs) zero e b = absurd (omega arith)
+none_all h (k ∷ gs) (suc i) e b = (b.0, none_all h gs i (omega arith) b.1)
+
+true_false : (b : Bool) → b ≡ true → b ≡ false → ⊥
+true_false b h k = cc
+
+bool_cases : (b : Bool) → (b ≡ true) ⊎ (b ≡ false)
+bool_cases true = inl refl
+bool_cases false = inr refl
+
+-- a head that is another group's is not the group's
+apart : (g h q : Head) → same_head g h ≡ false → same_head g q ≡ true → same_head h q ≡ false
+apart g h q n e =
+    elim (bool_cases (same_head h q)) [
+      | inl a ↦
+          let x : g ≡ q = same_head-true g q e in
+          let y : h ≡ q = same_head-true h q a in
+          absurd (true_false (same_head g h) (subst (λ (z : Head). same_head g z ≡ true) (x ∙ sym y) (same_head-self g)) n)
+      | inr a ↦ a
+    ]
+
+skipped : (b c : Bool) (x : Rows) (y z : Option Rows) (r : Row) → (b ≡ true → c ≡ false) → IsAddedWhere c r y z → IsAddedWhere c r (if b then Some x else y) (if b then Some x else z)
+skipped true true x y z r f a = absurd (true_false true refl (f refl))
+skipped true false x y z r f a = refl
+skipped false c x y z r f a = a
+
+changed : (b : Bool) (x k : Rows) (y : Option Rows) (r : Row) → IsAdded r (Some x) (Some k) → IsAddedWhere b r (if b then Some x else y) (if b then Some k else y)
+changed true x k y r a = a
+changed false x k y r a = refl
+
+grown_at : (h q : Head) (r : Row) (gs : List Group) (i : ℕ) (g k : Group) → IsGroupAt h gs i → g ≡ slice_index_or gs i g → k.head ≡ g.head → IsAdded r (Some g.rows) (Some k.rows) → IsAddedWhere (same_head h q) r (group_of q gs) (group_of q (set gs i k))
+grown_at h q r [] i g k a e n m = absurd a
+grown_at h q r (x ∷ gs) zero g k a e n m =
+    let p : x.head ≡ h = same_head-true x.head h a in
+    let o : k.head ≡ h = n ∙ ap (λ (y : Group). y.head) e ∙ p in
+    let w : IsAdded r (Some x.rows) (Some k.rows) = subst (λ (y : Group). IsAdded r (Some y.rows) (Some k.rows)) e m in
+    subst (λ (y : Head). IsAddedWhere (same_head h q) r (if same_head y q then Some x.rows else group_of q gs) (if same_head k.head q then Some k.rows else group_of q gs)) (sym p)
+    (subst (λ (y : Head). IsAddedWhere (same_head h q) r (if same_head h q then Some x.rows else group_of q gs) (if same_head y q then Some k.rows else group_of q gs)) (sym o)
+    (changed (same_head h q) x.rows k.rows (group_of q gs) r w))
+grown_at h q r (x ∷ gs) (suc i) g k a e n m =
+    skipped (same_head x.head q) (same_head h q) x.rows (group_of q gs) (group_of q (set gs i k)) r (apart x.head h q a.0) (grown_at h q r gs i g k a.1 e n m)
+
+same_before : (r : Row) (old other new : Option Rows) → rows_in old ≡ rows_in other → count_in old ≡ count_in other → IsAdded r old new → IsAdded r other new
+same_before r old other new e c a =
+    record {
+      count = a.count ∙ ap (λ n. n + 1) c;
+      rows = subst (λ (xs : List Row). (rows_in new ≡ xs ++ r ∷ []) ⊎ ((rows_in new ≡ xs) × SomeOf (λ x. (x.args.items ≡ r.args.items) × (x.value ≡ r.value)) xs)) e a.rows;
+    }
+
+new_at : (b : Bool) (k : Rows) (r : Row) → IsAdded r None (Some k) → IsAddedWhere b r None (if b then Some k else None)
+new_at true k r a = a
+new_at false k r a = refl
+
+grown_end : (h q : Head) (r : Row) (gs : List Group) (k : Group) → HasNoGroup h gs → k.head ≡ h → IsAdded r None (Some k.rows) → IsAddedWhere (same_head h q) r (group_of q gs) (group_of q (gs ++ k ∷ []))
+grown_end h q r [] k a n m = subst (λ (y : Head). IsAddedWhere (same_head h q) r None (if same_head y q then Some k.rows else None)) (sym n) (new_at (same_head h q) k.rows r m)
+grown_end h q r (x ∷ gs) k a n m =
+    skipped (same_head x.head q) (same_head h q) x.rows (group_of q gs) (group_of q (gs ++ k ∷ [])) r (apart x.head h q a.0) (grown_end h q r gs k a.1 n m)
+
+pub told_old : (h : Head) (r : Row) (gs ks : List Group) (i : ℕ) (g k : Group) → IsGroupAt h gs i → g ≡ slice_index_or gs i g → k.head ≡ g.head → IsAdded r (Some g.rows) (Some k.rows) → ks ≡ set gs i k → GroupsGrow h r gs ks
+unfolding GroupsGrow
+told_old h r gs ks i g k a e n m s = λ q. subst (λ (xs : List Group). IsAddedWhere (same_head h q) r (group_of q gs) (group_of q xs)) (sym s) (grown_at h q r gs i g k a e n m)
+
+pub told_new : (h : Head) (r : Row) (gs ks : List Group) (o : Rows) (k : Group) → HasNoGroup h gs → k.head ≡ h → o.items.items ≡ [] → o.count ≡ 0 → IsAdded r (Some o) (Some k.rows) → ks ≡ gs ++ k ∷ [] → GroupsGrow h r gs ks
+unfolding GroupsGrow
+told_new h r gs ks o k a n e c m s = λ q. subst (λ (xs : List Group). IsAddedWhere (same_head h q) r (group_of q gs) (group_of q xs)) (sym s) (grown_end h q r gs k a n (same_before r (Some o) None (Some k.rows) e c m))
+
+-- the whole table
+pub group_grows : (h : Head) (r : Row) (table next : Table) → ((n : ℕ) → same_head h (Constant n) ≡ false) → next.constants ≡ table.constants → GroupsGrow h r table.groups.items next.groups.items → Grows h r table next
+unfolding GroupsGrow Grows rows_at
+group_grows h r table next f e g (Constant n) =
+    subst (λ (b : Bool). IsAddedWhere b r (get nat_cmp table.constants n) (get nat_cmp next.constants n)) (sym (f n)) (ap (λ m. get nat_cmp m n) e)
+group_grows h r table next f e g (Functor s) = g (Functor s)
+group_grows h r table next f e g (Holds s) = g (Holds s)
+group_grows h r table next f e g (Fails s) = g (Fails s)
+group_grows h r table next f e g Disequal = g Disequal
+
+pub constant_grows : (n : ℕ) (r : Row) (table next : Table) → next.groups.items ≡ table.groups.items → ConstantsGrow n r table.constants next.constants → Grows (Constant n) r table next
+unfolding ConstantsGrow Grows rows_at
+constant_grows n r table next e g (Constant m) = g m
+constant_grows n r table next e g (Functor s) = ap (group_of (Functor s)) e
+constant_grows n r table next e g (Holds s) = ap (group_of (Holds s)) e
+constant_grows n r table next e g (Fails s) = ap (group_of (Fails s)) e
+constant_grows n r table next e g Disequal = ap (group_of Disequal) e
+
+pub functor_grows : (s : Sym) (r : Row) (table next : Table) → next.constants ≡ table.constants → GroupsGrow (Functor s) r table.groups.items next.groups.items → Grows (Functor s) r table next
+functor_grows s r table next e g = group_grows (Functor s) r table next (λ n. refl) e g
+
+pub holds_grows : (s : Sym) (r : Row) (table next : Table) → next.constants ≡ table.constants → GroupsGrow (Holds s) r table.groups.items next.groups.items → Grows (Holds s) r table next
+holds_grows s r table next e g = group_grows (Holds s) r table next (λ n. refl) e g
+
+pub fails_grows : (s : Sym) (r : Row) (table next : Table) → next.constants ≡ table.constants → GroupsGrow (Fails s) r table.groups.items next.groups.items → Grows (Fails s) r table next
+fails_grows s r table next e g = group_grows (Fails s) r table next (λ n. refl) e g
+
+pub disequal_grows : (r : Row) (table next : Table) → next.constants ≡ table.constants → GroupsGrow Disequal r table.groups.items next.groups.items → Grows Disequal r table next
+disequal_grows r table next e g = group_grows Disequal r table next (λ n. refl) e g
+
+pub ruleset table_rules = (constant_grows, functor_grows, holds_grows, fails_grows, disequal_grows)
+
+pub ruleset group_rules = (told_old, told_new)
+
+-- a table without rows
+pub told_empty : (table : Table) → table.constants.entries ≡ [] → table.groups.items ≡ [] → (h : Head) → rows_at table h ≡ None
+unfolding rows_at
+told_empty table c g (Constant n) = ap (λ es. lookup (is_at (nat_cmp n)) es) c
+told_empty table c g (Functor s) = ap (λ gs. group_of (Functor s) gs) g
+told_empty table c g (Holds s) = ap (λ gs. group_of (Holds s) gs) g
+told_empty table c g (Fails s) = ap (λ gs. group_of (Fails s) gs) g
+told_empty table c g Disequal = ap (λ gs. group_of Disequal gs) g
+
+pub ruleset new_rules = (told_empty)
+
+both_ways : (b c : Bool) (new : Rows) (old : Option Rows) (r : Row) → b ≡ c → IsAdded r old (Some new) → IsAddedWhere c r old (cond b (Some new) (cond b None old))
+both_ways true true new old r e a = a
+both_ways true false new old r e a = absurd (true_false true refl e)
+both_ways false true new old r e a = absurd (true_false true refl (sym e))
+both_ways false false new old r e a = refl
+
+other_way : (b c : Bool) (new : Rows) (old : Option Rows) (r : Row) → b ≡ c → c ≡ false → IsAddedWhere c r old (cond b (Some new) (cond b None old))
+other_way true true new old r e n = absurd (true_false true refl n)
+other_way true false new old r e n = absurd (true_false true refl e)
+other_way false true new old r e n = absurd (true_false true refl n)
+other_way false false new old r e n = refl
+
+compared : (l e : Bool) → (l ≡ true → e ≡ false) → is_eq (cond l Less (cond e Equal Greater)) ≡ e
+compared true e f = sym (f refl)
+compared false true f = refl
+compared false false f = refl
+
+less_apart : (n q : ℕ) → nat_lt n q ≡ true → nat_eq n q ≡ false
+less_apart n q h =
+    elim (leb_tells (suc n) q) [
+      | inl a ↦ elim (eqb_tells n q) [ inl b ↦ absurd (omega (arith, a.1, b.1)) | inr b ↦ b.0 ]
+      | inr a ↦ let z = a.0 in cc
+    ]
+
+same_number : (n q : ℕ) → is_at (nat_cmp n) q ≡ nat_eq n q
+same_number n q = compared (nat_lt n q) (nat_eq n q) (less_apart n q)
+
+constant_cases : (n : ℕ) (r : Row) (m : BTreeMap ℕ Rows) (new : Rows) → IsAdded r (get nat_cmp m n) (Some new) → (q : ℕ) → IsAddedWhere (nat_eq n q) r (get nat_cmp m q) (cond (is_at (nat_cmp n) q) (Some new) (cond (is_at (nat_cmp n) q) None (get nat_cmp m q)))
+constant_cases n r m new e q =
+    elim (eqb_tells n q) [
+      | inl a ↦ both_ways (is_at (nat_cmp n) q) (nat_eq n q) new (get nat_cmp m q) r (same_number n q) (subst (λ (x : ℕ). IsAdded r (get nat_cmp m x) (Some new)) a.1 e)
+      | inr a ↦ other_way (is_at (nat_cmp n) q) (nat_eq n q) new (get nat_cmp m q) r (same_number n q) a.0
+    ]
+
+-- a constant's rows
+pub told_constant : (n : ℕ) (r : Row) (m k o : BTreeMap ℕ Rows) (before new : Rows) → before.items.items ≡ rows_in (get nat_cmp m n) → before.count ≡ count_in (get nat_cmp m n) → IsAdded r (Some before) (Some new) → ((q : ℕ) → get nat_cmp k q ≡ cond (is_at (nat_cmp n) q) None (get nat_cmp m q)) → ((q : ℕ) → get nat_cmp o q ≡ cond (is_at (nat_cmp n) q) (Some new) (get nat_cmp k q)) → ConstantsGrow n r m o
+unfolding ConstantsGrow
+told_constant n r m k o before new e c i a b q =
+    let p : get nat_cmp o q ≡ cond (is_at (nat_cmp n) q) (Some new) (cond (is_at (nat_cmp n) q) None (get nat_cmp m q)) = b q ∙ ap (λ x. cond (is_at (nat_cmp n) q) (Some new) x) (a q) in
+    subst (λ (x : Option Rows). IsAddedWhere (nat_eq n q) r (get nat_cmp m q) x) (sym p) (constant_cases n r m new (same_before r (Some before) (get nat_cmp m n) (Some new) e c i) q)
+
+pub ruleset constant_rules = (told_constant)
+
+one_add : (i : ℕ) → suc i ≡ i + 1
+one_add i = omega arith
+
+pub none_next : (h : Head) (gs : List Group) (i : ℕ) (g : Group) → i < length gs → g ≡ slice_index_or gs i g → same_head g.head h ≡ false → NoneBefore h gs i → NoneBefore h gs (i + 1)
+none_next h gs i g lt e n b = subst (λ (k : ℕ). NoneBefore h gs k) (one_add i) (none_more h gs i g lt e n b)
+
+pub ruleset place_rules = (none_next, group_at, none_all)

@@ -1,0 +1,12 @@
+pub mod ArgsLemmas
+pub mod BindLemmas
+pub mod CongruentLemmas
+pub mod EvaluateLemmas
+pub mod GroupLemmas
+pub mod HeadLemmas
+pub mod LiteralLemmas
+pub mod MatchLemmas
+pub mod PlaceLemmas
+pub mod SomeLemmas
+pub mod SymbolLaws
+pub mod ValueLemmas

@@ -1,0 +1,12 @@
+pub mod Slots
+pub mod Heads
+pub mod Values
+pub mod Table
+pub mod Rows
+pub mod RowsCongruent
+pub mod RowsRefuted
+pub mod Evaluate
+pub mod Matches
+pub mod Literals
+pub mod Fitting
+pub mod Places

@@ -1,0 +1,14 @@
+//! Matching of literals with rows of facts.
+#![tactic(auto)]
+
+pub mod assignment;
+pub mod assignments;
+mod congruent;
+mod evaluate;
+pub mod literals;
+mod matching;
+pub mod row;
+pub mod rows;
+pub mod table;
+pub mod value;
+pub mod values;

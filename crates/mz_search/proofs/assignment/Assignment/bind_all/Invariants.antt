@@ -1,7 +1,0 @@
-use Rattle.std.specs.Prelude.{true}
-use Rattle.mz_search.specs.Places.{Extends}
-use Rattle.mz_search.proofs.PlaceLemmas.{FitsTo}
-use Rattle.mz_search.proofs.assignment.Assignment.bind_all.Given as goal
-
-abbrev pub invariant-loop-k : goal.invariant-loop-k
-invariant-loop-k l = Extends (λ a. FitsTo l.scope l.local a l.k) l.initial.self l.self true
