@@ -1,6 +1,6 @@
 //! Workers that meet want of memory.
 use crate::scripted::Scripted;
-use crate::shared::{is_accepted, name};
+use crate::shared::{by_two, is_accepted, name};
 use mz_desk::claim::Claim;
 use mz_desk::desk::Desk;
 use mz_desk_tests::corpora::diamond;
@@ -37,4 +37,29 @@ fn want_of_memory_frees_the_claim(rt: HostRuntime) {
     assert!(&rt; work(&rt, alloc, &desk, &bell, &checker, &OpenGate, 0).is_err());
     let mut desk = desk.into_inner();
     assert!(&rt; matches!(desk.claim(alloc, 1).expect(&rt, "memory"), Claim::Take(_)));
+}
+
+/// While one worker checks the only ready row the other waits for the bell; the first one stops, and the other goes on.
+#[test]
+fn want_of_memory_wakes_the_other(rt: HostRuntime) {
+    let alloc: Global = rt.alloc();
+    let checker = Scripted::failing(name(&rt, "DA"), 1);
+    let (desk, stopped) = by_two(&rt, alloc, &checker, &OpenGate);
+    assert_eq!(&rt; stopped, 1);
+    assert!(&rt; is_accepted(&rt, &desk));
+    assert_eq!(&rt; checker.count(), 5);
+}
+
+/// The check of DB waits until the other worker, whose check of DC failed, has taken all claims away. So the result of
+/// DB is refused, and the worker checks both.
+#[test]
+fn a_claim_taken_away_while_it_is_checked(rt: HostRuntime) {
+    let alloc: Global = rt.alloc();
+    let mut checker = Scripted::failing(name(&rt, "DC"), 1);
+    checker.waits = Some(name(&rt, "DB"));
+    let (desk, stopped) = by_two(&rt, alloc, &checker, &OpenGate);
+    assert_eq!(&rt; stopped, 1);
+    assert!(&rt; checker.event.was_in_time());
+    assert!(&rt; is_accepted(&rt, &desk));
+    assert_eq!(&rt; checker.count(), 6);
 }

@@ -30,6 +30,18 @@ pub struct Scripted {
 }
 
 impl Scripted {
+    /// It neither waits nor fails.
+    pub fn new() -> Scripted {
+        Scripted {
+            begins: None,
+            waits: None,
+            event: Event::new(),
+            fails: None,
+            left: AtomicU64::new(0),
+            checks: AtomicU64::new(0),
+        }
+    }
+
     /// Its first checks of the article fail, as many as this.
     pub fn failing(name: Name, count: u64) -> Scripted {
         Scripted {

@@ -1,10 +1,19 @@
 //! What the tests of workers share.
+ghost use Rattle.std.specs.Prelude.{◌<◌, ◌^◌};
+
+use crate::scripted::Scripted;
 use mz_axioms::checker::Semantics;
 use mz_base::name::Name;
 use mz_core::verdict::{Entry, Verdict};
 use mz_desk::desk::Desk;
-use mz_desk_tests::corpora::name_of;
+use mz_desk_tests::corpora::{diamond, name_of};
+use mz_io::gate::Gate;
+use mz_workers::work::work;
+use std::alloc::{AllocError, Global};
 use std::process::Abort;
+use std::sync::{Condvar, Mutex, Wait};
+use std::thread;
+use std::thread::Threads;
 
 /// The articles, in the order of gathering.
 const ARTICLES: [&str; 4] = ["DD", "DB", "DC", "DA"];
@@ -61,4 +70,45 @@ pub fn has_library<C: Semantics, R: Abort>(rt: &R, desk: &Desk<C>, names: &[&str
 /// Whether all four articles are accepted.
 pub fn is_accepted<C: Semantics, R: Abort>(rt: &R, desk: &Desk<C>) -> bool {
     has_verdicts(rt, desk, "aaaa") && has_library(rt, desk, &LIBRARY)
+}
+
+/// A desk over the four articles, by two workers on two threads, and how many of them stopped.
+pub fn by_two<G: Gate, R: Abort + Threads + Wait + Sync>(
+    rt: &R,
+    alloc: Global,
+    checker: &Scripted,
+    gate: &G,
+) -> (Desk<Scripted>, usize) {
+    let corpus = diamond(alloc, "b").expect(rt, "a corpus");
+    let desk: Desk<Scripted> = Desk::open(alloc, corpus).expect(rt, "memory");
+    let desk = Mutex::new(desk);
+    let bell = Condvar::new();
+    let ended = thread::map_indices(
+        rt,
+        alloc,
+        2,
+        &|i: usize| -> Result<(), AllocError>
+            requires { i < 2 ^ 32 }
+        { one_of_two(rt, alloc, &desk, &bell, checker, gate, i as u32) },
+    );
+    let ended = ended.expect(rt, "memory");
+    let stopped = ended.iter().filter(|e| e.is_err()).count();
+    (desk.into_inner(), stopped)
+}
+
+/// A worker, which begins the event where it stops.
+fn one_of_two<G: Gate, R: Threads + Wait + Sync>(
+    rt: &R,
+    alloc: Global,
+    desk: &Mutex<Desk<Scripted>>,
+    bell: &Condvar,
+    checker: &Scripted,
+    gate: &G,
+    worker: u32,
+) -> Result<(), AllocError> {
+    let ended = work(rt, alloc, desk, bell, checker, gate, worker);
+    if ended.is_err() {
+        checker.event.happen();
+    }
+    ended
 }

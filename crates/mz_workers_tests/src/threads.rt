@@ -1,7 +1,7 @@
 //! Workers on several threads. What one article's check waits for, another worker has to bring about.
 use crate::events::Hold;
 use crate::scripted::Scripted;
-use crate::shared::{LIBRARY, has_library, has_verdicts, is_accepted, name};
+use crate::shared::{LIBRARY, by_two, has_library, has_verdicts, is_accepted, name};
 use mz_desk_tests::corpora::diamond;
 use mz_desk_tests::plain::Plain;
 use mz_io::gate::OpenGate;
@@ -40,6 +40,18 @@ fn a_gate_holds_one_until_another_has_entered(rt: HostRuntime) {
 }
 
 #[test]
+fn a_gate_over_a_bare_desk(rt: HostRuntime) {
+    let alloc: Global = rt.alloc();
+    let gate = Hold::new();
+    let checker = Scripted::new();
+    let (desk, stopped) = by_two(&rt, alloc, &checker, &gate);
+    assert_eq!(&rt; stopped, 0);
+    assert!(&rt; gate.entered.was_in_time());
+    assert!(&rt; is_accepted(&rt, &desk));
+    assert_eq!(&rt; checker.count(), 4);
+}
+
+#[test]
 fn a_check_waits_for_another(rt: HostRuntime) {
     let alloc: Global = rt.alloc();
     let checker = Scripted::waiting(name(&rt, "DB"), name(&rt, "DC"));
@@ -48,4 +60,14 @@ fn a_check_waits_for_another(rt: HostRuntime) {
     assert!(&rt; checker.event.was_in_time());
     assert!(&rt; is_accepted(&rt, &desk));
     assert_eq!(&rt; checker.count(), 4);
+}
+
+#[test]
+fn a_check_waits_for_another_over_a_bare_desk(rt: HostRuntime) {
+    let alloc: Global = rt.alloc();
+    let checker = Scripted::waiting(name(&rt, "DB"), name(&rt, "DC"));
+    let (desk, stopped) = by_two(&rt, alloc, &checker, &OpenGate);
+    assert_eq!(&rt; stopped, 0);
+    assert!(&rt; checker.event.was_in_time());
+    assert!(&rt; is_accepted(&rt, &desk));
 }
