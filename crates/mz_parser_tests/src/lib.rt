@@ -2,7 +2,11 @@
 #![tactic(auto)]
 
 #[cfg(test)]
-mod long;
+mod depths;
+#[cfg(test)]
+mod expressions;
+#[cfg(test)]
+mod lists;
 #[cfg(test)]
 mod terms;
 #[cfg(test)]

@@ -1,23 +1,8 @@
 //! Terms.
 use crate::texts::{Answer, Part, answered};
-use std::alloc::{AllocError, Global};
-use std::test::Fail;
-
-/// `( ` so many times, `x`, and ` )` so many times.
-fn nested(alloc: Global, opening: usize, closing: usize) -> Result<Vec<u8>, AllocError> {
-    let mut bytes = Vec::new(alloc);
-    for _ in 0..opening {
-        bytes.extend_from_slice(b"( ".as_slice())?;
-    }
-    bytes.push(b'x')?;
-    for _ in 0..closing {
-        bytes.extend_from_slice(b" )".as_slice())?;
-    }
-    Ok(bytes)
-}
 
 /// Each alternative once, and each place where one token doesn't decide twice.
-const ROWS: [(&[u8], Answer); 30] = [
+const ROWS: [(&[u8], Answer); 39] = [
     (b"x", Answer::Until(1)),
     (b"x + y", Answer::Until(3)),
     (b"+", Answer::Until(1)),
@@ -34,28 +19,55 @@ const ROWS: [(&[u8], Answer); 30] = [
     (b"( x , y ) + z", Answer::Until(7)),
     (b"+ ( x , y )", Answer::Until(6)),
     (b"( x , y ) z", Answer::Unexpected(41)),
+    (b"( x , y ) ( z )", Answer::Unexpected(41)),
     (b"( x y )", Answer::Unexpected(35)),
     (b"{ }", Answer::Unexpected(33)),
     (b"{ x , y }", Answer::Until(5)),
     (b"[ x , y ]", Answer::Until(5)),
     (b"[ x )", Answer::Unexpected(35)),
     (b"lb x rb", Answer::Until(3)),
+    (b"lb x rc", Answer::Until(3)),
     (b"lb x )", Answer::Unexpected(36)),
     (b"str (# x #)", Answer::Until(4)),
     (b"str x", Answer::Unexpected(35)),
+    (b"str", Answer::EndsEarly(34)),
     (b"the car of x", Answer::Until(4)),
     (b"the car of the car of x + y", Answer::Until(9)),
     (b"the car of ( x )", Answer::Until(6)),
     (b"the car of ( x , y )", Answer::Unexpected(46)),
     (b"x , y", Answer::Until(3)),
+    (b"{ x , P [ y ] }", Answer::Unexpected(35)),
+    (b"{ x ,", Answer::EndsEarly(36)),
+    (b"", Answer::EndsEarly(31)),
+    (b"( x\n y )", Answer::UnexpectedBelow(2, 2)),
+    (b"( x\n ,", Answer::EndsEarlyBelow(2, 3)),
+    (b"mod", Answer::Unexpected(31)),
 ];
 
 #[test]
-fn rows(rt: HostRuntime) -> Result<(), Fail> {
+fn rows(rt: HostRuntime) {
     for (text, answer) in &ROWS {
-        assert_eq!(rt; answered(rt.alloc(), Part::Terms, text, false)?, *answer);
+        assert_eq!(rt;
+            answered(&rt, rt.alloc(), Part::Terms, text, false),
+            *answer
+        );
     }
-    Ok(())
+}
+
+/// One term ends before the first comma outside brackets.
+const ONE: [(&[u8], Answer); 5] = [
+    (b"x , y", Answer::Until(1)),
+    (b"x + y , z", Answer::Until(3)),
+    (b"( x , y ) + z , x", Answer::Until(7)),
+    (b"( x , y ) , z", Answer::Unexpected(41)),
+    (b", x", Answer::Unexpected(31)),
+];
+
+#[test]
+fn one_term(rt: HostRuntime) {
+    for (text, answer) in &ONE {
+        assert_eq!(rt; answered(&rt, rt.alloc(), Part::Term, text, false), *answer);
+    }
 }
 
 /// `the U` alone stands in a field's type.
@@ -67,25 +79,11 @@ const FIELDS: [(&[u8], bool, Answer); 4] = [
 ];
 
 #[test]
-fn fields(rt: HostRuntime) -> Result<(), Fail> {
+fn fields(rt: HostRuntime) {
     for (text, field, answer) in &FIELDS {
-        assert_eq!(rt; answered(rt.alloc(), Part::Terms, text, *field)?, *answer);
+        assert_eq!(rt;
+            answered(&rt, rt.alloc(), Part::Terms, text, *field),
+            *answer
+        );
     }
-    Ok(())
-}
-
-#[test]
-fn nesting(rt: HostRuntime) -> Result<(), Fail> {
-    let alloc = rt.alloc();
-    let most = nested(alloc, 128, 128)?;
-    assert_eq!(rt;
-        answered(alloc, Part::Terms, most.as_slice(), false)?,
-        Answer::Until(257)
-    );
-    let deeper = nested(alloc, 129, 0)?;
-    assert_eq!(rt;
-        answered(alloc, Part::Terms, deeper.as_slice(), false)?,
-        Answer::TooDeep(287)
-    );
-    Ok(())
 }

@@ -1,9 +1,8 @@
 //! Types, adjectives and declarations.
 use crate::texts::{Answer, Part, answered};
-use std::test::Fail;
 
 /// Types.
-const TYPES: [(&[u8], Answer); 20] = [
+const TYPES: [(&[u8], Answer); 21] = [
     (b"mod", Answer::Until(1)),
     (b"set", Answer::Until(1)),
     (b"str", Answer::Until(1)),
@@ -24,12 +23,15 @@ const TYPES: [(&[u8], Answer); 20] = [
     (b"x mod", Answer::Unexpected(33)),
     (b"non mod", Answer::Unexpected(35)),
     (b"mod of the car", Answer::EndsEarly(45)),
+    (b"mod of x , P [ y ]", Answer::Until(3)),
 ];
 
 /// Adjectives.
-const ADJECTIVES: [(&[u8], Answer); 8] = [
+const ADJECTIVES: [(&[u8], Answer); 10] = [
     (b"odd", Answer::Until(1)),
     (b"odd odd", Answer::Until(2)),
+    (b"odd x", Answer::EndsEarly(36)),
+    (b"odd x )", Answer::Unexpected(37)),
     (b"non odd x odd mod", Answer::Until(4)),
     (b"( x ) odd", Answer::Until(4)),
     (b"mod", Answer::Unexpected(31)),
@@ -39,7 +41,7 @@ const ADJECTIVES: [(&[u8], Answer); 8] = [
 ];
 
 /// Declarations.
-const DECLARATIONS: [(&[u8], Answer); 13] = [
+const DECLARATIONS: [(&[u8], Answer); 16] = [
     (b"x", Answer::Until(1)),
     (b"x , y", Answer::Until(3)),
     (b"x be mod", Answer::Until(3)),
@@ -47,6 +49,9 @@ const DECLARATIONS: [(&[u8], Answer); 13] = [
     (b"x , y being mod , z being set", Answer::Until(9)),
     (b"x being mod of a , b", Answer::Until(7)),
     (b"x being mod of a , y being mod", Answer::Until(9)),
+    (b"x being str over a , y being mod", Answer::Until(9)),
+    (b"x being str over a , b , y", Answer::Until(9)),
+    (b"x being mod , y", Answer::Until(5)),
     (b"x being mod of a , y be", Answer::EndsEarly(54)),
     (b"x being", Answer::EndsEarly(38)),
     (b"x being y", Answer::EndsEarly(40)),
@@ -56,35 +61,38 @@ const DECLARATIONS: [(&[u8], Answer); 13] = [
 ];
 
 #[test]
-fn types(rt: HostRuntime) -> Result<(), Fail> {
+fn types(rt: HostRuntime) {
     for (text, answer) in &TYPES {
-        assert_eq!(rt; answered(rt.alloc(), Part::Type, text, false)?, *answer);
+        assert_eq!(rt; answered(&rt, rt.alloc(), Part::Type, text, false), *answer);
     }
     assert_eq!(rt;
-        answered(rt.alloc(), Part::Type, b"mod of the car".as_slice(), true)?,
+        answered(
+            &rt,
+            rt.alloc(),
+            Part::Type,
+            b"mod of the car".as_slice(),
+            true
+        ),
         Answer::Until(4)
     );
-    Ok(())
 }
 
 #[test]
-fn adjectives(rt: HostRuntime) -> Result<(), Fail> {
+fn adjectives(rt: HostRuntime) {
     for (text, answer) in &ADJECTIVES {
         assert_eq!(rt;
-            answered(rt.alloc(), Part::Adjectives, text, false)?,
+            answered(&rt, rt.alloc(), Part::Adjectives, text, false),
             *answer
         );
     }
-    Ok(())
 }
 
 #[test]
-fn declarations(rt: HostRuntime) -> Result<(), Fail> {
+fn declarations(rt: HostRuntime) {
     for (text, answer) in &DECLARATIONS {
         assert_eq!(rt;
-            answered(rt.alloc(), Part::Declarations, text, false)?,
+            answered(&rt, rt.alloc(), Part::Declarations, text, false),
             *answer
         );
     }
-    Ok(())
 }
