@@ -20,7 +20,7 @@ use Rattle.mz_logic.proofs.AbstractionLaws.{term_over-substitute, is_below-term_
 use Rattle.mz_core.specs.Statement.{Statement, Truth, Eq, Atom, Not, And, For}
 use Rattle.mz_core.specs.StatementForms.{opposite}
 use Rattle.mz_core.specs.TypeSubstitution.{substitute_type, substitute_statement}
-use Rattle.mz_core.specs.TypeAbstraction.{type_over, statement_over}
+use Rattle.mz_core.specs.Abstraction.{type_over, statement_over}
 use Rattle.mz_core.specs.Guard.{guard}
 use Rattle.mz_core.specs.Parts.{parts, conjunction_to, conjunction}
 use Rattle.mz_core.specs.Erasure.{erase}

@@ -12,7 +12,7 @@ use Rattle.mz_logic.proofs.SubstitutionLaws.{substitute-inside, substitute-shift
 use Rattle.mz_core.specs.Statement.{Statement, Truth, Eq, Atom, Not, And, For}
 use Rattle.mz_core.specs.TypeShift.{shift_type, shift_statement}
 use Rattle.mz_core.specs.TypeSubstitution.{substitute_type, substitute_statement}
-use Rattle.mz_core.specs.TypeAbstraction.{type_over, statement_over}
+use Rattle.mz_core.specs.Abstraction.{type_over, statement_over}
 use Rattle.mz_core.proofs.TermMaps.{GoesUnder, statement_with, formula_with}
 
 abbrev pub shifts : ℕ → ℕ → Term → Term

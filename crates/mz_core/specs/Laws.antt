@@ -13,7 +13,7 @@ use Rattle.mz_core.specs.Statement.{Statement}
 use Rattle.mz_core.specs.StatementForms.{opposite}
 use Rattle.mz_core.specs.TypeShift.{shift_type, shift_statement}
 use Rattle.mz_core.specs.TypeSubstitution.{substitute_type, substitute_statement, statement_at}
-use Rattle.mz_core.specs.TypeAbstraction.{type_over, statement_over}
+use Rattle.mz_core.specs.Abstraction.{type_over, statement_over}
 use Rattle.mz_core.specs.Guard.{guard}
 use Rattle.mz_core.specs.Parts.{parts, conjunction}
 use Rattle.mz_core.specs.Erasure.{erase}

@@ -7,7 +7,7 @@ pub mod StatementForms
 pub mod Hidden
 pub mod TypeShift
 pub mod TypeSubstitution
-pub mod TypeAbstraction
+pub mod Abstraction
 pub mod Guard
 pub mod Connectives
 pub mod Erasure

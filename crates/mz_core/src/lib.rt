@@ -1,6 +1,7 @@
 //! Types of the language, statements and what is said of them, and the items of an article.
 #![tactic(auto)]
 
+pub mod abstraction;
 pub mod adjective;
 pub mod adjectives;
 pub mod connectives;
@@ -42,7 +43,6 @@ pub mod structure;
 pub mod term_case;
 pub mod term_cases;
 pub mod term_definiens;
-pub mod type_abstraction;
 pub mod type_shift;
 pub mod type_statements;
 pub mod type_substitution;

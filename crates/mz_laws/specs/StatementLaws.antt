@@ -9,7 +9,7 @@ use Rattle.mz_logic.specs.Substitution.{shift, shift_formula, substitute, substi
 use Rattle.mz_core.specs.Statement.{Statement}
 use Rattle.mz_core.specs.TypeShift.{shift_type, shift_statement}
 use Rattle.mz_core.specs.TypeSubstitution.{substitute_type, substitute_statement, statement_at}
-use Rattle.mz_core.specs.TypeAbstraction.{type_over, statement_over}
+use Rattle.mz_core.specs.Abstraction.{type_over, statement_over}
 use Rattle.mz_core.specs.Guard.{guard}
 use Rattle.mz_core.specs.Connectives.{guard_inside, where_guard}
 use Rattle.mz_core.specs.Erasure.{erase}

@@ -1,5 +1,5 @@
 //! Laws of what is derivable, each the contract of a function that does nothing. A proof of a crate
-// above cites the lemma of `proofs/` that `docs/PROOFS.md` names beside the law.
+//! above cites the lemma of `proofs/` that `docs/PROOFS.md` names beside the law.
 ghost use Rattle.mz_logic.specs.Laws.{WeakeningLaw, CutLaw, AxiomsLaw, InstanceLaw, ConstantLaw, SameLaw, NormalFormLaw, FormulaCongruenceLaw, TermCongruenceLaw, ApplicationLaw, AtomLaw};
 
 /// What derives from premises derives from others that have each of them.

@@ -9,7 +9,7 @@ use mz_core::radix::Radix;
 use mz_core::soft_type::SoftType;
 use mz_core::statement::Statement;
 use mz_core::statements::Statements;
-use mz_core::type_abstraction::statement_over;
+use mz_core::abstraction::statement_over;
 use mz_core::type_substitution::statement_at;
 use mz_logic::kind::Kind;
 use mz_logic::term::{Term, Terms};

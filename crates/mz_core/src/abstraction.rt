@@ -1,7 +1,7 @@
 //! A constant of a term, a type or a statement made an index. An index above 4,294,967,295 is as no memory.
 ghost use Rattle.std.specs.Prelude.{◌≡◌, IfOk, map};
 ghost use Rattle.mz_logic.specs.Abstraction.{term_over};
-ghost use Rattle.mz_core.specs.TypeAbstraction.{adjective_over, radix_over, type_over, statement_over};
+ghost use Rattle.mz_core.specs.Abstraction.{adjective_over, radix_over, type_over, statement_over};
 
 use crate::adjective::Adjective;
 use crate::adjectives::Adjectives;
