@@ -27,7 +27,7 @@ impl Model for Marks {
 }
 
 impl Marks {
-    /// The marks of the tokens (`docs/LANGUAGE.md`), in time linear in their number.
+    /// The marks of the tokens (`docs/LANGUAGE.md`).
     pub fn of(alloc: Global, tokens: &Tokens) -> Result<Marks, AllocError>
         ensures { IfOk result (λ marks. AreMarks (map class_of tokens.now.items) marks) }
     {

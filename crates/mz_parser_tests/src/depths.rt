@@ -1,103 +1,452 @@
 //! How deep constructs nest.
-use crate::texts::{Answer, Part, answered};
+use crate::texts::{Answer, Piece, answered};
+use mz_pexpr::forms::Form;
 use std::alloc::Global;
 use std::process::Abort;
 
-/// The first word so many times, the second one, and the third so many times.
-fn nested(
-    rt: &impl Abort,
-    alloc: Global,
-    opening: (&[u8], usize),
-    inside: &[u8],
-    closing: (&[u8], usize),
-) -> Vec<u8> {
-    let mut bytes = Vec::new(alloc);
-    for _ in 0..opening.1 {
-        bytes.extend_from_slice(opening.0).expect(rt, "memory");
+fn check(rt: &impl Abort, alloc: Global, rows: &[(Form, &'static [Piece], Answer)]) {
+    for (number, (form, text, answer)) in rows.iter().enumerate() {
+        let found = answered(rt, alloc, *form, text);
+        assert_eq!(rt; (number, found), (number, *answer));
     }
-    bytes.extend_from_slice(inside).expect(rt, "memory");
-    for _ in 0..closing.1 {
-        bytes.extend_from_slice(closing.0).expect(rt, "memory");
-    }
-    bytes
 }
 
-/// What opens, stands inside and closes; how many tokens there are where 128 are open; and the column of the token that is
-/// nested deeper where 129 are.
-const ROWS: [(&[u8], &[u8], &[u8], usize, u64); 7] = [
-    (b"( ", b"x", b" )", 257, 287),
-    (b"[ ", b"x", b" ]", 257, 287),
-    (b"{ ", b"x", b" }", 257, 287),
-    (b"lb ", b"x", b" rb", 257, 415),
-    (b"str (# ", b"x", b" #)", 385, 931),
-    (b"f ( ", b"x", b" )", 385, 545),
-    (b"f ( ", b"", b" )", 384, 545),
+/// Each bracket of a term 128 times, and 129 times.
+const BRACKETS: [(Form, &'static [Piece], Answer); 14] = [
+    (
+        Form::Terms,
+        &[(b"( ", 128), (b"x", 1), (b" )", 128)],
+        Answer::Until(257),
+    ),
+    (
+        Form::Terms,
+        &[(b"( ", 129), (b"x", 1), (b" )", 129)],
+        Answer::TooDeep(287),
+    ),
+    (
+        Form::Terms,
+        &[(b"[ ", 128), (b"x", 1), (b" ]", 128)],
+        Answer::Until(257),
+    ),
+    (
+        Form::Terms,
+        &[(b"[ ", 129), (b"x", 1), (b" ]", 129)],
+        Answer::TooDeep(287),
+    ),
+    (
+        Form::Terms,
+        &[(b"{ ", 128), (b"x", 1), (b" }", 128)],
+        Answer::Until(257),
+    ),
+    (
+        Form::Terms,
+        &[(b"{ ", 129), (b"x", 1), (b" }", 129)],
+        Answer::TooDeep(287),
+    ),
+    (
+        Form::Terms,
+        &[(b"lb ", 128), (b"x", 1), (b" rb", 128)],
+        Answer::Until(257),
+    ),
+    (
+        Form::Terms,
+        &[(b"lb ", 129), (b"x", 1), (b" rb", 129)],
+        Answer::TooDeep(415),
+    ),
+    (
+        Form::Terms,
+        &[(b"str (# ", 128), (b"x", 1), (b" #)", 128)],
+        Answer::Until(385),
+    ),
+    (
+        Form::Terms,
+        &[(b"str (# ", 129), (b"x", 1), (b" #)", 129)],
+        Answer::TooDeep(931),
+    ),
+    (
+        Form::Terms,
+        &[(b"f ( ", 128), (b"x", 1), (b" )", 128)],
+        Answer::Until(385),
+    ),
+    (
+        Form::Terms,
+        &[(b"f ( ", 129), (b"x", 1), (b" )", 129)],
+        Answer::TooDeep(545),
+    ),
+    (
+        Form::Terms,
+        &[(b"f ( ", 128), (b" )", 128)],
+        Answer::Until(384),
+    ),
+    (
+        Form::Terms,
+        &[(b"f ( ", 129), (b" )", 129)],
+        Answer::TooDeep(545),
+    ),
 ];
 
 #[test]
 fn brackets(rt: HostRuntime) {
-    let alloc = rt.alloc();
-    for (opening, inside, closing, count, column) in &ROWS {
-        let most = nested(&rt, alloc, (*opening, 128), inside, (*closing, 128));
-        assert_eq!(rt;
-            answered(&rt, alloc, Part::Terms, most.as_slice(), false),
-            Answer::Until(*count)
-        );
-        let deeper = nested(&rt, alloc, (*opening, 129), inside, (*closing, 129));
-        assert_eq!(rt;
-            answered(&rt, alloc, Part::Terms, deeper.as_slice(), false),
-            Answer::TooDeep(*column)
-        );
-    }
+    check(&rt, rt.alloc(), BRACKETS.as_slice());
 }
 
-#[test]
-fn parentheses_of_adjectives(rt: HostRuntime) {
-    let alloc = rt.alloc();
-    let most = nested(&rt, alloc, (b"( ", 128), b"x", (b" )", 128));
-    let most = nested(&rt, alloc, (most.as_slice(), 1), b" odd", (b"", 0));
-    assert_eq!(rt;
-        answered(&rt, alloc, Part::Adjectives, most.as_slice(), false),
-        Answer::Until(258)
-    );
-    let deeper = nested(&rt, alloc, (b"( ", 129), b"x", (b" )", 129));
-    assert_eq!(rt;
-        answered(&rt, alloc, Part::Adjectives, deeper.as_slice(), false),
-        Answer::TooDeep(287)
-    );
-}
-
-/// So many `(`, something inside, and the answer.
-const INSIDE: [(usize, &[u8], usize, Answer); 6] = [
-    // a bracket that closes gives back its depth
-    (127, b"( x ) + ( x )", 127, Answer::Until(261)),
-    (128, b"( x ) + ( x )", 128, Answer::TooDeep(287)),
-    (127, b"[ x ] + { x } + f ( x )", 127, Answer::Until(266)),
-    // the earlier place decides
-    (129, b")", 0, Answer::TooDeep(287)),
-    (128, b")", 0, Answer::Unexpected(287)),
-    (2, b"x x ( ( (", 0, Answer::Unexpected(37)),
+/// Brackets within adjectives, types, declarations and quantifiers.
+const WITHIN: [(Form, &'static [Piece], Answer); 10] = [
+    (
+        Form::Adjectives,
+        &[(b"( ", 128), (b"x", 1), (b" )", 128), (b" odd", 1)],
+        Answer::Until(258),
+    ),
+    (
+        Form::Adjectives,
+        &[(b"( ", 129), (b"x", 1), (b" )", 129), (b" odd", 1)],
+        Answer::TooDeep(287),
+    ),
+    (
+        Form::TypeForm,
+        &[(b"( ", 128), (b"x", 1), (b" )", 128), (b" odd mod", 1)],
+        Answer::Until(259),
+    ),
+    (
+        Form::TypeForm,
+        &[(b"( ", 129), (b"x", 1), (b" )", 129), (b" odd mod", 1)],
+        Answer::TooDeep(287),
+    ),
+    (
+        Form::Formula,
+        &[
+            (b"x is ", 1),
+            (b"( ", 128),
+            (b"x", 1),
+            (b" )", 128),
+            (b" odd", 1),
+        ],
+        Answer::Until(260),
+    ),
+    (
+        Form::Formula,
+        &[
+            (b"x is ", 1),
+            (b"( ", 129),
+            (b"x", 1),
+            (b" )", 129),
+            (b" odd", 1),
+        ],
+        Answer::TooDeep(292),
+    ),
+    (
+        Form::Declarations,
+        &[
+            (b"x being mod of ", 1),
+            (b"[ ", 128),
+            (b"y", 1),
+            (b" ]", 128),
+        ],
+        Answer::Until(261),
+    ),
+    (
+        Form::Declarations,
+        &[
+            (b"x being mod of ", 1),
+            (b"[ ", 129),
+            (b"y", 1),
+            (b" ]", 129),
+        ],
+        Answer::TooDeep(302),
+    ),
+    (
+        Form::Formula,
+        &[
+            (b"for x being mod of ", 1),
+            (b"( ", 127),
+            (b"y", 1),
+            (b" )", 127),
+            (b" holds thesis", 1),
+        ],
+        Answer::Until(262),
+    ),
+    (
+        Form::Formula,
+        &[
+            (b"for x being mod of ", 1),
+            (b"( ", 128),
+            (b"y", 1),
+            (b" )", 128),
+            (b" holds thesis", 1),
+        ],
+        Answer::TooDeep(304),
+    ),
 ];
 
 #[test]
-fn inside_parentheses(rt: HostRuntime) {
-    let alloc = rt.alloc();
-    for (opening, inside, closing, answer) in &INSIDE {
-        let text = nested(&rt, alloc, (b"( ", *opening), inside, (b" )", *closing));
-        assert_eq!(rt;
-            answered(&rt, alloc, Part::Terms, text.as_slice(), false),
-            *answer
-        );
-    }
+fn brackets_within(rt: HostRuntime) {
+    check(&rt, rt.alloc(), WITHIN.as_slice());
 }
 
-/// What comes first decides, though the other fault stands in the same text.
+/// A bracket that closes gives back its depth, and the earlier place decides.
+const INSIDE: [(Form, &'static [Piece], Answer); 12] = [
+    (
+        Form::Terms,
+        &[(b"( ", 127), (b"( x ) + ( x )", 1), (b" )", 127)],
+        Answer::Until(261),
+    ),
+    (
+        Form::Terms,
+        &[(b"( ", 128), (b"( x ) + ( x )", 1), (b" )", 128)],
+        Answer::TooDeep(287),
+    ),
+    (
+        Form::Terms,
+        &[(b"( ", 127), (b"[ x ] + { x } + f ( x )", 1), (b" )", 127)],
+        Answer::Until(266),
+    ),
+    (
+        Form::Terms,
+        &[
+            (b"( ", 127),
+            (b"lb x rb + str (# x #) + f ( )", 1),
+            (b" )", 127),
+        ],
+        Answer::Until(266),
+    ),
+    (
+        Form::Formula,
+        &[(b"( ", 127), (b"P [ x ] & thesis", 1), (b" )", 127)],
+        Answer::Until(260),
+    ),
+    (
+        Form::Formula,
+        &[(b"( ", 127), (b"{ x } = [ y ] & thesis", 1), (b" )", 127)],
+        Answer::Until(263),
+    ),
+    (
+        Form::Formula,
+        &[(b"( ", 127), (b"x is ( y ) odd & thesis", 1), (b" )", 127)],
+        Answer::Until(262),
+    ),
+    (
+        Form::Formula,
+        &[
+            (b"( ", 126),
+            (b"( for x holds thesis ) & not thesis", 1),
+            (b" )", 126),
+        ],
+        Answer::Until(261),
+    ),
+    (
+        Form::Terms,
+        &[(b"( ", 129), (b")", 1)],
+        Answer::TooDeep(287),
+    ),
+    (
+        Form::Terms,
+        &[(b"( ", 128), (b")", 1)],
+        Answer::Unexpected(287),
+    ),
+    (
+        Form::Terms,
+        &[(b"( ", 2), (b"x x ( ( (", 1)],
+        Answer::Unexpected(37),
+    ),
+    (
+        Form::Terms,
+        &[(b"( ) ", 1), (b"( ", 129)],
+        Answer::Unexpected(33),
+    ),
+];
+
 #[test]
-fn unexpected_before_too_deep(rt: HostRuntime) {
-    let alloc = rt.alloc();
-    let text = nested(&rt, alloc, (b"( ) ", 1), b"", (b"( ", 129));
-    assert_eq!(rt;
-        answered(&rt, alloc, Part::Terms, text.as_slice(), false),
-        Answer::Unexpected(33)
-    );
+fn depth_is_given_back(rt: HostRuntime) {
+    check(&rt, rt.alloc(), INSIDE.as_slice());
+}
+
+/// Negations, quantifiers and brackets of formulas.
+const FORMULAS: [(Form, &'static [Piece], Answer); 18] = [
+    (
+        Form::Formula,
+        &[(b"not ", 128), (b"thesis", 1)],
+        Answer::Until(129),
+    ),
+    (
+        Form::Formula,
+        &[(b"not ", 129), (b"thesis", 1)],
+        Answer::TooDeep(543),
+    ),
+    (
+        Form::Formula,
+        &[(b"not ", 129), (b")", 1)],
+        Answer::TooDeep(543),
+    ),
+    (
+        Form::Formula,
+        &[(b"not ", 128), (b"thesis & thesis", 1)],
+        Answer::Until(131),
+    ),
+    (
+        Form::Formula,
+        &[(b"for x ", 127), (b"for x holds thesis", 1)],
+        Answer::Until(258),
+    ),
+    (
+        Form::Formula,
+        &[(b"for x ", 128), (b"for x holds thesis", 1)],
+        Answer::TooDeep(799),
+    ),
+    (
+        Form::Formula,
+        &[(b"for x st ", 128), (b"thesis", 1), (b" holds thesis", 128)],
+        Answer::Until(641),
+    ),
+    (
+        Form::Formula,
+        &[(b"for x st ", 129), (b"thesis", 1), (b" holds thesis", 129)],
+        Answer::TooDeep(1183),
+    ),
+    (
+        Form::Formula,
+        &[(b"ex x st ", 128), (b"thesis", 1)],
+        Answer::Until(385),
+    ),
+    (
+        Form::Formula,
+        &[(b"ex x st ", 129), (b"thesis", 1)],
+        Answer::TooDeep(1055),
+    ),
+    (
+        Form::Formula,
+        &[(b"( ", 128), (b"thesis", 1), (b" )", 128)],
+        Answer::Until(257),
+    ),
+    (
+        Form::Formula,
+        &[(b"( ", 129), (b"thesis", 1), (b" )", 129)],
+        Answer::TooDeep(287),
+    ),
+    (
+        Form::Formula,
+        &[(b"( ", 127), (b"P [ x ]", 1), (b" )", 127)],
+        Answer::Until(258),
+    ),
+    (
+        Form::Formula,
+        &[(b"( ", 128), (b"P [ x ]", 1), (b" )", 128)],
+        Answer::TooDeep(289),
+    ),
+    (
+        Form::Formula,
+        &[(b"( not ", 64), (b"thesis", 1), (b" )", 64)],
+        Answer::Until(193),
+    ),
+    (
+        Form::Formula,
+        &[(b"( not ", 65), (b"thesis", 1), (b" )", 65)],
+        Answer::TooDeep(415),
+    ),
+    (
+        Form::Formula,
+        &[(b"( ", 128), (b"thesis & thesis", 1), (b" )", 128)],
+        Answer::TooDeep(296),
+    ),
+    (
+        Form::Formula,
+        &[(b"( ", 128), (b"not thesis", 1), (b" )", 128)],
+        Answer::TooDeep(287),
+    ),
+];
+
+#[test]
+fn formulas(rt: HostRuntime) {
+    check(&rt, rt.alloc(), FORMULAS.as_slice());
+}
+
+/// Operand k of a chain is k - 1 levels deeper, and where a chain ends its levels are given back.
+const CHAINS: [(Form, &'static [Piece], Answer); 15] = [
+    (
+        Form::Formula,
+        &[(b"thesis & ", 128), (b"thesis", 1)],
+        Answer::Until(257),
+    ),
+    (
+        Form::Formula,
+        &[(b"thesis & ", 129), (b"thesis", 1)],
+        Answer::TooDeep(1192),
+    ),
+    (
+        Form::Formula,
+        &[(b"thesis & ", 129), (b")", 1)],
+        Answer::Unexpected(1192),
+    ),
+    (
+        Form::Formula,
+        &[(b"thesis or ", 128), (b"thesis", 1)],
+        Answer::Until(257),
+    ),
+    (
+        Form::Formula,
+        &[(b"thesis or ", 129), (b"thesis", 1)],
+        Answer::TooDeep(1321),
+    ),
+    (
+        Form::Formula,
+        &[(b"thesis or ", 129), (b"holds", 1)],
+        Answer::Unexpected(1321),
+    ),
+    (
+        Form::Formula,
+        &[(b"thesis or ", 128), (b"thesis & thesis", 1)],
+        Answer::TooDeep(1320),
+    ),
+    (
+        Form::Formula,
+        &[
+            (b"thesis & thesis or ", 1),
+            (b"thesis or ", 127),
+            (b"thesis", 1),
+        ],
+        Answer::Until(259),
+    ),
+    (
+        Form::Formula,
+        &[(b"thesis or ", 127), (b"thesis & thesis or thesis", 1)],
+        Answer::Until(259),
+    ),
+    (
+        Form::Formula,
+        &[(b"thesis or ", 127), (b"thesis & thesis & thesis", 1)],
+        Answer::TooDeep(1319),
+    ),
+    (
+        Form::Formula,
+        &[(b"for x holds ", 1), (b"thesis & ", 127), (b"thesis", 1)],
+        Answer::Until(258),
+    ),
+    (
+        Form::Formula,
+        &[(b"for x holds ", 1), (b"thesis & ", 128), (b"thesis", 1)],
+        Answer::TooDeep(1195),
+    ),
+    (
+        Form::Formula,
+        &[(b"( ", 127), (b"( thesis ) & thesis", 1), (b" )", 127)],
+        Answer::Until(259),
+    ),
+    (
+        Form::Formula,
+        &[
+            (b"( ", 126),
+            (b"( thesis & thesis ) & thesis", 1),
+            (b" )", 126),
+        ],
+        Answer::Until(259),
+    ),
+    (
+        Form::Formula,
+        &[(b"( ", 127), (b"not thesis & thesis", 1), (b" )", 127)],
+        Answer::Until(258),
+    ),
+];
+
+#[test]
+fn chains(rt: HostRuntime) {
+    check(&rt, rt.alloc(), CHAINS.as_slice());
 }

@@ -1,60 +1,13 @@
-//! Expressions of each form, over the tokens of a whole text.
-use crate::texts::{Answer, article_tokens, refused, taken};
-use mz_base::token::MarkedToken;
-use mz_pexpr::forms::{Expression, Form};
+//! Expressions from some token of a text on, whose commas have the marks of the whole text.
+use crate::texts::{Answer, answer_of, article_tokens, parsed, tokens_behind_begin};
+use mz_pexpr::forms::Form;
 use mz_pexpr::marking::marked_tokens;
-use mz_pexpr::parse::expression;
+use mz_pexpr::parse::read;
 use std::alloc::Global;
 use std::process::Abort;
 
-fn spelled(
-    rt: &impl Abort,
-    alloc: Global,
-    tree: &Expression,
-    tokens: &[MarkedToken],
-    from: usize,
-    until: usize,
-) -> Answer {
-    match tree {
-        Expression::Formula(tree) => taken(rt, alloc, tree, tokens, from, until),
-        Expression::Term(tree) => taken(rt, alloc, tree, tokens, from, until),
-        Expression::Terms(tree) => taken(rt, alloc, tree, tokens, from, until),
-        Expression::TypeForm(tree) => taken(rt, alloc, tree, tokens, from, until),
-        Expression::Adjectives(tree) => taken(rt, alloc, tree, tokens, from, until),
-        Expression::Declarations(tree) => taken(rt, alloc, tree, tokens, from, until),
-    }
-}
-
-fn form_of(tree: &Expression) -> Form {
-    match tree {
-        Expression::Formula(_) => Form::Formula,
-        Expression::Term(_) => Form::Term,
-        Expression::Terms(_) => Form::Terms,
-        Expression::TypeForm(_) => Form::TypeForm,
-        Expression::Adjectives(_) => Form::Adjectives,
-        Expression::Declarations(_) => Form::Declarations,
-    }
-}
-
-/// What is answered at the token with this number behind `begin`.
-fn answered(rt: &impl Abort, alloc: Global, form: Form, text: &[u8], number: usize) -> Answer {
-    let tokens = article_tokens(rt, alloc, text);
-    let all = marked_tokens(alloc, &tokens).expect(rt, "memory");
-    let from = number.saturating_add(5);
-    if tokens.items.len() < from {
-        return Answer::TooFew;
-    }
-    match expression(alloc, &tokens, from, form) {
-        Ok((tree, until)) if form_of(&tree) == form => {
-            spelled(rt, alloc, &tree, all.as_slice(), from, until)
-        }
-        Ok(_) => Answer::Misspelled,
-        Err(fault) => refused(&fault),
-    }
-}
-
-/// A text, the number of a token in it, and what is answered there.
-const ROWS: [(Form, &[u8], usize, Answer); 16] = [
+/// A text behind `begin`, the number of a token in it, and what is answered there.
+const ROWS: [(Form, &[u8], usize, Answer); 21] = [
     (Form::Formula, b"x less y & thesis", 0, Answer::Until(5)),
     (Form::Formula, b"x , y less z", 2, Answer::Until(3)),
     (Form::Formula, b"x", 0, Answer::EndsEarly(32)),
@@ -62,7 +15,6 @@ const ROWS: [(Form, &[u8], usize, Answer); 16] = [
     (Form::Term, b"x , y", 1, Answer::Unexpected(33)),
     (Form::Terms, b"x , y", 0, Answer::Until(3)),
     (Form::Terms, b"the car", 0, Answer::EndsEarly(38)),
-    (Form::Terms, b"x", 1, Answer::EndsEarly(32)),
     (Form::TypeForm, b"odd mod of x , y", 0, Answer::Until(6)),
     (
         Form::TypeForm,
@@ -74,6 +26,16 @@ const ROWS: [(Form, &[u8], usize, Answer); 16] = [
     (Form::Adjectives, b"odd non", 0, Answer::EndsEarly(38)),
     (Form::Declarations, b"x , y being mod", 0, Answer::Until(5)),
     (Form::Declarations, b"x being", 0, Answer::EndsEarly(38)),
+    // behind the last token the end of the text comes, with its blanks and comments
+    (Form::Terms, b"x", 1, Answer::EndsEarly(32)),
+    (Form::Terms, b"x  :: y", 1, Answer::EndsEarly(38)),
+    (Form::Formula, b"x  :: y", 0, Answer::EndsEarly(38)),
+    (
+        Form::Declarations,
+        b"x :: y\n  ",
+        1,
+        Answer::EndsEarlyBelow(2, 3),
+    ),
     // commas have the marks of the whole list
     (
         Form::TypeForm,
@@ -87,11 +49,96 @@ const ROWS: [(Form, &[u8], usize, Answer); 16] = [
         2,
         Answer::Until(5),
     ),
+    (
+        Form::TypeForm,
+        b"reserve y for set ; for mod of a , b for set",
+        6,
+        Answer::Until(5),
+    ),
+    (
+        Form::Formula,
+        b"reserve y for set , x less a , b for set",
+        5,
+        Answer::Until(3),
+    ),
 ];
 
 #[test]
 fn forms(rt: HostRuntime) {
+    let alloc = rt.alloc();
     for (form, text, number, answer) in &ROWS {
-        assert_eq!(rt; answered(&rt, rt.alloc(), *form, text, *number), *answer);
+        let tokens = tokens_behind_begin(&rt, alloc, &[(*text, 1)]);
+        let found = parsed(&rt, alloc, *form, &tokens, number.saturating_add(5));
+        assert_eq!(rt; found, *answer);
+    }
+}
+
+/// A whole article, the number of a token in it, and what is answered there to a formula.
+const ARTICLES: [(&[u8], usize, Answer); 4] = [
+    (
+        b"environ begin theorem for a,b,c being object st a in b,c for d being object holds a = a;",
+        3,
+        Answer::Until(22),
+    ),
+    (
+        b"environ begin theorem { x, P[y] } = x;",
+        3,
+        Answer::Unexpected(26),
+    ),
+    (b"environ begin theorem { x,", 3, Answer::EndsEarly(27)),
+    (b"environ begin theorem a,b = c,d;", 3, Answer::Until(7)),
+];
+
+#[test]
+fn articles(rt: HostRuntime) {
+    let alloc = rt.alloc();
+    for (article, number, answer) in &ARTICLES {
+        let tokens = article_tokens(&rt, alloc, article);
+        let found = parsed(&rt, alloc, Form::Formula, &tokens, *number);
+        assert_eq!(rt; found, *answer);
+    }
+}
+
+/// 129 parentheses behind `theorem`: the last one is too deep.
+#[test]
+fn parentheses_behind_theorem(rt: HostRuntime) {
+    let alloc = rt.alloc();
+    let mut article = Vec::from_slice(alloc, b"environ begin theorem ".as_slice()).expect(
+        &rt, "memory",
+    );
+    for _ in 0..129 {
+        article.push(b'(').expect(&rt, "memory");
+    }
+    let tokens = article_tokens(&rt, alloc, article.as_slice());
+    let found = parsed(&rt, alloc, Form::Formula, &tokens, 3);
+    assert_eq!(rt; found, Answer::TooDeep(151));
+}
+
+/// What is answered to a text whose tokens have their marks.
+fn read_marked(rt: &impl Abort, alloc: Global, form: Form, text: &'static [u8]) -> Answer {
+    let tokens = tokens_behind_begin(rt, alloc, &[(text, 1)]);
+    let all = marked_tokens(alloc, &tokens).expect(rt, "memory");
+    if all.len() < 5 {
+        return Answer::TooFew;
+    }
+    let found = read(alloc, &all, tokens.end, 5, form);
+    answer_of(rt, alloc, form, &all, 5, found)
+}
+
+/// A text behind `begin` for each form.
+const MARKED: [(Form, &[u8], Answer); 6] = [
+    (Form::Formula, b"x , y less z )", Answer::Until(5)),
+    (Form::Term, b"x , y )", Answer::Until(1)),
+    (Form::Terms, b"x , y )", Answer::Until(3)),
+    (Form::TypeForm, b"mod of x , y )", Answer::Until(5)),
+    (Form::Adjectives, b"( x , y ) odd )", Answer::Until(6)),
+    (Form::Declarations, b"x , y be mod )", Answer::Until(5)),
+];
+
+#[test]
+fn marked_forms(rt: HostRuntime) {
+    for (form, text, answer) in &MARKED {
+        let found = read_marked(&rt, rt.alloc(), *form, text);
+        assert_eq!(rt; found, *answer);
     }
 }

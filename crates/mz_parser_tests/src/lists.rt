@@ -1,76 +1,54 @@
-//! Lists of tokens that are made by hand: long runs, which nest nothing, and tokens that no tree has.
-use crate::texts::{Answer, Part, parsed};
+//! Lists of tokens that are made by hand, some of which no text has.
+use crate::texts::{Answer, parsed};
 use mz_base::place::Place;
 use mz_base::symbol_kind::SymbolKind;
 use mz_base::text::Text;
-use mz_base::token::{Mark, MarkedToken, Token, TokenKind};
+use mz_base::token::{Token, TokenKind, Tokens};
+use mz_pexpr::forms::Form;
 use std::alloc::Global;
 use std::process::Abort;
 
 /// The kind of a token, its spelling, and its priority.
 type Word = (TokenKind, &'static [u8], u8);
 
-fn at(column: u64) -> Place {
-    Place { line: 1, column }
-}
-
-/// The token stands at the column of this number.
-fn add(rt: &impl Abort, alloc: Global, out: &mut Vec<MarkedToken>, word: Word, column: u64) {
+/// Adds a token in the column of its number, from 1.
+fn add(rt: &impl Abort, alloc: Global, out: &mut Tokens, word: Word) {
     let (kind, spelling, priority) = word;
     let spelling = Text::from_slice(alloc, spelling).expect(rt, "memory");
-    let place = at(column);
-    let token = Token {
-        kind,
-        place,
-        spelling,
-        priority,
+    let place = out.end;
+    out.end.column = place.column.saturating_add(1);
+    out.items
+        .push(Token {
+            kind,
+            place,
+            spelling,
+            priority,
+        })
+        .expect(rt, "memory");
+}
+
+fn tokens_of(rt: &impl Abort, alloc: Global, words: &[Word]) -> Tokens {
+    let mut out = Tokens {
+        items: Vec::new(alloc),
+        end: Place::start(),
     };
-    let mark = Mark::NotComma;
-    out.push(MarkedToken { token, mark }).expect(rt, "memory");
+    for word in words {
+        add(rt, alloc, &mut out, *word);
+    }
+    out
 }
 
 const IDENTIFIER: Word = (TokenKind::Identifier, b"x", 0);
 
-const FUNCTOR: [Word; 1] = [(TokenKind::Symbol(SymbolKind::Functor), b"+", 64)];
-
-const SELECTOR: [Word; 3] = [
-    (TokenKind::Reserved, b"the", 0),
-    (TokenKind::Symbol(SymbolKind::Selector), b"car", 0),
-    (TokenKind::Reserved, b"of", 0),
-];
-
-/// These words so many times, and an identifier behind them.
-fn run(rt: &impl Abort, alloc: Global, words: &[Word], times: usize) -> Vec<MarkedToken> {
-    let mut out = Vec::new(alloc);
-    for _ in 0..times {
-        for word in words {
-            add(rt, alloc, &mut out, *word, 1);
-        }
-    }
-    add(rt, alloc, &mut out, IDENTIFIER, 1);
-    out
-}
-
-#[test]
-fn functors(rt: HostRuntime) {
-    let alloc = rt.alloc();
-    let tokens = run(&rt, alloc, FUNCTOR.as_slice(), 190_000);
-    let answer = parsed(&rt, alloc, Part::Terms, tokens.as_slice(), at(1), 0, false);
-    assert_eq!(rt; answer, Answer::Until(190_001));
-}
-
-#[test]
-fn selectors(rt: HostRuntime) {
-    let alloc = rt.alloc();
-    let tokens = run(&rt, alloc, SELECTOR.as_slice(), 60_000);
-    let answer = parsed(&rt, alloc, Part::Terms, tokens.as_slice(), at(1), 0, false);
-    assert_eq!(rt; answer, Answer::Until(180_001));
-}
+const OPEN: Word = (TokenKind::Special, b"(", 0);
 
 /// No tree has one of these.
-const STRANGE: [Word; 8] = [
+const STRANGE: [Word; 11] = [
     (TokenKind::Special, b";", 5),
+    (TokenKind::Special, b",", 5),
+    (TokenKind::Special, b"&", 5),
     (TokenKind::Symbol(SymbolKind::Mode), b"set", 0),
+    (TokenKind::Symbol(SymbolKind::Predicate), b"=", 1),
     (TokenKind::Numeral, b"1", 0),
     (TokenKind::Special, b"$11", 0),
     (TokenKind::Special, b"", 0),
@@ -79,32 +57,72 @@ const STRANGE: [Word; 8] = [
     (TokenKind::Reserved, b"proof", 0),
 ];
 
-fn strange(rt: &impl Abort, alloc: Global, part: Part, word: Word, opened: bool) -> Answer {
-    let mut tokens = Vec::new(alloc);
-    if opened {
-        add(rt, alloc, &mut tokens, (TokenKind::Special, b"(", 0), 1);
-        add(rt, alloc, &mut tokens, IDENTIFIER, 2);
-    }
-    add(rt, alloc, &mut tokens, word, 3);
-    parsed(rt, alloc, part, tokens.as_slice(), at(4), 0, false)
-}
+const FORMS: [Form; 6] = [
+    Form::Formula,
+    Form::Term,
+    Form::Terms,
+    Form::TypeForm,
+    Form::Adjectives,
+    Form::Declarations,
+];
 
 #[test]
 fn strange_tokens(rt: HostRuntime) {
     let alloc = rt.alloc();
     for word in STRANGE {
-        for part in [
-            Part::Terms,
-            Part::Type,
-            Part::Adjectives,
-            Part::Declarations,
-        ] {
-            let answer = strange(&rt, alloc, part, word, false);
-            assert_eq!(rt; answer, Answer::Unexpected(3));
+        for form in FORMS {
+            let tokens = tokens_of(&rt, alloc, &[word]);
+            assert_eq!(rt; parsed(&rt, alloc, form, &tokens, 0), Answer::Unexpected(1));
+            let tokens = tokens_of(&rt, alloc, &[OPEN, IDENTIFIER, word]);
+            let column = if form == Form::Declarations { 1 } else { 3 };
+            assert_eq!(rt;
+                parsed(&rt, alloc, form, &tokens, 0),
+                Answer::Unexpected(column)
+            );
         }
-        for part in [Part::Term, Part::Terms, Part::Type, Part::Adjectives] {
-            let answer = strange(&rt, alloc, part, word, true);
-            assert_eq!(rt; answer, Answer::Unexpected(3));
-        }
+    }
+}
+
+/// Words and what is answered to them as terms.
+const ROWS: [([Word; 3], Answer); 4] = [
+    // any priority
+    (
+        [
+            IDENTIFIER,
+            (TokenKind::Symbol(SymbolKind::Functor), b"+", 255),
+            (TokenKind::Symbol(SymbolKind::Functor), b"+", 0),
+        ],
+        Answer::Until(3),
+    ),
+    // any spelling
+    (
+        [
+            (TokenKind::Identifier, b"of", 0),
+            (TokenKind::Symbol(SymbolKind::Functor), b"(", 64),
+            (TokenKind::Identifier, b"", 0),
+        ],
+        Answer::Until(3),
+    ),
+    // other kinds
+    (
+        [
+            IDENTIFIER,
+            (TokenKind::Symbol(SymbolKind::Attribute), b"+", 0),
+            IDENTIFIER,
+        ],
+        Answer::Until(1),
+    ),
+    (
+        [OPEN, IDENTIFIER, (TokenKind::Identifier, b")", 0)],
+        Answer::Unexpected(3),
+    ),
+];
+
+#[test]
+fn kinds_decide(rt: HostRuntime) {
+    let alloc = rt.alloc();
+    for (words, answer) in ROWS {
+        let tokens = tokens_of(&rt, alloc, words.as_slice());
+        assert_eq!(rt; parsed(&rt, alloc, Form::Terms, &tokens, 0), answer);
     }
 }

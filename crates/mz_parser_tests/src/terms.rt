@@ -1,8 +1,9 @@
 //! Terms.
-use crate::texts::{Answer, Part, answered};
+use crate::texts::{Answer, check};
+use mz_pexpr::forms::Form;
 
 /// Each alternative once, and each place where one token doesn't decide twice.
-const ROWS: [(&[u8], Answer); 39] = [
+const ROWS: [(&[u8], Answer); 47] = [
     (b"x", Answer::Until(1)),
     (b"x + y", Answer::Until(3)),
     (b"+", Answer::Until(1)),
@@ -42,16 +43,20 @@ const ROWS: [(&[u8], Answer); 39] = [
     (b"( x\n y )", Answer::UnexpectedBelow(2, 2)),
     (b"( x\n ,", Answer::EndsEarlyBelow(2, 3)),
     (b"mod", Answer::Unexpected(31)),
+    // commas that divide, and commas that don't
+    (b"{ a , b , P [ c ] }", Answer::Unexpected(35)),
+    (b"{ a , f ( c ) -> mod }", Answer::Unexpected(35)),
+    (b"a , f ( c ) -> mod", Answer::Until(1)),
+    (b"a , f ( ( c ) -> mod", Answer::Unexpected(45)),
+    (b"a , f ( c )", Answer::Until(6)),
+    (b"a , b being mod", Answer::Until(1)),
+    (b"a , str", Answer::EndsEarly(38)),
+    (b"a , str over", Answer::Until(1)),
 ];
 
 #[test]
-fn rows(rt: HostRuntime) {
-    for (text, answer) in &ROWS {
-        assert_eq!(rt;
-            answered(&rt, rt.alloc(), Part::Terms, text, false),
-            *answer
-        );
-    }
+fn several_terms(rt: HostRuntime) {
+    check(&rt, rt.alloc(), Form::Terms, ROWS.as_slice());
 }
 
 /// One term ends before the first comma outside brackets.
@@ -65,25 +70,5 @@ const ONE: [(&[u8], Answer); 5] = [
 
 #[test]
 fn one_term(rt: HostRuntime) {
-    for (text, answer) in &ONE {
-        assert_eq!(rt; answered(&rt, rt.alloc(), Part::Term, text, false), *answer);
-    }
-}
-
-/// `the U` alone stands in a field's type.
-const FIELDS: [(&[u8], bool, Answer); 4] = [
-    (b"the car", true, Answer::Until(2)),
-    (b"the car + x", true, Answer::Until(4)),
-    (b"the car", false, Answer::EndsEarly(38)),
-    (b"the car + x", false, Answer::Unexpected(39)),
-];
-
-#[test]
-fn fields(rt: HostRuntime) {
-    for (text, field, answer) in &FIELDS {
-        assert_eq!(rt;
-            answered(&rt, rt.alloc(), Part::Terms, text, *field),
-            *answer
-        );
-    }
+    check(&rt, rt.alloc(), Form::Term, ONE.as_slice());
 }

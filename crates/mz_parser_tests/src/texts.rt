@@ -1,6 +1,4 @@
-//! What the parsers answer to a text.
-ghost use Rattle.std.specs.Prelude.{◌≤◌, length};
-
+//! What the parser of expressions answers to a text.
 use mz_base::name::Name;
 use mz_base::place::Place;
 use mz_base::text::Text;
@@ -9,11 +7,11 @@ use mz_base::vocabularies::{Vocabularies, VocabularyText};
 use mz_lex::head::head;
 use mz_lex::table::table;
 use mz_lex::tokens::tokens;
+use mz_pexpr::forms::{Expression, Form};
 use mz_pexpr::marking::marked_tokens;
-use mz_pterm::parse::{ParseFault, term, terms};
-use mz_ptype::parse::{adjectives, declarations, whole_type};
-use mz_tree::expressions::{AdjectivesTree, DeclarationsTree, TermTree, TermsTree, TypeTree};
-use mz_tree::tree::Spell;
+use mz_pexpr::parse::expression;
+use mz_pterm::parse::ParseFault;
+use mz_tree::tree::{Copied, Spell};
 use std::alloc::Global;
 use std::process::Abort;
 use std::sync::Arc;
@@ -21,18 +19,7 @@ use std::sync::Arc;
 /// A structure, brackets, a mode, functors, a predicate, a selector and an attribute.
 const SYMBOLS: &[u8] = b"Gstr\nKlb\nLrb\nLrc\nMmod\nO+\nO*\nRless\nUcar\nVodd\n";
 
-/// What is read.
-#[derive(Clone, Copy, Debug, PartialEq, Eq)]
-pub enum Part {
-    Term,
-    Terms,
-    Type,
-    Adjectives,
-    Declarations,
-}
-
 /// An answer: the number of tokens of the tree, or a refusal with its column, and with its line where it isn't the first.
-/// The first byte stands in column 31.
 #[derive(Clone, Copy, Debug, PartialEq, Eq)]
 pub enum Answer {
     Until(usize),
@@ -44,7 +31,7 @@ pub enum Answer {
     Memory,
     /// There are too few tokens.
     TooFew,
-    /// The tree's spelling isn't the tokens that were taken.
+    /// The tree is of another form, or it, its copy or its first place isn't that of the tokens that were taken.
     Misspelled,
 }
 
@@ -56,33 +43,65 @@ fn is_same(left: &MarkedToken, right: &MarkedToken) -> bool {
         && left.token.priority == right.token.priority
 }
 
-/// The number of tokens that were taken, which the tree is spelled by.
-pub fn taken<T: Spell>(
+fn are_same(left: &[MarkedToken], right: &[MarkedToken]) -> bool {
+    left.len() == right.len()
+        && left
+            .iter()
+            .zip(right.iter())
+            .all(|(left, right)| is_same(left, right))
+}
+
+/// Whether the tree and its copy are spelled by these tokens, the first of which stands at this place.
+fn is_spelled<T: Copied + Spell>(
     rt: &impl Abort,
     alloc: Global,
     tree: &T,
+    place: Place,
     tokens: &[MarkedToken],
-    from: usize,
-    until: usize,
-) -> Answer {
+) -> bool {
+    let Some((first, _)) = tokens.split_first() else {
+        return false;
+    };
+    let copy = tree.copy(alloc).expect(rt, "memory");
     let mut spelled = Vec::new(alloc);
     tree.spell(alloc, &mut spelled).expect(rt, "memory");
-    if until < from || until > tokens.len() || until - from != spelled.len() {
-        return Answer::Misspelled;
-    }
-    let is_spelled = tokens[from..until]
-        .iter()
-        .zip(spelled.iter())
-        .all(|(left, right)| is_same(left, right));
-    if is_spelled {
-        Answer::Until(until - from)
-    } else {
-        Answer::Misspelled
+    let mut copied = Vec::new(alloc);
+    copy.spell(alloc, &mut copied).expect(rt, "memory");
+    first.token.place == place && are_same(&spelled, tokens) && are_same(&copied, tokens)
+}
+
+/// Whether the expression has this form and is spelled by these tokens.
+fn is_read(
+    rt: &impl Abort,
+    alloc: Global,
+    form: Form,
+    tree: &Expression,
+    tokens: &[MarkedToken],
+) -> bool {
+    match tree {
+        Expression::Formula(tree) => {
+            form == Form::Formula && is_spelled(rt, alloc, tree, tree.first_place(), tokens)
+        }
+        Expression::Term(tree) => {
+            form == Form::Term && is_spelled(rt, alloc, tree, tree.first_place(), tokens)
+        }
+        Expression::Terms(tree) => {
+            form == Form::Terms && is_spelled(rt, alloc, tree, tree.first_place(), tokens)
+        }
+        Expression::TypeForm(tree) => {
+            form == Form::TypeForm && is_spelled(rt, alloc, tree, tree.first_place(), tokens)
+        }
+        Expression::Adjectives(tree) => {
+            form == Form::Adjectives && is_spelled(rt, alloc, tree, tree.first_place(), tokens)
+        }
+        Expression::Declarations(tree) => {
+            form == Form::Declarations && is_spelled(rt, alloc, tree, tree.first_place(), tokens)
+        }
     }
 }
 
 /// The answer where a parse refuses.
-pub fn refused(fault: &ParseFault) -> Answer {
+fn refused(fault: &ParseFault) -> Answer {
     match fault {
         ParseFault::Unexpected { place } if place.line == 1 => Answer::Unexpected(place.column),
         ParseFault::Unexpected { place } => Answer::UnexpectedBelow(place.line, place.column),
@@ -93,51 +112,42 @@ pub fn refused(fault: &ParseFault) -> Answer {
     }
 }
 
-/// What the parser answers to these tokens, from the one with this number on.
-pub fn parsed(
+/// What a parse of this form from a token on answered.
+pub fn answer_of(
     rt: &impl Abort,
     alloc: Global,
-    part: Part,
+    form: Form,
     tokens: &[MarkedToken],
-    end: Place,
     from: usize,
-    field: bool,
-) -> Answer
-    requires { from ≤ length tokens.now }
-{
-    match part {
-        Part::Term => match term(alloc, tokens, end, from, field) {
-            Ok((node, until)) => taken(rt, alloc, &TermTree { node }, tokens, from, until),
-            Err(fault) => refused(&fault),
-        },
-        Part::Terms => match terms(alloc, tokens, end, from, field) {
-            Ok((node, until)) => taken(rt, alloc, &TermsTree { node }, tokens, from, until),
-            Err(fault) => refused(&fault),
-        },
-        Part::Type => match whole_type(alloc, tokens, end, from, field) {
-            Ok((node, until)) => taken(rt, alloc, &TypeTree { node }, tokens, from, until),
-            Err(fault) => refused(&fault),
-        },
-        Part::Adjectives => match adjectives(alloc, tokens, end, from, field) {
-            Ok(((first, more), until)) => {
-                let tree = AdjectivesTree { first, more };
-                taken(rt, alloc, &tree, tokens, from, until)
+    found: Result<(Expression, usize), ParseFault>,
+) -> Answer {
+    match found {
+        Ok((tree, until)) => {
+            if until < from || until > tokens.len() {
+                return Answer::Misspelled;
             }
-            Err(fault) => refused(&fault),
-        },
-        Part::Declarations => match declarations(alloc, tokens, end, from, field) {
-            Ok((node, until)) => taken(rt, alloc, &DeclarationsTree { node }, tokens, from, until),
-            Err(fault) => refused(&fault),
-        },
+            if is_read(rt, alloc, form, &tree, &tokens[from..until]) {
+                Answer::Until(until - from)
+            } else {
+                Answer::Misspelled
+            }
+        }
+        Err(fault) => refused(&fault),
     }
 }
 
-/// The tokens of an article with this text behind its `begin`.
-pub fn article_tokens(rt: &impl Abort, alloc: Global, text: &[u8]) -> Tokens {
-    let mut bytes = Vec::from_slice(alloc, b"environ vocabularies A; begin ".as_slice()).expect(
-        rt, "memory",
-    );
-    bytes.extend_from_slice(text).expect(rt, "memory");
+/// What the parser answers to these tokens, from the one with this number on.
+pub fn parsed(rt: &impl Abort, alloc: Global, form: Form, tokens: &Tokens, from: usize) -> Answer {
+    let all = marked_tokens(alloc, tokens).expect(rt, "memory");
+    if tokens.items.len() < from {
+        return Answer::TooFew;
+    }
+    let found = expression(alloc, tokens, from, form);
+    answer_of(rt, alloc, form, &all, from, found)
+}
+
+/// The tokens of an article.
+pub fn article_tokens(rt: &impl Abort, alloc: Global, article: &[u8]) -> Tokens {
     let symbols = Text::from_slice(alloc, SYMBOLS).expect(rt, "memory");
     let mut items = Vec::new(alloc);
     items
@@ -146,17 +156,38 @@ pub fn article_tokens(rt: &impl Abort, alloc: Global, text: &[u8]) -> Tokens {
             text: Some(Arc::new(alloc, symbols).expect(rt, "memory")),
         })
         .expect(rt, "memory");
-    let environment = head(alloc, bytes.as_slice()).expect(rt, "a head");
+    let environment = head(alloc, article).expect(rt, "a head");
     let table = table(alloc, &Vocabularies { items }, &environment).expect(rt, "a table");
-    tokens(alloc, &table, bytes.as_slice()).expect(rt, "tokens")
+    tokens(alloc, &table, article).expect(rt, "tokens")
 }
 
-/// What the parser answers to this text.
-pub fn answered(rt: &impl Abort, alloc: Global, part: Part, text: &[u8], field: bool) -> Answer {
-    let tokens = article_tokens(rt, alloc, text);
-    let all = marked_tokens(alloc, &tokens).expect(rt, "memory");
-    if all.len() < 5 {
-        return Answer::TooFew;
+/// A piece of a text, which stands there so many times in a row.
+pub type Piece = (&'static [u8], usize);
+
+/// The tokens of an article with this text behind its `begin`, the sixth of which is the first of the text. Its first byte
+/// stands in column 31.
+pub fn tokens_behind_begin(rt: &impl Abort, alloc: Global, text: &[Piece]) -> Tokens {
+    let mut bytes = Vec::from_slice(alloc, b"environ vocabularies A; begin ".as_slice()).expect(
+        rt, "memory",
+    );
+    for (piece, times) in text {
+        for _ in 0..*times {
+            bytes.extend_from_slice(piece).expect(rt, "memory");
+        }
     }
-    parsed(rt, alloc, part, all.as_slice(), tokens.end, 5, field)
+    article_tokens(rt, alloc, bytes.as_slice())
+}
+
+/// What the parser answers to a text behind `begin`.
+pub fn answered(rt: &impl Abort, alloc: Global, form: Form, text: &[Piece]) -> Answer {
+    let tokens = tokens_behind_begin(rt, alloc, text);
+    parsed(rt, alloc, form, &tokens, 5)
+}
+
+/// Fails at the first text that has another answer.
+pub fn check(rt: &impl Abort, alloc: Global, form: Form, rows: &[(&'static [u8], Answer)]) {
+    for (number, (text, answer)) in rows.iter().enumerate() {
+        let found = answered(rt, alloc, form, &[(*text, 1)]);
+        assert_eq!(rt; (number, found), (number, *answer));
+    }
 }

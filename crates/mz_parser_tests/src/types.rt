@@ -1,8 +1,9 @@
 //! Types, adjectives and declarations.
-use crate::texts::{Answer, Part, answered};
+use crate::texts::{Answer, check};
+use mz_pexpr::forms::Form;
 
 /// Types.
-const TYPES: [(&[u8], Answer); 21] = [
+const TYPES: [(&[u8], Answer); 26] = [
     (b"mod", Answer::Until(1)),
     (b"set", Answer::Until(1)),
     (b"str", Answer::Until(1)),
@@ -24,6 +25,11 @@ const TYPES: [(&[u8], Answer); 21] = [
     (b"non mod", Answer::Unexpected(35)),
     (b"mod of the car", Answer::EndsEarly(45)),
     (b"mod of x , P [ y ]", Answer::Until(3)),
+    (b"object", Answer::Until(1)),
+    (b"strict str", Answer::Until(2)),
+    (b"non strict x strict set of x", Answer::Until(7)),
+    (b"object of it , { $2 }", Answer::Until(7)),
+    (b"strict", Answer::EndsEarly(37)),
 ];
 
 /// Adjectives.
@@ -41,7 +47,7 @@ const ADJECTIVES: [(&[u8], Answer); 10] = [
 ];
 
 /// Declarations.
-const DECLARATIONS: [(&[u8], Answer); 16] = [
+const DECLARATIONS: [(&[u8], Answer); 20] = [
     (b"x", Answer::Until(1)),
     (b"x , y", Answer::Until(3)),
     (b"x be mod", Answer::Until(3)),
@@ -57,42 +63,24 @@ const DECLARATIONS: [(&[u8], Answer); 16] = [
     (b"x being y", Answer::EndsEarly(40)),
     (b"x , )", Answer::Unexpected(35)),
     (b"x being mod , )", Answer::Unexpected(45)),
+    (b"x being mod of a , P [ y ]", Answer::Until(7)),
+    (b"x being mod of a , f ( y ) -> mod", Answer::Until(7)),
+    (b"x being mod of a , f ( y )", Answer::Until(10)),
+    (b"x being object , y being strict str", Answer::Until(8)),
     (b"mod", Answer::Unexpected(31)),
 ];
 
 #[test]
 fn types(rt: HostRuntime) {
-    for (text, answer) in &TYPES {
-        assert_eq!(rt; answered(&rt, rt.alloc(), Part::Type, text, false), *answer);
-    }
-    assert_eq!(rt;
-        answered(
-            &rt,
-            rt.alloc(),
-            Part::Type,
-            b"mod of the car".as_slice(),
-            true
-        ),
-        Answer::Until(4)
-    );
+    check(&rt, rt.alloc(), Form::TypeForm, TYPES.as_slice());
 }
 
 #[test]
 fn adjectives(rt: HostRuntime) {
-    for (text, answer) in &ADJECTIVES {
-        assert_eq!(rt;
-            answered(&rt, rt.alloc(), Part::Adjectives, text, false),
-            *answer
-        );
-    }
+    check(&rt, rt.alloc(), Form::Adjectives, ADJECTIVES.as_slice());
 }
 
 #[test]
 fn declarations(rt: HostRuntime) {
-    for (text, answer) in &DECLARATIONS {
-        assert_eq!(rt;
-            answered(&rt, rt.alloc(), Part::Declarations, text, false),
-            *answer
-        );
-    }
+    check(&rt, rt.alloc(), Form::Declarations, DECLARATIONS.as_slice());
 }

@@ -6,8 +6,7 @@ use mz_base::token::{Mark, MarkedToken, Token, Tokens};
 use mz_marks::marks::Marks;
 use std::alloc::{AllocError, Global};
 
-/// The tokens with the marks that their commas have in the whole list, in time linear in their number. Fails only for want
-/// of memory.
+/// The tokens with the marks that their commas have in the whole list. Fails only for want of memory.
 pub fn marked_tokens(alloc: Global, tokens: &Tokens) -> Result<Vec<MarkedToken>, AllocError>
     ensures { IfOk result (λ all. AreMarked tokens.now.items all.items) }
 {

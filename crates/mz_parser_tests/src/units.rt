@@ -1,8 +1,9 @@
 //! Units.
-use crate::texts::{Answer, answered};
+use crate::texts::{Answer, check};
+use mz_pexpr::forms::Form;
 
 /// Texts that begin with a unit, and the answers.
-const UNITS: [(&[u8], Answer); 46] = [
+const UNITS: [(&[u8], Answer); 74] = [
     (b"x less y", Answer::Until(3)),
     (b"less", Answer::Until(1)),
     (b"less x", Answer::Until(2)),
@@ -49,11 +50,37 @@ const UNITS: [(&[u8], Answer); 46] = [
     (b"( x less y ) less z", Answer::Until(5)),
     (b"( x less y ]", Answer::Unexpected(42)),
     (b"( P [ x ] )", Answer::Until(6)),
+    (b"x = y", Answer::Until(3)),
+    (b"x in y", Answer::Until(3)),
+    (b"x <> y", Answer::Until(3)),
+    (b"= x", Answer::Until(2)),
+    (b"x is object", Answer::Until(3)),
+    (b"x is strict", Answer::Until(3)),
+    (b"x is non strict str over y", Answer::Until(7)),
+    (b"x is ( x , y ) odd mod", Answer::Until(9)),
+    (b"x is strict over", Answer::Until(3)),
+    (b"x less y , z", Answer::Until(5)),
+    (b"x less y , z being mod", Answer::Until(3)),
+    (b"x less y ,", Answer::EndsEarly(41)),
+    (b"less x , y", Answer::Until(4)),
+    (b"less ( x , y )", Answer::EndsEarly(45)),
+    (b"less ( x , y ) )", Answer::Unexpected(46)),
+    (b"less ( x , y ) + z", Answer::Until(8)),
+    (b"less x less y", Answer::Until(2)),
+    (b"less x = y", Answer::Until(2)),
+    (b"it = $1", Answer::Until(3)),
+    (b"{ x , y } in [ x ]", Answer::Until(9)),
+    (b"str (# x , y #) <> lb x rc", Answer::Until(10)),
+    (b"the car of x = the car of y", Answer::Until(9)),
+    (b"the car = x", Answer::Unexpected(39)),
+    (b"{ x , P [ y ] } = x", Answer::Unexpected(35)),
+    (b"( + x ) = x", Answer::Until(6)),
+    (b"( { x } ) = x", Answer::Until(7)),
+    (b"( it ) is odd", Answer::Until(5)),
+    (b"( contradiction ) = x", Answer::Until(3)),
 ];
 
 #[test]
 fn units(rt: HostRuntime) {
-    for (text, answer) in &UNITS {
-        assert_eq!(rt; answered(&rt, rt.alloc(), text), *answer);
-    }
+    check(&rt, rt.alloc(), Form::Formula, UNITS.as_slice());
 }

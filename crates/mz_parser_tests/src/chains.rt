@@ -1,8 +1,9 @@
 //! Chains and quantifiers.
-use crate::texts::{Answer, answered};
+use crate::texts::{Answer, check};
+use mz_pexpr::forms::Form;
 
 /// Texts with operators and quantifiers, and the answers.
-const CHAINS: [(&[u8], Answer); 39] = [
+const CHAINS: [(&[u8], Answer); 47] = [
     (b"x less y & x less z", Answer::Until(7)),
     (b"( x less y ) & ( x ) less y", Answer::Until(11)),
     (b"( ( thesis ) & thesis ) or thesis", Answer::Until(9)),
@@ -63,11 +64,38 @@ const CHAINS: [(&[u8], Answer); 39] = [
     ),
     (b"not for x holds thesis & thesis", Answer::Until(7)),
     (b"not ex x st thesis or thesis", Answer::Until(7)),
+    (b"for x ex y st thesis", Answer::Until(6)),
+    (
+        b"for x st for y st thesis holds thesis holds thesis",
+        Answer::Until(11),
+    ),
+    (
+        b"for x st for y st thesis holds thesis",
+        Answer::EndsEarly(68),
+    ),
+    (
+        b"for x holds for y holds thesis implies thesis iff thesis implies thesis iff thesis",
+        Answer::Until(13),
+    ),
+    (
+        b"for x holds thesis & thesis or thesis implies thesis & thesis or thesis",
+        Answer::Until(14),
+    ),
+    (
+        b"for x st thesis implies thesis holds thesis",
+        Answer::Until(8),
+    ),
+    (
+        b"for x st thesis implies thesis implies thesis",
+        Answer::Unexpected(62),
+    ),
+    (
+        b"thesis & ( thesis implies thesis ) or not thesis & thesis",
+        Answer::Until(12),
+    ),
 ];
 
 #[test]
 fn chains(rt: HostRuntime) {
-    for (text, answer) in &CHAINS {
-        assert_eq!(rt; answered(&rt, rt.alloc(), text), *answer);
-    }
+    check(&rt, rt.alloc(), Form::Formula, CHAINS.as_slice());
 }
