@@ -13,7 +13,6 @@ use Rattle.mz_logic.specs.Derives.{Derives}
 use Rattle.mz_logic.specs.declared.literal.Literal.{Literal}
 use Rattle.mz_logic.specs.declared.literal.Literal.TheVariants as literal
 use Rattle.mz_logic.proofs.ValueLaws.{substitute_formula-no_values}
-use Rattle.mz_logic.proofs.Connectives.{anywhere}
 use Rattle.mz_logic.proofs.Each.{Along, joined_in, joined_out, implies_out}
 use Rattle.mz_core.specs.Statement.{Statement}
 use Rattle.mz_core.specs.StatementForms.{implication}
@@ -28,14 +27,14 @@ use Rattle.mz_items.specs.Loci.{over}
 use Rattle.mz_clauses.specs.Guards.{loci_guards}
 use Rattle.mz_clause_laws.proofs.Instances.{formulas_at, over_out}
 
--- what holds for all loci, from no premises
-pub over_closed : (ax g : List Formula) (by : ℕ) (ts : List Term) (loci : List SoftType) (s : Statement) → list_all closed ts ≡ true → length ts ≡ length loci + by → Along ax g (formulas_at ts (loci_guards by loci)) → Derives ax [] (erase (over loci s)) → Derives ax g (substitute_formula 0 (value_at (drop by ts)) (erase s))
+-- what holds for all loci
+pub over_closed : (ax g : List Formula) (by : ℕ) (ts : List Term) (loci : List SoftType) (s : Statement) → list_all closed ts ≡ true → length ts ≡ length loci + by → Along ax g (formulas_at ts (loci_guards by loci)) → Derives ax g (erase (over loci s)) → Derives ax g (substitute_formula 0 (value_at (drop by ts)) (erase s))
 over_closed ax g by ts loci s h count guards d =
     let none : drop (length loci + by) ts ≡ [] = drop_all (length loci + by) ts (omega arith) in
     let whole : Formula = erase (over loci s) in
     let start : Derives ax g (substitute_formula 0 (value_at (drop (length loci + by) ts)) whole) =
     subst (λ us. Derives ax g (substitute_formula 0 (value_at us) whole)) (sym none)
-    (subst (Derives ax g) (sym (substitute_formula-no_values 0 whole)) (anywhere ax g whole d)) in
+    (subst (Derives ax g) (sym (substitute_formula-no_values 0 whole)) d) in
     over_out ax g by ts loci s h (omega arith) guards start
 
 -- literals as statements

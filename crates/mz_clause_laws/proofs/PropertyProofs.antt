@@ -52,6 +52,7 @@ use Rattle.mz_clauses.specs.PropertyClauses.{exchanged_relation, exchanged_opera
 use Rattle.mz_clause_laws.specs.RowLaws.{AllFollow, Follow}
 use Rattle.mz_clause_laws.specs.PropertyLaws.{PropertyLaw}
 use Rattle.mz_clause_laws.proofs.Instances.{formulas_at, along_first}
+use Rattle.mz_clause_laws.proofs.Implications.{premises_at}
 use Rattle.mz_clause_laws.proofs.Literals.{implication_out, where_literals_out}
 use Rattle.mz_clause_laws.proofs.RowProofs.{follow_append, group_follows, group_if_any_follows, premises, under_guards, further}
 use Rattle.mz_clause_laws.proofs.Valuations.{choose, choose-same, choose-last, term_at_loci, formula_at_loci, literal_at, literal_within, term_within, type_past, value_closed}
@@ -131,32 +132,32 @@ equal_second ax g n ts r a w v h count all ca cw cv e d =
     (formula_congruence ax g w v (open_at ts r a) cw cv e (subst (Derives ax g) (sym (open_is n ts r a w h count all ca)) d))
 
 -- one clause of a predicate
-relation_row : (ax : List Formula) (loci : List SoftType) (r : Relation) (ps : List Literal) (c : Literal) → ((ts : List term.Term) → list_all closed ts ≡ true → length ts ≡ length loci → Derives ax (formulas_at ts (loci_guards 0 loci ++ ps)) (substitute_formula 0 (value_at ts) (literal_formula c))) → AllFollow ax (map clause_formula (groups_clauses (relation_groups loci r ps c)))
-relation_row ax loci r ps c each =
-    group_if_any_follows ax (length loci) (literal_trigger r.literal) (loci_guards 0 loci ++ ps) (c ∷ []) (λ ts h count. (each ts h count, tt))
+relation_row : (ax known : List Formula) (loci : List SoftType) (r : Relation) (ps : List Literal) (c : Literal) → ((ts : List term.Term) → list_all closed ts ≡ true → length ts ≡ length loci → Derives ax (premises_at known ts (loci_guards 0 loci ++ ps)) (substitute_formula 0 (value_at ts) (literal_formula c))) → AllFollow ax known (map clause_formula (groups_clauses (relation_groups loci r ps c)))
+relation_row ax known loci r ps c each =
+    group_if_any_follows ax known (length loci) (literal_trigger r.literal) (loci_guards 0 loci ++ ps) (c ∷ []) (λ ts h count. (each ts h count, tt))
 
 -- one clause of a functor
-operation_row : (ax : List Formula) (loci : List SoftType) (t : term.Term) (ps : List Literal) (c : Literal) → ((ts : List term.Term) → list_all closed ts ≡ true → length ts ≡ length loci → Derives ax (formulas_at ts (loci_guards 0 loci ++ ps)) (substitute_formula 0 (value_at ts) (literal_formula c))) → AllFollow ax (map clause_formula (groups_clauses (operation_groups loci t ps c)))
-operation_row ax loci t ps c each =
-    group_follows ax (length loci) (Term t) (loci_guards 0 loci ++ ps) (c ∷ []) (λ ts h count. (each ts h count, tt))
+operation_row : (ax known : List Formula) (loci : List SoftType) (t : term.Term) (ps : List Literal) (c : Literal) → ((ts : List term.Term) → list_all closed ts ≡ true → length ts ≡ length loci → Derives ax (premises_at known ts (loci_guards 0 loci ++ ps)) (substitute_formula 0 (value_at ts) (literal_formula c))) → AllFollow ax known (map clause_formula (groups_clauses (operation_groups loci t ps c)))
+operation_row ax known loci t ps c each =
+    group_follows ax known (length loci) (Term t) (loci_guards 0 loci ++ ps) (c ∷ []) (λ ts h count. (each ts h count, tt))
 
 -- what a property says, and the guards, under the premises of a clause
-stated : (ax : List Formula) (ts : List term.Term) (loci : List SoftType) (ps : List Literal) (s : Statement) → list_all closed ts ≡ true → length ts ≡ length loci → Derives ax [] (erase (over loci s)) → Derives ax (formulas_at ts (loci_guards 0 loci ++ ps)) (substitute_formula 0 (value_at ts) (erase s))
-stated ax ts loci ps s h count d =
+stated : (ax known : List Formula) (ts : List term.Term) (loci : List SoftType) (ps : List Literal) (s : Statement) → list_all closed ts ≡ true → length ts ≡ length loci → Derives ax known (erase (over loci s)) → Derives ax (premises_at known ts (loci_guards 0 loci ++ ps)) (substitute_formula 0 (value_at ts) (erase s))
+stated ax known ts loci ps s h count d =
     let whole : length ts ≡ length loci + 0 = omega arith in
-    under_guards ax 0 ts loci ps s h whole d
+    under_guards ax known 0 ts loci ps s h whole d
 
-guards : (ax : List Formula) (ts : List term.Term) (loci : List SoftType) (ps : List Literal) → Along ax (formulas_at ts (loci_guards 0 loci ++ ps)) (formulas_at ts (loci_guards 0 loci))
-guards ax ts loci ps = along_first ax (formulas_at ts (loci_guards 0 loci ++ ps)) ts (loci_guards 0 loci) ps (premises ax ts (loci_guards 0 loci ++ ps))
+guards : (ax known : List Formula) (ts : List term.Term) (loci : List SoftType) (ps : List Literal) → Along ax (premises_at known ts (loci_guards 0 loci ++ ps)) (formulas_at ts (loci_guards 0 loci))
+guards ax known ts loci ps = along_first ax (premises_at known ts (loci_guards 0 loci ++ ps)) ts (loci_guards 0 loci) ps (premises ax known ts (loci_guards 0 loci ++ ps))
 
 -- the property at one value, and at two
-stated_once : (ax : List Formula) (ts : List term.Term) (loci : List SoftType) (ps : List Literal) (left : ℕ) (s : Statement) → list_all closed ts ≡ true → length ts ≡ length loci → left < length loci → Derives ax [] (erase (over loci (for_one loci left s))) → Derives ax (formulas_at ts (loci_guards 0 loci ++ ps)) (substitute_formula 0 (value_at (value_at ts left ∷ ts)) (erase s))
-stated_once ax ts loci ps left s h count lt d =
-    one_locus ax (formulas_at ts (loci_guards 0 loci ++ ps)) loci ts left s h count lt (guards ax ts loci ps) (stated ax ts loci ps (for_one loci left s) h count d)
+stated_once : (ax known : List Formula) (ts : List term.Term) (loci : List SoftType) (ps : List Literal) (left : ℕ) (s : Statement) → list_all closed ts ≡ true → length ts ≡ length loci → left < length loci → Derives ax known (erase (over loci (for_one loci left s))) → Derives ax (premises_at known ts (loci_guards 0 loci ++ ps)) (substitute_formula 0 (value_at (value_at ts left ∷ ts)) (erase s))
+stated_once ax known ts loci ps left s h count lt d =
+    one_locus ax (premises_at known ts (loci_guards 0 loci ++ ps)) loci ts left s h count lt (guards ax known ts loci ps) (stated ax known ts loci ps (for_one loci left s) h count d)
 
-stated_twice : (ax : List Formula) (ts : List term.Term) (loci : List SoftType) (ps : List Literal) (left right p q : ℕ) (s : Statement) → list_all closed ts ≡ true → length ts ≡ length loci → p < length loci → q < length loci → locus_type loci left ≡ locus_type loci p → locus_type loci right ≡ locus_type loci q → Derives ax [] (erase (over loci (for_both loci left right s))) → Derives ax (formulas_at ts (loci_guards 0 loci ++ ps)) (substitute_formula 0 (value_at (value_at ts q ∷ value_at ts p ∷ ts)) (erase s))
-stated_twice ax ts loci ps left right p q s h count ltp ltq ep eq d =
-    two_loci ax (formulas_at ts (loci_guards 0 loci ++ ps)) loci ts left right p q s h count ltp ltq ep eq (guards ax ts loci ps) (stated ax ts loci ps (for_both loci left right s) h count d)
+stated_twice : (ax known : List Formula) (ts : List term.Term) (loci : List SoftType) (ps : List Literal) (left right p q : ℕ) (s : Statement) → list_all closed ts ≡ true → length ts ≡ length loci → p < length loci → q < length loci → locus_type loci left ≡ locus_type loci p → locus_type loci right ≡ locus_type loci q → Derives ax known (erase (over loci (for_both loci left right s))) → Derives ax (premises_at known ts (loci_guards 0 loci ++ ps)) (substitute_formula 0 (value_at (value_at ts q ∷ value_at ts p ∷ ts)) (erase s))
+stated_twice ax known ts loci ps left right p q s h count ltp ltq ep eq d =
+    two_loci ax (premises_at known ts (loci_guards 0 loci ++ ps)) loci ts left right p q s h count ltp ltq ep eq (guards ax known ts loci ps) (stated ax known ts loci ps (for_both loci left right s) h count d)
 
 -- the values of the innermost variables
 at_first : (w : term.Term) (us : List term.Term) → substitute 0 (value_at (w ∷ us)) (Bound 0) ≡ w
@@ -190,10 +191,10 @@ tollens ax g f k d e =
     negated_in ax g f (not_in ax g f (not_out ax (f ∷ g) k falsity d (negated_out ax (f ∷ g) k (under ax g f (negated k) e))))
 
 reflexivity_law : (loci : List SoftType) (r : Relation) → IsRelation (length loci) r → Follow (reflexivity_groups loci r) loci (reflexivity loci r)
-reflexivity_law loci r has ax d =
-    relation_row ax loci r (literal.Eq true (Bound r.left) (Bound r.right) ∷ []) r.literal
+reflexivity_law loci r has ax known d =
+    relation_row ax known loci r (literal.Eq true (Bound r.left) (Bound r.right) ∷ []) r.literal
     (λ ts h count.
-    let g : List Formula = formulas_at ts (loci_guards 0 loci ++ literal.Eq true (Bound r.left) (Bound r.right) ∷ []) in
+    let g : List Formula = premises_at known ts (loci_guards 0 loci ++ literal.Eq true (Bound r.left) (Bound r.right) ∷ []) in
     let wl : term.Term = value_at ts r.left in
     let wr : term.Term = value_at ts r.right in
     let ltl : r.left < length ts = omega (arith, has.left) in
@@ -201,16 +202,16 @@ reflexivity_law loci r has ax d =
     let cl : closed (value_at ts r.left) ≡ true = value_closed ts r.left h ltl in
     let cr : closed (value_at ts r.right) ≡ true = value_closed ts r.right h ltr in
     let one : Derives ax g (relation_of ts r (value_at ts r.left) (value_at ts r.left)) =
-    subst (Derives ax g) (related_once ts loci r (value_at ts r.left) has) (stated_once ax ts loci (literal.Eq true (Bound r.left) (Bound r.right) ∷ []) r.left (related (length loci) 1 r (Bound 0) (Bound 0)) h count has.left d) in
-    let same : Derives ax g (formula.Eq (value_at ts r.left) (value_at ts r.right)) = equal_values ax g ts r.left r.right (further ax ts (loci_guards 0 loci) (literal.Eq true (Bound r.left) (Bound r.right) ∷ [])).0 in
+    subst (Derives ax g) (related_once ts loci r (value_at ts r.left) has) (stated_once ax known ts loci (literal.Eq true (Bound r.left) (Bound r.right) ∷ []) r.left (related (length loci) 1 r (Bound 0) (Bound 0)) h count has.left d) in
+    let same : Derives ax g (formula.Eq (value_at ts r.left) (value_at ts r.right)) = equal_values ax g ts r.left r.right (further ax known ts (loci_guards 0 loci) (literal.Eq true (Bound r.left) (Bound r.right) ∷ [])).0 in
     subst (Derives ax g) (sym (itself_at ts r))
     (equal_second ax g (length loci) ts r (value_at ts r.left) (value_at ts r.left) (value_at ts r.right) has.literal count h cl cl cr same one))
 
 irreflexivity_law : (loci : List SoftType) (r : Relation) → IsRelation (length loci) r → Follow (irreflexivity_groups loci r) loci (irreflexivity loci r)
-irreflexivity_law loci r has ax d =
-    relation_row ax loci r (literal.Eq true (Bound r.left) (Bound r.right) ∷ []) (complement r.literal)
+irreflexivity_law loci r has ax known d =
+    relation_row ax known loci r (literal.Eq true (Bound r.left) (Bound r.right) ∷ []) (complement r.literal)
     (λ ts h count.
-    let g : List Formula = formulas_at ts (loci_guards 0 loci ++ literal.Eq true (Bound r.left) (Bound r.right) ∷ []) in
+    let g : List Formula = premises_at known ts (loci_guards 0 loci ++ literal.Eq true (Bound r.left) (Bound r.right) ∷ []) in
     let ltl : r.left < length ts = omega (arith, has.left) in
     let ltr : r.right < length ts = omega (arith, has.right) in
     let cl : closed (value_at ts r.left) ≡ true = value_closed ts r.left h ltl in
@@ -218,76 +219,76 @@ irreflexivity_law loci r has ax d =
     let f : Formula = relation_of ts r (value_at ts r.left) (value_at ts r.right) in
     let one : Derives ax g (negated (relation_of ts r (value_at ts r.left) (value_at ts r.left))) =
     subst (Derives ax g) (opposite_at (value_at (value_at ts r.left ∷ ts)) (related (length loci) 1 r (Bound 0) (Bound 0)) ∙ ap negated (related_once ts loci r (value_at ts r.left) has))
-    (stated_once ax ts loci (literal.Eq true (Bound r.left) (Bound r.right) ∷ []) r.left (opposite (related (length loci) 1 r (Bound 0) (Bound 0))) h count has.left d) in
-    let same : Derives ax g (formula.Eq (value_at ts r.left) (value_at ts r.right)) = equal_values ax g ts r.left r.right (further ax ts (loci_guards 0 loci) (literal.Eq true (Bound r.left) (Bound r.right) ∷ [])).0 in
+    (stated_once ax known ts loci (literal.Eq true (Bound r.left) (Bound r.right) ∷ []) r.left (opposite (related (length loci) 1 r (Bound 0) (Bound 0))) h count has.left d) in
+    let same : Derives ax g (formula.Eq (value_at ts r.left) (value_at ts r.right)) = equal_values ax g ts r.left r.right (further ax known ts (loci_guards 0 loci) (literal.Eq true (Bound r.left) (Bound r.right) ∷ [])).0 in
     let back : Derives ax (f ∷ g) (formula.Eq (value_at ts r.right) (value_at ts r.left)) = swapped ax (f ∷ g) (value_at ts r.left) (value_at ts r.right) cl cr (under ax g f (formula.Eq (value_at ts r.left) (value_at ts r.right)) same) in
     let led : Derives ax (f ∷ g) (relation_of ts r (value_at ts r.left) (value_at ts r.left)) = equal_second ax (f ∷ g) (length loci) ts r (value_at ts r.left) (value_at ts r.right) (value_at ts r.left) has.literal count h cl cr cl back (first ax g f) in
     subst (Derives ax g) (sym (complement_at (value_at ts) r.literal ∙ ap negated (itself_at ts r)))
     (tollens ax g f (relation_of ts r (value_at ts r.left) (value_at ts r.left)) led one))
 
 -- the premise R(x,y), and its negation
-related_premise : (ax : List Formula) (ts : List term.Term) (loci : List SoftType) (r : Relation) → Derives ax (formulas_at ts (loci_guards 0 loci ++ r.literal ∷ [])) (relation_of ts r (value_at ts r.left) (value_at ts r.right))
-related_premise ax ts loci r = subst (Derives ax (formulas_at ts (loci_guards 0 loci ++ r.literal ∷ []))) (itself_at ts r) (further ax ts (loci_guards 0 loci) (r.literal ∷ [])).0
+related_premise : (ax known : List Formula) (ts : List term.Term) (loci : List SoftType) (r : Relation) → Derives ax (premises_at known ts (loci_guards 0 loci ++ r.literal ∷ [])) (relation_of ts r (value_at ts r.left) (value_at ts r.right))
+related_premise ax known ts loci r = subst (Derives ax (premises_at known ts (loci_guards 0 loci ++ r.literal ∷ []))) (itself_at ts r) (further ax known ts (loci_guards 0 loci) (r.literal ∷ [])).0
 
-negated_premise : (ax : List Formula) (ts : List term.Term) (loci : List SoftType) (r : Relation) → Derives ax (formulas_at ts (loci_guards 0 loci ++ complement r.literal ∷ [])) (negated (relation_of ts r (value_at ts r.left) (value_at ts r.right)))
-negated_premise ax ts loci r =
-    subst (Derives ax (formulas_at ts (loci_guards 0 loci ++ complement r.literal ∷ []))) (complement_at (value_at ts) r.literal ∙ ap negated (itself_at ts r)) (further ax ts (loci_guards 0 loci) (complement r.literal ∷ [])).0
+negated_premise : (ax known : List Formula) (ts : List term.Term) (loci : List SoftType) (r : Relation) → Derives ax (premises_at known ts (loci_guards 0 loci ++ complement r.literal ∷ [])) (negated (relation_of ts r (value_at ts r.left) (value_at ts r.right)))
+negated_premise ax known ts loci r =
+    subst (Derives ax (premises_at known ts (loci_guards 0 loci ++ complement r.literal ∷ []))) (complement_at (value_at ts) r.literal ∙ ap negated (itself_at ts r)) (further ax known ts (loci_guards 0 loci) (complement r.literal ∷ [])).0
 
 symmetry_law : (loci : List SoftType) (r : Relation) → IsRelation (length loci) r → Follow (symmetry_of_relation loci r) loci (symmetry loci r)
-symmetry_law loci r has ax d =
-    relation_row ax loci r (r.literal ∷ []) (exchanged_relation loci r)
+symmetry_law loci r has ax known d =
+    relation_row ax known loci r (r.literal ∷ []) (exchanged_relation loci r)
     (λ ts h count.
-    let g : List Formula = formulas_at ts (loci_guards 0 loci ++ r.literal ∷ []) in
+    let g : List Formula = premises_at known ts (loci_guards 0 loci ++ r.literal ∷ []) in
     let us : List term.Term = value_at ts r.right ∷ value_at ts r.left ∷ ts in
     let forth : Statement = related (length loci) 2 r (Bound 1) (Bound 0) in
     let back : Statement = related (length loci) 2 r (Bound 0) (Bound 1) in
-    let both : Derives ax g (substitute_formula 0 (value_at us) (erase (implication forth back))) = stated_twice ax ts loci (r.literal ∷ []) r.left r.right r.left r.right (implication forth back) h count has.left has.right refl refl d in
-    let holds : Derives ax g (substitute_formula 0 (value_at us) (erase forth)) = subst (Derives ax g) (sym (related_forth ts loci r (value_at ts r.right) (value_at ts r.left) has)) (related_premise ax ts loci r) in
+    let both : Derives ax g (substitute_formula 0 (value_at us) (erase (implication forth back))) = stated_twice ax known ts loci (r.literal ∷ []) r.left r.right r.left r.right (implication forth back) h count has.left has.right refl refl d in
+    let holds : Derives ax g (substitute_formula 0 (value_at us) (erase forth)) = subst (Derives ax g) (sym (related_forth ts loci r (value_at ts r.right) (value_at ts r.left) has)) (related_premise ax known ts loci r) in
     subst (Derives ax g) (related_back ts loci r (value_at ts r.right) (value_at ts r.left) has ∙ sym (exchanged_at loci ts r has.literal))
     (implication_out ax g (value_at us) forth back holds both))
 
 symmetry_of_negation_law : (loci : List SoftType) (r : Relation) → IsRelation (length loci) r → locus_type loci r.left ≡ locus_type loci r.right → Follow (symmetry_of_negation loci r) loci (symmetry loci r)
-symmetry_of_negation_law loci r has one_type ax d =
-    relation_row ax loci r (complement r.literal ∷ []) (complement (exchanged_relation loci r))
+symmetry_of_negation_law loci r has one_type ax known d =
+    relation_row ax known loci r (complement r.literal ∷ []) (complement (exchanged_relation loci r))
     (λ ts h count.
-    let g : List Formula = formulas_at ts (loci_guards 0 loci ++ complement r.literal ∷ []) in
+    let g : List Formula = premises_at known ts (loci_guards 0 loci ++ complement r.literal ∷ []) in
     let us : List term.Term = value_at ts r.left ∷ value_at ts r.right ∷ ts in
     let forth : Statement = related (length loci) 2 r (Bound 1) (Bound 0) in
     let back : Statement = related (length loci) 2 r (Bound 0) (Bound 1) in
     let f : Formula = substitute_formula 0 (value_at us) (erase forth) in
     let k : Formula = substitute_formula 0 (value_at us) (erase back) in
-    let both : Derives ax g (substitute_formula 0 (value_at us) (erase (implication forth back))) = stated_twice ax ts loci (complement r.literal ∷ []) r.left r.right r.right r.left (implication forth back) h count has.right has.left one_type (sym one_type) d in
+    let both : Derives ax g (substitute_formula 0 (value_at us) (erase (implication forth back))) = stated_twice ax known ts loci (complement r.literal ∷ []) r.left r.right r.right r.left (implication forth back) h count has.right has.left one_type (sym one_type) d in
     let led : Derives ax (f ∷ g) k = implication_out ax (f ∷ g) (value_at us) forth back (first ax g f) (under ax g f (substitute_formula 0 (value_at us) (erase (implication forth back))) both) in
-    let fails : Derives ax g (negated k) = subst (λ z. Derives ax g (negated z)) (sym (related_back ts loci r (value_at ts r.left) (value_at ts r.right) has)) (negated_premise ax ts loci r) in
+    let fails : Derives ax g (negated k) = subst (λ z. Derives ax g (negated z)) (sym (related_back ts loci r (value_at ts r.left) (value_at ts r.right) has)) (negated_premise ax known ts loci r) in
     subst (Derives ax g) (ap negated (related_forth ts loci r (value_at ts r.left) (value_at ts r.right) has ∙ sym (exchanged_at loci ts r has.literal)) ∙ sym (complement_at (value_at ts) (exchanged_relation loci r)))
     (tollens ax g f k led fails))
 
 asymmetry_law : (loci : List SoftType) (r : Relation) → IsRelation (length loci) r → Follow (asymmetry_groups loci r) loci (asymmetry loci r)
-asymmetry_law loci r has ax d =
-    relation_row ax loci r (r.literal ∷ []) (complement (exchanged_relation loci r))
+asymmetry_law loci r has ax known d =
+    relation_row ax known loci r (r.literal ∷ []) (complement (exchanged_relation loci r))
     (λ ts h count.
-    let g : List Formula = formulas_at ts (loci_guards 0 loci ++ r.literal ∷ []) in
+    let g : List Formula = premises_at known ts (loci_guards 0 loci ++ r.literal ∷ []) in
     let us : List term.Term = value_at ts r.right ∷ value_at ts r.left ∷ ts in
     let forth : Statement = related (length loci) 2 r (Bound 1) (Bound 0) in
     let back : Statement = related (length loci) 2 r (Bound 0) (Bound 1) in
-    let both : Derives ax g (substitute_formula 0 (value_at us) (erase (implication forth (opposite back)))) = stated_twice ax ts loci (r.literal ∷ []) r.left r.right r.left r.right (implication forth (opposite back)) h count has.left has.right refl refl d in
-    let holds : Derives ax g (substitute_formula 0 (value_at us) (erase forth)) = subst (Derives ax g) (sym (related_forth ts loci r (value_at ts r.right) (value_at ts r.left) has)) (related_premise ax ts loci r) in
+    let both : Derives ax g (substitute_formula 0 (value_at us) (erase (implication forth (opposite back)))) = stated_twice ax known ts loci (r.literal ∷ []) r.left r.right r.left r.right (implication forth (opposite back)) h count has.left has.right refl refl d in
+    let holds : Derives ax g (substitute_formula 0 (value_at us) (erase forth)) = subst (Derives ax g) (sym (related_forth ts loci r (value_at ts r.right) (value_at ts r.left) has)) (related_premise ax known ts loci r) in
     subst (Derives ax g) (opposite_at (value_at us) back ∙ (ap negated (related_back ts loci r (value_at ts r.right) (value_at ts r.left) has ∙ sym (exchanged_at loci ts r has.literal)) ∙ sym (complement_at (value_at ts) (exchanged_relation loci r))))
     (implication_out ax g (value_at us) forth (opposite back) holds both))
 
 connectedness_law : (loci : List SoftType) (r : Relation) → IsRelation (length loci) r → Follow (connectedness_groups loci r) loci (connectedness loci r)
-connectedness_law loci r has ax d =
-    relation_row ax loci r (complement r.literal ∷ []) (exchanged_relation loci r)
+connectedness_law loci r has ax known d =
+    relation_row ax known loci r (complement r.literal ∷ []) (exchanged_relation loci r)
     (λ ts h count.
-    let g : List Formula = formulas_at ts (loci_guards 0 loci ++ complement r.literal ∷ []) in
+    let g : List Formula = premises_at known ts (loci_guards 0 loci ++ complement r.literal ∷ []) in
     let us : List term.Term = value_at ts r.right ∷ value_at ts r.left ∷ ts in
     let forth : Statement = related (length loci) 2 r (Bound 1) (Bound 0) in
     let back : Statement = related (length loci) 2 r (Bound 0) (Bound 1) in
     let a : Formula = substitute_formula 0 (value_at us) (erase (opposite forth)) in
     let b : Formula = substitute_formula 0 (value_at us) (erase (opposite back)) in
     let k : Formula = substitute_formula 0 (value_at us) (erase back) in
-    let some : Derives ax g (Not (And a b)) = stated_twice ax ts loci (complement r.literal ∷ []) r.left r.right r.left r.right (disjunction forth back) h count has.left has.right refl refl d in
-    let fails : Derives ax g a = subst (Derives ax g) (ap negated (sym (related_forth ts loci r (value_at ts r.right) (value_at ts r.left) has)) ∙ sym (opposite_at (value_at us) forth)) (negated_premise ax ts loci r) in
+    let some : Derives ax g (Not (And a b)) = stated_twice ax known ts loci (complement r.literal ∷ []) r.left r.right r.left r.right (disjunction forth back) h count has.left has.right refl refl d in
+    let fails : Derives ax g a = subst (Derives ax g) (ap negated (sym (related_forth ts loci r (value_at ts r.right) (value_at ts r.left) has)) ∙ sym (opposite_at (value_at us) forth)) (negated_premise ax known ts loci r) in
     let against : List Formula = Not k ∷ g in
     let other : Derives ax (Not k ∷ g) b = subst (Derives ax (Not k ∷ g)) (sym (opposite_at (value_at us) back)) (negated_in ax (Not k ∷ g) k (first ax g (Not k))) in
     let holds : Derives ax g k = classical ax g k (not_out ax (Not k ∷ g) (And a b) falsity (and_in ax (Not k ∷ g) a b (under ax g (Not k) a fails) other) (under ax g (Not k) (Not (And a b)) some)) in
@@ -317,10 +318,10 @@ operation_exchanged loci ts o has =
     term_at_loci 0 o.left o.right (length loci) ts ts (Bound o.right) (Bound o.left) (value_at ts o.right) (value_at ts o.left) o.term (term_within (length loci) o.term has.term) none refl (substitute-value_at ts o.right) (substitute-value_at ts o.left)
 
 commutativity_law : (loci : List SoftType) (o : Operation) → IsOperation (length loci) o → Follow (commutativity_groups loci o) loci (commutativity loci o)
-commutativity_law loci o has ax d =
-    operation_row ax loci o.term [] (literal.Eq true o.term (exchanged_operation loci o))
+commutativity_law loci o has ax known d =
+    operation_row ax known loci o.term [] (literal.Eq true o.term (exchanged_operation loci o))
     (λ ts h count.
-    let g : List Formula = formulas_at ts (loci_guards 0 loci ++ []) in
+    let g : List Formula = premises_at known ts (loci_guards 0 loci ++ []) in
     let wl : term.Term = value_at ts o.left in
     let wr : term.Term = value_at ts o.right in
     let us : List term.Term = wr ∷ wl ∷ ts in
@@ -328,7 +329,7 @@ commutativity_law loci o has ax d =
     let some : 2 ≤ length us = omega arith in
     let forth : term.Term = applied (length loci) 2 o (Bound 1) (Bound 0) in
     let back : term.Term = applied (length loci) 2 o (Bound 0) (Bound 1) in
-    let both : Derives ax g (formula.Eq (substitute 0 (value_at us) forth) (substitute 0 (value_at us) back)) = stated_twice ax ts loci [] o.left o.right o.left o.right (Eq forth back) h count has.left has.right refl refl d in
+    let both : Derives ax g (formula.Eq (substitute 0 (value_at us) forth) (substitute 0 (value_at us) back)) = stated_twice ax known ts loci [] o.left o.right o.left o.right (Eq forth back) h count has.left has.right refl refl d in
     let first_is : substitute 0 (value_at us) forth ≡ operation_of ts o wl wr = term_at_loci 2 o.left o.right (length loci) us ts (Bound 1) (Bound 0) wl wr o.term (term_within (length loci) o.term has.term) some refl (at_second wr wl ts) (at_first wr (wl ∷ ts)) in
     let second_is : substitute 0 (value_at us) back ≡ operation_of ts o wr wl = term_at_loci 2 o.left o.right (length loci) us ts (Bound 0) (Bound 1) wr wl o.term (term_within (length loci) o.term has.term) some refl (at_first wr (wl ∷ ts)) (at_second wr wl ts) in
     subst (Derives ax g) (λ i. formula.Eq ((first_is ∙ sym (operation_itself ts o)) i) ((second_is ∙ sym (operation_exchanged loci ts o has)) i)) both)
@@ -340,10 +341,10 @@ operation_open n ts o a w h count all ca =
     (λ k lt. choose-last ts o.left o.right a w k all ca (omega arith)) (term_within n o.term h)
 
 idempotence_law : (loci : List SoftType) (o : Operation) → IsOperation (length loci) o → Follow (idempotence_groups loci o) loci (idempotence loci o)
-idempotence_law loci o has ax d =
-    operation_row ax loci o.term (literal.Eq true (Bound o.left) (Bound o.right) ∷ []) (literal.Eq true o.term (Bound o.left))
+idempotence_law loci o has ax known d =
+    operation_row ax known loci o.term (literal.Eq true (Bound o.left) (Bound o.right) ∷ []) (literal.Eq true o.term (Bound o.left))
     (λ ts h count.
-    let g : List Formula = formulas_at ts (loci_guards 0 loci ++ literal.Eq true (Bound o.left) (Bound o.right) ∷ []) in
+    let g : List Formula = premises_at known ts (loci_guards 0 loci ++ literal.Eq true (Bound o.left) (Bound o.right) ∷ []) in
     let wl : term.Term = value_at ts o.left in
     let wr : term.Term = value_at ts o.right in
     let ltl : o.left < length ts = omega (arith, has.left) in
@@ -352,11 +353,11 @@ idempotence_law loci o has ax d =
     let cr : closed wr ≡ true = value_closed ts o.right h ltr in
     let some : 1 ≤ length (wl ∷ ts) = omega arith in
     let once : term.Term = applied (length loci) 1 o (Bound 0) (Bound 0) in
-    let stands : Derives ax g (formula.Eq (substitute 0 (value_at (wl ∷ ts)) once) (substitute 0 (value_at (wl ∷ ts)) (Bound 0))) = stated_once ax ts loci (literal.Eq true (Bound o.left) (Bound o.right) ∷ []) o.left (Eq once (Bound 0)) h count has.left d in
+    let stands : Derives ax g (formula.Eq (substitute 0 (value_at (wl ∷ ts)) once) (substitute 0 (value_at (wl ∷ ts)) (Bound 0))) = stated_once ax known ts loci (literal.Eq true (Bound o.left) (Bound o.right) ∷ []) o.left (Eq once (Bound 0)) h count has.left d in
     let once_is : substitute 0 (value_at (wl ∷ ts)) once ≡ operation_of ts o wl wl = term_at_loci 1 o.left o.right (length loci) (wl ∷ ts) ts (Bound 0) (Bound 0) wl wl o.term (term_within (length loci) o.term has.term) some refl (at_first wl ts) (at_first wl ts) in
     let body : Formula = formula.Eq (operation_of ts o wl (Bound 0)) wl in
     let body_is : (w : term.Term) → body_at body w ≡ formula.Eq (operation_of ts o wl w) wl = λ w i. formula.Eq (operation_open (length loci) ts o wl w has.term count h cl i) (substitute-closed 0 (value_at (w ∷ [])) wl cl i) in
-    let same : Derives ax g (formula.Eq wl wr) = equal_values ax g ts o.left o.right (further ax ts (loci_guards 0 loci) (literal.Eq true (Bound o.left) (Bound o.right) ∷ [])).0 in
+    let same : Derives ax g (formula.Eq wl wr) = equal_values ax g ts o.left o.right (further ax known ts (loci_guards 0 loci) (literal.Eq true (Bound o.left) (Bound o.right) ∷ [])).0 in
     let start : Derives ax g (body_at body wl) = subst (Derives ax g) ((λ i. formula.Eq (once_is i) (at_first wl ts i)) ∙ sym (body_is wl)) stands in
     subst (Derives ax g) (body_is wr ∙ sym (λ i. formula.Eq (operation_itself ts o i) (substitute-value_at ts o.left i))) (formula_congruence ax g wl wr body cl cr same start))
 
@@ -394,10 +395,10 @@ inner_guards loci ts w ty t u e =
     ((λ i. guard (sym (type_past w ts ty) i) (sym e i)) ∙ sym (guard_of_substitution 0 (value_at (w ∷ ts)) (shift_type 0 1 ty) t))
 
 iterated_law : (loci : List SoftType) (o : UnaryOperation) (last outer : term.Term) → IsUnary (length loci) o → ((ts : List term.Term) → list_all closed ts ≡ true → length ts ≡ length loci → substitute 0 (value_at (value_at ts o.place ∷ ts)) last ≡ substitute 0 (value_at ts) outer) → Follow (iterated_groups loci o outer) loci (for_one loci o.place (where_all (inner_guard loci o) (Eq (applied_to (length loci) o (applied_to (length loci) o (Bound 0))) last)))
-iterated_law loci o last outer has ends ax d =
-    operation_row ax loci o.term (guard_literals (locus_type loci o.place) o.term) (literal.Eq true (operation_at loci o o.term) outer)
+iterated_law loci o last outer has ends ax known d =
+    operation_row ax known loci o.term (guard_literals (locus_type loci o.place) o.term) (literal.Eq true (operation_at loci o o.term) outer)
     (λ ts h count.
-    let g : List Formula = formulas_at ts (loci_guards 0 loci ++ guard_literals (locus_type loci o.place) o.term) in
+    let g : List Formula = premises_at known ts (loci_guards 0 loci ++ guard_literals (locus_type loci o.place) o.term) in
     let w : term.Term = value_at ts o.place in
     let us : List term.Term = w ∷ ts in
     let inner : term.Term = applied_to (length loci) o (Bound 0) in
@@ -406,8 +407,8 @@ iterated_law loci o last outer has ends ax d =
     let inner_is : substitute 0 (value_at us) inner ≡ substitute 0 (value_at ts) o.term = unary_at loci ts w o (Bound 0) w has (at_first w ts) ∙ sym (unary_itself ts o) in
     let twice_is : substitute 0 (value_at us) twice ≡ substitute 0 (value_at ts) (operation_at loci o o.term) =
     unary_at loci ts w o inner (substitute 0 (value_at ts) o.term) has inner_is ∙ sym (unary_here loci ts o o.term (substitute 0 (value_at ts) o.term) has refl) in
-    let given : Along ax g (formulas_at us ls) = subst (Along ax g) (inner_guards loci ts w (locus_type loci o.place) inner o.term inner_is) (further ax ts (loci_guards 0 loci) (guard_literals (locus_type loci o.place) o.term)) in
-    let whole : Derives ax g (substitute_formula 0 (value_at us) (erase (where_all (map literal_statement ls) (Eq twice last)))) = stated_once ax ts loci (guard_literals (locus_type loci o.place) o.term) o.place (where_all (inner_guard loci o) (Eq twice last)) h count has.place d in
+    let given : Along ax g (formulas_at us ls) = subst (Along ax g) (inner_guards loci ts w (locus_type loci o.place) inner o.term inner_is) (further ax known ts (loci_guards 0 loci) (guard_literals (locus_type loci o.place) o.term)) in
+    let whole : Derives ax g (substitute_formula 0 (value_at us) (erase (where_all (map literal_statement ls) (Eq twice last)))) = stated_once ax known ts loci (guard_literals (locus_type loci o.place) o.term) o.place (where_all (inner_guard loci o) (Eq twice last)) h count has.place d in
     let equal : Derives ax g (formula.Eq (substitute 0 (value_at us) twice) (substitute 0 (value_at us) last)) = where_literals_out ax g us ls (Eq twice last) given whole in
     subst (Derives ax g) (λ i. formula.Eq (twice_is i) (ends ts h count i)) equal)
 
@@ -421,19 +422,19 @@ projectivity_law loci o has =
     (λ ts h count. unary_at loci ts (value_at ts o.place) o (Bound 0) (value_at ts o.place) has (at_first (value_at ts o.place) ts) ∙ sym (unary_itself ts o))
 
 -- both clauses of a symmetric predicate
-pub groups_follow_both : (ax : List Formula) (these others : List ClauseGroup) → AllFollow ax (map clause_formula (groups_clauses these)) → AllFollow ax (map clause_formula (groups_clauses others)) → AllFollow ax (map clause_formula (groups_clauses (these ++ others)))
-groups_follow_both ax these others p q =
-    subst (λ ks. AllFollow ax (map clause_formula ks)) (sym (flat_map-append group_clauses these others))
-    (subst (AllFollow ax) (sym (map-append clause_formula (groups_clauses these) (groups_clauses others))) (follow_append ax (map clause_formula (groups_clauses these)) (map clause_formula (groups_clauses others)) p q))
+pub groups_follow_both : (ax known : List Formula) (these others : List ClauseGroup) → AllFollow ax known (map clause_formula (groups_clauses these)) → AllFollow ax known (map clause_formula (groups_clauses others)) → AllFollow ax known (map clause_formula (groups_clauses (these ++ others)))
+groups_follow_both ax known these others p q =
+    subst (λ ks. AllFollow ax known (map clause_formula ks)) (sym (flat_map-append group_clauses these others))
+    (subst (AllFollow ax known) (sym (map-append clause_formula (groups_clauses these) (groups_clauses others))) (follow_append ax known (map clause_formula (groups_clauses these)) (map clause_formula (groups_clauses others)) p q))
 
-negation_where : (loci : List SoftType) (r : Relation) (b : Bool) → same_type (locus_type loci r.left) (locus_type loci r.right) ≡ b → IsRelation (length loci) r → (ax : List Formula) → Derives ax [] (erase (over loci (symmetry loci r))) → AllFollow ax (map clause_formula (groups_clauses (if_same b (symmetry_of_negation loci r))))
-negation_where loci r true e has ax d = symmetry_of_negation_law loci r has (same_type-true (locus_type loci r.left) (locus_type loci r.right) e) ax d
-negation_where loci r false e has ax d = tt
+negation_where : (loci : List SoftType) (r : Relation) (b : Bool) → same_type (locus_type loci r.left) (locus_type loci r.right) ≡ b → IsRelation (length loci) r → (ax known : List Formula) → Derives ax known (erase (over loci (symmetry loci r))) → AllFollow ax known (map clause_formula (groups_clauses (if_same b (symmetry_of_negation loci r))))
+negation_where loci r true e has ax known d = symmetry_of_negation_law loci r has (same_type-true (locus_type loci r.left) (locus_type loci r.right) e) ax known d
+negation_where loci r false e has ax known d = tt
 
 both_symmetry_law : (loci : List SoftType) (r : Relation) → IsRelation (length loci) r → Follow (symmetry_groups loci r) loci (symmetry loci r)
-both_symmetry_law loci r has ax d =
-    groups_follow_both ax (symmetry_of_relation loci r) (if_same (same_type (locus_type loci r.left) (locus_type loci r.right)) (symmetry_of_negation loci r)) (symmetry_law loci r has ax d)
-    (negation_where loci r (same_type (locus_type loci r.left) (locus_type loci r.right)) refl has ax d)
+both_symmetry_law loci r has ax known d =
+    groups_follow_both ax known (symmetry_of_relation loci r) (if_same (same_type (locus_type loci r.left) (locus_type loci r.right)) (symmetry_of_negation loci r)) (symmetry_law loci r has ax known d)
+    (negation_where loci r (same_type (locus_type loci r.left) (locus_type loci r.right)) refl has ax known d)
 
 pub property_law : PropertyLaw
 property_law loci (form.Reflexivity r) h = reflexivity_law loci r (relation_has (length loci) r h)
@@ -445,4 +446,4 @@ property_law loci (form.Commutativity o) h = commutativity_law loci o (operation
 property_law loci (form.Idempotence o) h = idempotence_law loci o (operation_has (length loci) o h)
 property_law loci (form.Involutiveness o) h = involutiveness_law loci o (unary_has (length loci) o h)
 property_law loci (form.Projectivity o) h = projectivity_law loci o (unary_has (length loci) o h)
-property_law loci (form.Sethood s) h = λ ax d. tt
+property_law loci (form.Sethood s) h = λ ax known d. tt

@@ -21,14 +21,15 @@ use Rattle.mz_clauses.specs.DefinitionClauses.{functor_type_groups, mode_parent_
 use Rattle.mz_clauses.specs.StructureClauses.{part_groups, aggregate_groups, strict_groups}
 use Rattle.mz_clauses.specs.RegistrationClauses.{functorial_groups, conditional_groups}
 
--- each formula of the list derives from the axioms
-abbrev pub AllFollow : List Formula → List Formula → Type 0
-AllFollow ax [] = Unit {0}
-AllFollow ax (f ∷ fs) = Derives ax [] f × AllFollow ax fs
+-- each formula of the list derives from the axioms and the premises
+abbrev pub AllFollow : List Formula → List Formula → List Formula → Type 0
+AllFollow ax g [] = Unit {0}
+AllFollow ax g (f ∷ fs) = Derives ax g f × AllFollow ax g fs
 
 -- the clauses of groups derive from what holds for all loci
 abbrev pub Follow : List ClauseGroup → List SoftType → Statement → Type 0
-Follow gs loci s = (ax : List Formula) → Derives ax [] (erase (over loci s)) → AllFollow ax (map clause_formula (groups_clauses gs))
+Follow gs loci s =
+    (ax g : List Formula) → Derives ax g (erase (over loci s)) → AllFollow ax g (map clause_formula (groups_clauses gs))
 
 -- T(F): the type of a functor's definition, and the coherence of a new type
 abbrev pub FunctorTypeLaw : Type 0
@@ -53,9 +54,9 @@ ConditionalLaw = (r : ConditionalRegistration) → Follow (conditional_groups r)
 -- a structure: its ancestors and its fields, (1) and (2)
 abbrev pub PartLaw : Type 0
 PartLaw =
-    (s : Structure) (ax : List Formula) →
-    Derives ax [] (erase (over s.loci (grant_of_ancestors s))) → Derives ax [] (erase (over s.loci (grant_of_fields s))) →
-    AllFollow ax (map clause_formula (groups_clauses (part_groups s)))
+    (s : Structure) (ax g : List Formula) →
+    Derives ax g (erase (over s.loci (grant_of_ancestors s))) → Derives ax g (erase (over s.loci (grant_of_fields s))) →
+    AllFollow ax g (map clause_formula (groups_clauses (part_groups s)))
 
 -- its aggregate, (3)
 abbrev pub AggregateLaw : Type 0

@@ -1,6 +1,6 @@
-//! A law for each row of the table of clauses. A proof of a crate above cites the lemma of
-//! `proofs/RowProofs.antt`.
-ghost use Rattle.mz_clause_laws.specs.ClausesLaw.{ClausesLaw};
+//! A law for each row of the table of clauses. A proof of a crate above cites the lemma of that name, in
+//! `proofs/RowProofs.antt`, `PropertyProofs.antt`, `StructureProofs.antt` or `ItemProofs.antt`.
+ghost use Rattle.mz_clause_laws.specs.ClausesLaw.{ItemLaw, LetterLaw, ClausesLaw};
 ghost use Rattle.mz_clause_laws.specs.PropertyLaws.{PropertyLaw};
 ghost use Rattle.mz_clause_laws.specs.RowLaws.{FunctorTypeLaw, ModeParentLaw, EquationLaw, FunctorialLaw, ConditionalLaw, PartLaw, AggregateLaw, StrictLaw};
 
@@ -47,6 +47,16 @@ pub fn strict_law()
 /// The properties.
 pub fn property_law()
     ensures { PropertyLaw }
+{}
+
+/// The clauses of an item.
+pub fn item_law()
+    ensures { ItemLaw }
+{}
+
+/// The clause of a scheme's functor letter.
+pub fn letter_law()
+    ensures { LetterLaw }
 {}
 
 /// Each clause of an export derives from what its items grant and owe.

@@ -1,9 +1,9 @@
 //! The groups of clauses that an item gives.
-ghost use Rattle.std.specs.Prelude.{◌≡◌, ◌++◌, [], IfOk};
+ghost use Rattle.std.specs.Prelude.{◌≡◌, ◌++◌, IfOk};
 ghost use Rattle.mz_items.specs.Loci.{term_on, mode_on};
 ghost use Rattle.mz_clauses.specs.DefinitionClauses.{functor_type_groups, mode_parent_groups, equality_groups};
-ghost use Rattle.mz_clauses.specs.StructureClauses.{part_groups, aggregate_groups, strict_groups};
-ghost use Rattle.mz_clauses.specs.Clauses.{item_groups, no_groups, typing_alone, further_alone, groups_of, letter_groups};
+ghost use Rattle.mz_clauses.specs.StructureClauses.{part_groups, aggregate_groups};
+ghost use Rattle.mz_clauses.specs.Clauses.{groups_of, letter_groups};
 
 use crate::clause_groups::ClauseGroups;
 use crate::definition_clauses::{
@@ -11,7 +11,6 @@ use crate::definition_clauses::{
     new_mode_parent_groups,
 };
 use crate::groups::push_groups;
-use crate::item_groups::ItemGroups;
 use crate::property_clauses::property_groups;
 use crate::registration_clauses::{
     conditional_groups, functorial_groups, registered_equation_groups,
@@ -26,36 +25,6 @@ use mz_core::structure::Structure;
 use mz_items::loci::{mode_on, term_on};
 use mz_logic::sym::Sym;
 use std::alloc::{AllocError, Global};
-
-fn no_groups(alloc: Global) -> ItemGroups
-    ensures { result ≡ no_groups }
-{
-    ItemGroups {
-        typing: ClauseGroups::new(alloc),
-        further: ClauseGroups::new(alloc),
-        equalities: ClauseGroups::new(alloc),
-    }
-}
-
-fn typing_alone(alloc: Global, gs: ClauseGroups) -> ItemGroups
-    ensures { result ≡ typing_alone gs }
-{
-    ItemGroups {
-        typing: gs,
-        further: ClauseGroups::new(alloc),
-        equalities: ClauseGroups::new(alloc),
-    }
-}
-
-fn further_alone(alloc: Global, gs: ClauseGroups) -> ItemGroups
-    ensures { result ≡ further_alone gs }
-{
-    ItemGroups {
-        typing: ClauseGroups::new(alloc),
-        further: gs,
-        equalities: ClauseGroups::new(alloc),
-    }
-}
 
 fn functor_groups(
     alloc: Global,
@@ -81,80 +50,61 @@ fn mode_groups(
     mode_parent_groups(alloc, loci, &mode, ty)
 }
 
-fn equals_groups(alloc: Global, d: &EqualsDefinition) -> Result<ItemGroups, AllocError>
-    ensures { IfOk result (λ gs. gs ≡ item_groups (functor_type_groups d.now.pattern.loci (term_on d.now.pattern.loci d.now.sym) d.now.ty) [] (equality_groups d.now.pattern.loci (term_on d.now.pattern.loci d.now.sym) d.now.definiens)) }
+fn structure_groups(alloc: Global, s: &Structure) -> Result<ClauseGroups, AllocError>
+    ensures { IfOk result (λ gs. gs ≡ part_groups s.now ++ aggregate_groups s.now) }
+{
+    let mut out = part_groups(alloc, s)?;
+    push_groups(&mut out, aggregate_groups(alloc, s)?)?;
+    Ok(out)
+}
+
+fn equals_groups(alloc: Global, d: &EqualsDefinition) -> Result<ClauseGroups, AllocError>
+    ensures { IfOk result (λ gs. gs ≡ equality_groups d.now.pattern.loci (term_on d.now.pattern.loci d.now.sym) d.now.definiens) }
 {
     let t = term_on(alloc, &d.pattern.loci, d.sym)?;
-    let typing = functor_type_groups(alloc, &d.pattern.loci, &t, &d.ty)?;
-    let equalities = equality_groups(alloc, &d.pattern.loci, &t, &d.definiens)?;
-    Ok(ItemGroups {
-        typing,
-        further: ClauseGroups::new(alloc),
-        equalities,
-    })
+    equality_groups(alloc, &d.pattern.loci, &t, &d.definiens)
 }
 
-fn structure_groups(alloc: Global, s: &Structure) -> Result<ItemGroups, AllocError>
-    ensures { IfOk result (λ gs. gs ≡ item_groups (part_groups s.now ++ aggregate_groups s.now) (strict_groups s.now) []) }
-{
-    let mut typing = part_groups(alloc, s)?;
-    push_groups(&mut typing, aggregate_groups(alloc, s)?)?;
-    let further = strict_groups(alloc, s)?;
-    Ok(ItemGroups {
-        typing,
-        further,
-        equalities: ClauseGroups::new(alloc),
-    })
-}
-
-/// The groups that an item gives, by the table in `docs/PROOFS.md`.
-pub fn groups_of(alloc: Global, item: &Item) -> Result<ItemGroups, AllocError>
-    ensures { IfOk result (λ gs. gs ≡ groups_of item.now) }
+/// The groups of an item's typing clauses.
+pub fn typing_groups(alloc: Global, item: &Item) -> Result<ClauseGroups, AllocError>
+    ensures { IfOk result (λ gs. gs ≡ (groups_of item.now).typing) }
 {
     match item {
-        Item::FunctorMeans(d) => {
-            let gs = functor_groups(alloc, &d.pattern.loci, d.sym, &d.ty)?;
-            Ok(typing_alone(alloc, gs))
-        }
-        Item::FunctorEquals(d) => equals_groups(alloc, d),
-        Item::ModeMeans(d) => {
-            let gs = mode_groups(alloc, &d.pattern.loci, d.sym, &d.ty)?;
-            Ok(typing_alone(alloc, gs))
-        }
+        Item::FunctorMeans(d) => functor_groups(alloc, &d.pattern.loci, d.sym, &d.ty),
+        Item::FunctorEquals(d) => functor_groups(alloc, &d.pattern.loci, d.sym, &d.ty),
+        Item::ModeMeans(d) => mode_groups(alloc, &d.pattern.loci, d.sym, &d.ty),
         Item::RedefinedFunctor(d) => {
-            let gs = new_functor_type_groups(alloc, &d.pattern.loci, &d.term, &d.ty)?;
-            Ok(typing_alone(alloc, gs))
+            new_functor_type_groups(alloc, &d.pattern.loci, &d.term, &d.ty)
         }
-        Item::RedefinedMode(d) => {
-            let gs = new_mode_parent_groups(alloc, &d.pattern.loci, &d.mode, &d.ty)?;
-            Ok(typing_alone(alloc, gs))
-        }
-        Item::Property(p) => {
-            let gs = property_groups(alloc, &p.loci, &p.form)?;
-            Ok(further_alone(alloc, gs))
-        }
-        Item::Conditional(r) => {
-            let gs = conditional_groups(alloc, r)?;
-            Ok(typing_alone(alloc, gs))
-        }
-        Item::Functorial(r) => {
-            let gs = functorial_groups(alloc, r)?;
-            Ok(typing_alone(alloc, gs))
-        }
-        Item::Reduction(r) => {
-            let gs = registered_equation_groups(alloc, r)?;
-            Ok(further_alone(alloc, gs))
-        }
-        Item::Identification(r) => {
-            let gs = registered_equation_groups(alloc, r)?;
-            Ok(further_alone(alloc, gs))
-        }
+        Item::RedefinedMode(d) => new_mode_parent_groups(alloc, &d.pattern.loci, &d.mode, &d.ty),
+        Item::Conditional(r) => conditional_groups(alloc, r),
+        Item::Functorial(r) => functorial_groups(alloc, r),
         Item::Structure(s) => structure_groups(alloc, s),
-        Item::Choice(c) => {
-            let gs = functor_groups(alloc, &c.loci, c.sym, &c.ty)?;
-            Ok(typing_alone(alloc, gs))
-        }
-        _ => Ok(no_groups(alloc)),
+        Item::Choice(c) => functor_groups(alloc, &c.loci, c.sym, &c.ty),
+        _ => Ok(ClauseGroups::new(alloc)),
+    }
+}
+
+/// The groups of an item's further clauses.
+pub fn further_groups(alloc: Global, item: &Item) -> Result<ClauseGroups, AllocError>
+    ensures { IfOk result (λ gs. gs ≡ (groups_of item.now).further) }
+{
+    match item {
+        Item::Property(p) => property_groups(alloc, &p.loci, &p.form),
+        Item::Reduction(r) => registered_equation_groups(alloc, r),
+        Item::Identification(r) => registered_equation_groups(alloc, r),
+        Item::Structure(s) => strict_groups(alloc, s),
+        _ => Ok(ClauseGroups::new(alloc)),
+    }
+}
+
+/// The groups of an item's equality clauses.
+pub fn item_equality_groups(alloc: Global, item: &Item) -> Result<ClauseGroups, AllocError>
+    ensures { IfOk result (λ gs. gs ≡ (groups_of item.now).equalities) }
+{
+    match item {
+        Item::FunctorEquals(d) => equals_groups(alloc, d),
+        _ => Ok(ClauseGroups::new(alloc)),
     }
 }
 

@@ -1,2 +1,4 @@
 pub mod Rows
 pub mod Unfoldings
+pub mod Cited
+pub mod Environment

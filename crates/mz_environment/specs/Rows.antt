@@ -8,6 +8,8 @@ use Rattle.mz_logic.specs.Term.{Bound, Const, App, list_of}
 use Rattle.mz_core.specs.Hidden.{is_of_any_object, set_type}
 use Rattle.mz_core.specs.declared.adjective.Adjective.{Adjective}
 use Rattle.mz_core.specs.declared.soft_type.SoftType.{SoftType}
+use Rattle.mz_core.specs.declared.scheme_letter.SchemeLetter.{SchemeLetter}
+use Rattle.mz_core.specs.declared.scheme_letter.SchemeLetter.TheVariants.{OfFunctor, OfPredicate}
 use Rattle.mz_core.specs.declared.item.Item.{Item}
 use Rattle.mz_core.specs.declared.item.Item.TheVariants.{Axiom, AxiomScheme, Primitive, Theorem, Scheme, FunctorMeans, FunctorEquals, Predicate, Attribute, ModeMeans, Abbreviation, Notation, RedefinedFunctor, RedefinedMode, RedefinedPredicate, RedefinedAttribute, Property, Existential, Conditional, Functorial, Reduction, Identification, Structure, SetTerm, Choice}
 use Rattle.mz_ground.specs.Variables.{has_all_below}
@@ -118,3 +120,8 @@ mode_rows (Identification r) = []
 mode_rows (Structure s) = []
 mode_rows (SetTerm s) = []
 mode_rows (Choice c) = []
+
+-- the type of a functor letter, on its places
+abbrev pub letter_rows : SchemeLetter → List Row
+letter_rows (OfFunctor s places ty) = row_on places s ty ∷ []
+letter_rows (OfPredicate s places) = []

@@ -1,7 +1,7 @@
 -- What atoms and equations are unfolded to.
 use Rattle.std.specs.Prelude.{Bool, true, false, ◌&&◌, List, [], ◌∷◌, ◌++◌, length, map, Option, Some, None}
 use Rattle.mz_logic.specs.Term as term
-use Rattle.mz_logic.specs.Term.{Bound}
+use Rattle.mz_logic.specs.Term.{Bound, Const, App}
 use Rattle.mz_logic.specs.Substitution.{shift}
 use Rattle.mz_logic.specs.declared.literal.Literal.{Literal}
 use Rattle.mz_logic.specs.declared.literal.Literal.TheVariants as literal
@@ -19,7 +19,7 @@ use Rattle.mz_ground.specs.declared.trigger.Trigger.{Trigger}
 use Rattle.mz_ground.specs.declared.trigger.Trigger.TheVariants.{Term, Atom}
 use Rattle.mz_items.specs.Loci.{term_on, predicate_on, attribute_on, mode_on}
 use Rattle.mz_items.specs.RedefinitionRows.{type_or}
-use Rattle.mz_environment.specs.Rows.{is_bare, has_loci}
+use Rattle.mz_environment.specs.Rows.{is_bare, is_mode, has_loci}
 use Rattle.mz_environment.specs.declared.item_unfolding.Unfolding.{Unfolding}
 
 abbrev pub unfolding_of : List SoftType → Trigger → Statement → Unfolding
@@ -54,7 +54,7 @@ literal_redefinition loci l (Some d) = literal_definition loci l d
 -- the atom of a mode at its subject, which is a further locus of the type T
 abbrev pub mode_unfoldings : List SoftType → SoftType → SoftType → Statement → List Unfolding
 mode_unfoldings loci mode ty d =
-    unfolding_where (is_bare mode && has_loci loci mode) (loci ++ ty ∷ []) (Atom mode.radix.sym (map (shift 0 1) mode.radix.args ++ Bound 0 ∷ [])) d
+    unfolding_where (is_bare mode && is_mode mode.radix.sym.kind && has_loci loci mode) (loci ++ ty ∷ []) (Atom mode.radix.sym (map (shift 0 1) mode.radix.args ++ Bound 0 ∷ [])) d
 
 abbrev pub mode_definition : List SoftType → SoftType → SoftType → FormulaDefiniens → List Unfolding
 mode_definition loci mode ty (Plain d) = mode_unfoldings loci mode ty d
@@ -65,10 +65,15 @@ abbrev pub mode_redefinition : List SoftType → SoftType → SoftType → Optio
 mode_redefinition loci mode ty None = []
 mode_redefinition loci mode ty (Some d) = mode_definition loci mode ty d
 
+abbrev pub is_application : term.Term → Bool
+is_application (Bound index) = false
+is_application (Const number) = false
+is_application (App s ts) = true
+
 -- the equation of F and y, which is a further locus of the type T
 abbrev pub equation_unfoldings : List SoftType → term.Term → SoftType → Statement → List Unfolding
 equation_unfoldings loci t ty d =
-    unfolding_where (has_all_below (length loci) (Term t)) (loci ++ ty ∷ []) (Term (shift 0 1 t)) d
+    unfolding_where (is_application t && has_all_below (length loci) (Term t)) (loci ++ ty ∷ []) (Term (shift 0 1 t)) d
 
 abbrev pub functor_definition : List SoftType → term.Term → SoftType → FormulaDefiniens → List Unfolding
 functor_definition loci t ty (Plain d) = equation_unfoldings loci t ty d

@@ -1,10 +1,22 @@
 //! What a step and a reading may use of other articles and of what stands above.
 #![tactic(auto)]
 
+pub mod cited;
+pub mod cited_scheme;
+pub mod cited_schemes;
+pub mod cited_statement;
+pub mod cited_statements;
+pub mod environment;
+pub mod existentials;
 pub mod item_unfolding;
+pub mod joining;
+pub mod numbering;
 pub mod plain;
 pub mod row;
 pub mod rows;
 pub mod rows_of;
+pub mod shares;
+pub mod structures;
+pub mod syms;
 pub mod unfoldings;
 pub mod unfoldings_of;

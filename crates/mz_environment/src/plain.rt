@@ -1,6 +1,7 @@
 //! What may have a row or an unfolding.
 ghost use Rattle.std.specs.Prelude.{◌≡◌, IfOk, length};
 ghost use Rattle.mz_environment.specs.Rows.{is_empty, is_bare, is_mode, has_loci};
+ghost use Rattle.mz_environment.specs.Unfoldings.{is_application};
 ghost use Rattle.mz_ground.specs.Variables.{has_all_below};
 ghost use Rattle.mz_ground.specs.declared.trigger.Trigger.TheVariants.{Term as TermTrigger, Atom as AtomTrigger};
 
@@ -11,7 +12,7 @@ use mz_ground::trigger::Trigger;
 use mz_items::loci::count_of;
 use mz_logic::kind::Kind;
 use mz_logic::sym::Sym;
-use mz_logic::term::{Term, Terms};
+use mz_logic::term::{Term, TermNode, Terms};
 use std::alloc::{AllocError, Global};
 
 /// Whether the type has no adjectives, and its radix has a literal.
@@ -27,6 +28,16 @@ pub fn is_mode(k: Kind) -> bool
 {
     match k {
         Kind::Mode => true,
+        _ => false,
+    }
+}
+
+/// Whether the term is a symbol at arguments.
+pub fn is_application(t: &Term) -> bool
+    ensures { result ≡ is_application t.now }
+{
+    match &t.node {
+        TermNode::App(_, _) => true,
         _ => false,
     }
 }

@@ -1,13 +1,14 @@
 //! The rows of an item.
 ghost use Rattle.std.specs.Prelude.{◌≡◌, ◌∷◌, [], Some, IfOk};
 ghost use Rattle.mz_logic.specs.Term.{App, terms_of};
-ghost use Rattle.mz_environment.specs.Rows.{row, row_on, row_where, redefined_functor_rows, redefined_mode_rows, functor_rows, mode_rows};
+ghost use Rattle.mz_environment.specs.Rows.{row, row_on, row_where, redefined_functor_rows, redefined_mode_rows, functor_rows, mode_rows, letter_rows};
 
 use crate::plain::{has_loci, is_bare, is_mode, term_has_loci};
 use crate::row::Row;
 use crate::rows::Rows;
 use mz_core::hidden::set_type;
 use mz_core::item::Item;
+use mz_core::scheme_letter::SchemeLetter;
 use mz_core::soft_type::SoftType;
 use mz_core::soft_types::SoftTypes;
 use mz_items::loci::variables;
@@ -130,5 +131,15 @@ pub fn mode_rows(alloc: Global, item: &Item) -> Result<Rows, AllocError>
         Item::ModeMeans(d) => row_on(alloc, &d.pattern.loci, d.sym, &d.ty),
         Item::RedefinedMode(d) => redefined_mode_rows(alloc, &d.pattern.loci, &d.mode, &d.ty),
         _ => Ok(Rows::new(alloc)),
+    }
+}
+
+/// The type of a functor letter of a scheme, on its places.
+pub fn letter_rows(alloc: Global, l: &SchemeLetter) -> Result<Rows, AllocError>
+    ensures { IfOk result (λ rs. rs ≡ letter_rows l.now) }
+{
+    match l {
+        SchemeLetter::OfFunctor(s, places, ty) => row_on(alloc, places, *s, ty),
+        SchemeLetter::OfPredicate(_, _) => Ok(Rows::new(alloc)),
     }
 }

@@ -9,7 +9,7 @@ ghost use Rattle.mz_items.specs.RedefinitionRows.{type_or};
 ghost use Rattle.mz_environment.specs.Unfoldings.{unfolding_of, signed_definiens, literal_unfoldings, literal_definition, literal_redefinition, mode_unfoldings, mode_definition, mode_redefinition, equation_unfoldings, functor_definition, functor_redefinition, unfoldings_of};
 
 use crate::item_unfolding::Unfolding;
-use crate::plain::{atom_has_loci, has_loci, is_bare, term_has_loci};
+use crate::plain::{atom_has_loci, has_loci, is_application, is_bare, is_mode, term_has_loci};
 use crate::unfoldings::Unfoldings;
 use mz_core::definition::{AtomDefinition, AttributeDefinition};
 use mz_core::formula_definiens::FormulaDefiniens;
@@ -147,7 +147,7 @@ fn mode_unfoldings(
     ensures { IfOk result (λ us. us ≡ mode_unfoldings loci.now mode.now ty.now d.now) }
 {
     let all = has_loci(alloc, loci, mode)?;
-    if is_bare(mode) && all {
+    if is_bare(mode) && is_mode(mode.radix.sym.kind) && all {
         let loci = with_locus(alloc, loci, ty)?;
         let head = mode_head(alloc, mode)?;
         let d = d.copy(alloc)?;
@@ -182,7 +182,8 @@ fn equation_unfoldings(
 ) -> Result<Unfoldings, AllocError>
     ensures { IfOk result (λ us. us ≡ equation_unfoldings loci.now t.now ty.now d.now) }
 {
-    if term_has_loci(alloc, loci, t)? {
+    let all = term_has_loci(alloc, loci, t)?;
+    if is_application(t) && all {
         let loci = with_locus(alloc, loci, ty)?;
         let head = Trigger::Term(shift(alloc, t, 0, 1)?);
         let d = d.copy(alloc)?;
