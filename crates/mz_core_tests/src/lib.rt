@@ -1,4 +1,4 @@
-//! Tests of what items owe and grant.
+//! Tests of statements, and of the rows of items other than definitions.
 #![tactic(auto)]
 
 #[cfg(test)]

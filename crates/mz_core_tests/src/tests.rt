@@ -1,26 +1,27 @@
-//! Each row of the table, with what it owes and grants worked out by hand.
-mod definitions;
-mod notations;
+//! Statements, and the row of each item that is no definition, worked out by hand.
 mod parts;
 mod properties;
-mod redefinitions;
 mod registrations;
+mod rows;
 mod schemes;
 mod statements;
 mod structures;
 mod texts;
-mod theses;
 
-use crate::tests::texts::{are_formulas, are_sequents};
-use mz_core::item::Item;
-use mz_items::granted::grants;
-use mz_items::owed::owes;
-use std::alloc::Global;
-use std::process::Abort;
+use mz_items::condition::Condition;
 
-/// Whether the item owes and grants just what these texts say.
-fn is_row(rt: &impl Abort, alloc: Global, item: &Item, owed: &[&str], granted: &[&str]) -> bool {
-    let ss = owes(alloc, item).expect(rt, "memory");
-    let fs = grants(alloc, item).expect(rt, "memory");
-    are_sequents(rt, alloc, &ss, owed) && are_formulas(rt, alloc, &fs, granted)
+/// 6 is the number of `correctness`, and 7 that of a property.
+#[test]
+fn numbers_of_conditions(rt: HostRuntime) {
+    let rows = [
+        (Condition::Existence, 1),
+        (Condition::Uniqueness, 2),
+        (Condition::Coherence, 3),
+        (Condition::Compatibility, 4),
+        (Condition::Consistency, 5),
+        (Condition::Reducibility, 8),
+    ];
+    for (c, number) in rows {
+        assert_eq!(rt; c.number(), number);
+    }
 }

@@ -10,7 +10,6 @@ use mz_core::soft_type::SoftType;
 use mz_core::soft_types::SoftTypes;
 use mz_core::statement::Statement;
 use mz_logic::kind::Kind;
-use mz_logic::literal::Literal;
 use mz_logic::sym::Sym;
 use mz_logic::term::{Term, Terms};
 use std::alloc::Global;
@@ -45,55 +44,48 @@ pub fn atom(rt: &impl Abort, alloc: Global, number: u32, indices: &[u32]) -> Sta
     Statement::atom(sym(Kind::Predicate, number), args)
 }
 
-/// `sym[..]` or its negation.
-pub fn literal(
-    rt: &impl Abort,
-    alloc: Global,
-    positive: bool,
-    sym: Sym,
-    indices: &[u32],
-) -> Literal {
-    let args = bounds(rt, alloc, indices);
-    Literal::Atom {
-        positive,
-        sym,
-        args,
+/// The type of this symbol and these arguments.
+pub fn radix(alloc: Global, kind: Kind, number: u32, args: Terms) -> SoftType {
+    SoftType {
+        adjectives: Adjectives::new(alloc),
+        radix: Radix {
+            sym: sym(kind, number),
+            args,
+        },
     }
 }
 
 /// `Mn of ..`.
 pub fn mode(rt: &impl Abort, alloc: Global, number: u32, indices: &[u32]) -> SoftType {
     let args = bounds(rt, alloc, indices);
-    SoftType {
-        adjectives: Adjectives::new(alloc),
-        radix: Radix {
-            sym: sym(Kind::Mode, number),
-            args,
-        },
-    }
+    radix(alloc, Kind::Mode, number, args)
 }
 
-/// `Gn`.
-pub fn structure(alloc: Global, number: u32) -> SoftType {
+/// `Vn(..)` or, where its first part is false, `non Vn(..)`, for each of these.
+pub fn adjectives(rt: &impl Abort, alloc: Global, list: &[(bool, u32, &[u32])]) -> Adjectives {
+    let mut out = Adjectives::new(alloc);
+    for (positive, number, indices) in list {
+        let args = bounds(rt, alloc, indices);
+        out.push(Adjective {
+            positive: *positive,
+            sym: sym(Kind::Attribute, *number),
+            args,
+        })
+        .expect(rt, "memory");
+    }
+    out
+}
+
+/// `non V1 M1`.
+pub fn negative_mode(rt: &impl Abort, alloc: Global) -> SoftType {
+    let adjectives = adjectives(rt, alloc, &[(false, 1, &[])]);
     SoftType {
-        adjectives: Adjectives::new(alloc),
+        adjectives,
         radix: Radix {
-            sym: sym(Kind::Structure, number),
+            sym: sym(Kind::Mode, 1),
             args: Terms::new(alloc),
         },
     }
-}
-
-/// `Vn` or `non Vn`.
-pub fn adjectives(rt: &impl Abort, alloc: Global, positive: bool, number: u32) -> Adjectives {
-    let mut out = Adjectives::new(alloc);
-    out.push(Adjective {
-        positive,
-        sym: sym(Kind::Attribute, number),
-        args: Terms::new(alloc),
-    })
-    .expect(rt, "memory");
-    out
 }
 
 /// One locus.
@@ -112,12 +104,12 @@ pub fn sets(rt: &impl Abort, alloc: Global, count: u32) -> SoftTypes {
     out
 }
 
-/// A pattern on these loci; what an item owes and grants is the same for each symbol of it.
-pub fn pattern(alloc: Global, kind: Kind, loci: SoftTypes) -> Pattern {
+/// A pattern of a mode on these loci.
+pub fn pattern(alloc: Global, loci: SoftTypes) -> Pattern {
     Pattern {
         symbol: Text::new(alloc),
         closing: Text::new(alloc),
-        kind,
+        kind: Kind::Mode,
         loci,
         left: Numbers::new(alloc),
         right: Numbers::new(alloc),

@@ -1,15 +1,21 @@
-use crate::tests::is_row;
-use crate::tests::parts::{literal, mode, one, sets, sym, term};
+//! What properties state and owe.
+use crate::tests::parts::{bounds, mode, one, sets, sym, term};
+use crate::tests::rows::{NOTHING, Row, check};
 use mz_core::item::Item;
 use mz_core::property::{Operation, Property, PropertyForm, Relation, UnaryOperation};
-use mz_core::soft_types::SoftTypes;
 use mz_logic::kind::Kind;
+use mz_logic::literal::Literal;
 use std::alloc::Global;
 use std::process::Abort;
 
 /// `R1[x,y]`.
 fn relation(rt: &impl Abort, alloc: Global) -> Relation {
-    let literal = literal(rt, alloc, true, sym(Kind::Predicate, 1), &[1, 0]);
+    let args = bounds(rt, alloc, &[1, 0]);
+    let literal = Literal::Atom {
+        positive: true,
+        sym: sym(Kind::Predicate, 1),
+        args,
+    };
     Relation {
         literal,
         left: 1,
@@ -33,106 +39,151 @@ fn unary(rt: &impl Abort, alloc: Global) -> UnaryOperation {
     UnaryOperation { term, place: 0 }
 }
 
-/// `let X be set; let x,y be M1 of X`.
-fn two_modes(rt: &impl Abort, alloc: Global) -> SoftTypes {
-    let mut loci = sets(rt, alloc, 1);
-    loci.push(mode(rt, alloc, 1, &[0])).expect(rt, "memory");
-    loci.push(mode(rt, alloc, 1, &[1])).expect(rt, "memory");
-    loci
-}
-
-/// Whether the property of these loci owes just this.
-fn is_property(
+/// The property of `let x,y be set` states this, and owes that for both loci.
+fn of_sets(
     rt: &impl Abort,
     alloc: Global,
-    loci: SoftTypes,
     form: PropertyForm,
-    owed: &str,
-) -> bool {
-    let item = Item::Property(Property { loci, form });
-    is_row(rt, alloc, &item, &[owed], &[])
+    property: &'static str,
+    owed: &'static [&'static str],
+) {
+    let loci = sets(rt, alloc, 2);
+    let row = Row {
+        owed,
+        property,
+        ..NOTHING
+    };
+    check(rt, alloc, Item::Property(Property { loci, form }), &row);
 }
 
-/// Symmetry of R1 on these loci.
-pub fn symmetry(rt: &impl Abort, alloc: Global) -> Item {
-    let form = PropertyForm::Symmetry(relation(rt, alloc));
-    let loci = two_modes(rt, alloc);
-    Item::Property(Property { loci, form })
+#[test]
+fn properties_of_predicates(rt: HostRuntime) {
+    let a = rt.alloc();
+    of_sets(
+        &rt,
+        a,
+        PropertyForm::Reflexivity(relation(&rt, a)),
+        "(all (A.R1 b0 b0))",
+        &["|- (all (all (all (A.R1 b0 b0))))"],
+    );
+    of_sets(
+        &rt,
+        a,
+        PropertyForm::Irreflexivity(relation(&rt, a)),
+        "(all (not (A.R1 b0 b0)))",
+        &["|- (all (all (all (not (A.R1 b0 b0)))))"],
+    );
+    of_sets(
+        &rt,
+        a,
+        PropertyForm::Asymmetry(relation(&rt, a)),
+        "(all (all (not (and (A.R1 b1 b0) (A.R1 b0 b1)))))",
+        &["|- (all (all (all (all (not (and (A.R1 b1 b0) (A.R1 b0 b1)))))))"],
+    );
+    of_sets(
+        &rt,
+        a,
+        PropertyForm::Connectedness(relation(&rt, a)),
+        "(all (all (not (and (not (A.R1 b1 b0)) (not (A.R1 b0 b1))))))",
+        &["|- (all (all (all (all (not (and (not (A.R1 b1 b0)) (not (A.R1 b0 b1))))))))"],
+    );
 }
 
+#[test]
+fn properties_of_functors(rt: HostRuntime) {
+    let a = rt.alloc();
+    of_sets(
+        &rt,
+        a,
+        PropertyForm::Idempotence(operation(&rt, a)),
+        "(all (= (A.O1 b0 b0) b0))",
+        &["|- (all (all (all (= (A.O1 b0 b0) b0))))"],
+    );
+    of_sets(
+        &rt,
+        a,
+        PropertyForm::Commutativity(operation(&rt, a)),
+        "(all (all (= (A.O1 b1 b0) (A.O1 b0 b1))))",
+        &["|- (all (all (all (all (= (A.O1 b1 b0) (A.O1 b0 b1))))))"],
+    );
+}
+
+/// `let X be set; let x,y be M1 of X`.
 #[test]
 fn symmetry_of_typed_loci(rt: HostRuntime) {
-    let item = symmetry(&rt, rt.alloc());
-    let owed =
-        "|- (all (all (not (and (A.M1 b1 b0) (not (all (not (and (A.M1 b2 b0) (not (all (not (and (A.M1 b3 b0) (not (all (not (and (A.M1 b4 b0) (and (A.R1 b1 b0) (not (A.R1 b0 b1)))))))))))))))))))";
-    assert!(rt; is_row(&rt, rt.alloc(), &item, &[owed], &[]));
+    let a = rt.alloc();
+    let mut loci = sets(&rt, a, 1);
+    loci.push(mode(&rt, a, 1, &[0])).expect(&rt, "memory");
+    loci.push(mode(&rt, a, 1, &[1])).expect(&rt, "memory");
+    let form = PropertyForm::Symmetry(relation(&rt, a));
+    let row = Row {
+        owed: &[
+            "|- (all (all (not (and (A.M1 b1 b0) (not (all (not (and (A.M1 b2 b0) (not (all (not (and (A.M1 b3 b0) (not (all (not (and (A.M1 b4 b0) (and (A.R1 b1 b0) (not (A.R1 b0 b1)))))))))))))))))))",
+        ],
+        property: "(all (not (and (A.M1 b3 b0) (not (all (not (and (A.M1 b4 b0) (and (A.R1 b1 b0) (not (A.R1 b0 b1))))))))))",
+        ..NOTHING
+    };
+    check(&rt, a, Item::Property(Property { loci, form }), &row);
 }
 
-/// Whether the property of `let x,y be set` owes just this.
-fn is_of_sets(rt: &impl Abort, alloc: Global, form: PropertyForm, owed: &str) -> bool {
-    let loci = sets(rt, alloc, 2);
-    is_property(rt, alloc, loci, form, owed)
-}
-
-#[test]
-fn properties_of_one_variable(rt: HostRuntime) {
-    let form = PropertyForm::Reflexivity(relation(&rt, rt.alloc()));
-    assert!(rt; is_of_sets(&rt, rt.alloc(), form, "|- (all (all (all (A.R1 b0 b0))))"));
-    let form = PropertyForm::Irreflexivity(relation(&rt, rt.alloc()));
-    assert!(rt;
-        is_of_sets(
-            &rt,
-            rt.alloc(),
-            form,
-            "|- (all (all (all (not (A.R1 b0 b0)))))"
-        )
-    );
-    let form = PropertyForm::Idempotence(operation(&rt, rt.alloc()));
-    assert!(rt;
-        is_of_sets(
-            &rt,
-            rt.alloc(),
-            form,
-            "|- (all (all (all (= (A.O1 b0 b0) b0))))"
-        )
-    );
-}
-
-#[test]
-fn properties_of_two_variables(rt: HostRuntime) {
-    let form = PropertyForm::Asymmetry(relation(&rt, rt.alloc()));
-    let owed = "|- (all (all (all (all (not (and (A.R1 b1 b0) (A.R1 b0 b1)))))))";
-    assert!(rt; is_of_sets(&rt, rt.alloc(), form, owed));
-    let form = PropertyForm::Connectedness(relation(&rt, rt.alloc()));
-    let owed = "|- (all (all (all (all (not (and (not (A.R1 b1 b0)) (not (A.R1 b0 b1))))))))";
-    assert!(rt; is_of_sets(&rt, rt.alloc(), form, owed));
-    let form = PropertyForm::Commutativity(operation(&rt, rt.alloc()));
-    let owed = "|- (all (all (all (all (= (A.O1 b1 b0) (A.O1 b0 b1))))))";
-    assert!(rt; is_of_sets(&rt, rt.alloc(), form, owed));
-}
-
-/// Whether the property of `let x be M1` owes just this.
-fn is_of_mode(rt: &impl Abort, alloc: Global, form: PropertyForm, owed: &str) -> bool {
-    let loci = one(rt, alloc, mode(rt, alloc, 1, &[]));
-    is_property(rt, alloc, loci, form, owed)
-}
-
+/// `let x be M1`.
 #[test]
 fn properties_of_unary_functors(rt: HostRuntime) {
-    let form = PropertyForm::Involutiveness(unary(&rt, rt.alloc()));
-    let owed =
-        "|- (all (not (and (A.M1 b0) (not (all (not (and (A.M1 b0) (and (A.M1 (A.O1 b0)) (not (= (A.O1 (A.O1 b0)) b0))))))))))";
-    assert!(rt; is_of_mode(&rt, rt.alloc(), form, owed));
-    let form = PropertyForm::Projectivity(unary(&rt, rt.alloc()));
-    let owed =
-        "|- (all (not (and (A.M1 b0) (not (all (not (and (A.M1 b0) (and (A.M1 (A.O1 b0)) (not (= (A.O1 (A.O1 b0)) (A.O1 b0)))))))))))";
-    assert!(rt; is_of_mode(&rt, rt.alloc(), form, owed));
+    let a = rt.alloc();
+    let loci = one(&rt, a, mode(&rt, a, 1, &[]));
+    let form = PropertyForm::Involutiveness(unary(&rt, a));
+    let row = Row {
+        owed: &[
+            "|- (all (not (and (A.M1 b0) (not (all (not (and (A.M1 b0) (and (A.M1 (A.O1 b0)) (not (= (A.O1 (A.O1 b0)) b0))))))))))",
+        ],
+        property: "(all (not (and (A.M1 b0) (and (A.M1 (A.O1 b0)) (not (= (A.O1 (A.O1 b0)) b0))))))",
+        ..NOTHING
+    };
+    check(&rt, a, Item::Property(Property { loci, form }), &row);
+    let loci = one(&rt, a, mode(&rt, a, 1, &[]));
+    let form = PropertyForm::Projectivity(unary(&rt, a));
+    let row = Row {
+        owed: &[
+            "|- (all (not (and (A.M1 b0) (not (all (not (and (A.M1 b0) (and (A.M1 (A.O1 b0)) (not (= (A.O1 (A.O1 b0)) (A.O1 b0)))))))))))",
+        ],
+        property: "(all (not (and (A.M1 b0) (and (A.M1 (A.O1 b0)) (not (= (A.O1 (A.O1 b0)) (A.O1 b0)))))))",
+        ..NOTHING
+    };
+    check(&rt, a, Item::Property(Property { loci, form }), &row);
+}
+
+/// `let X be set; let x be M1 of X`, and the functor O1(X,x) whose visible locus is x.
+#[test]
+fn involutiveness_with_a_hidden_locus(rt: HostRuntime) {
+    let a = rt.alloc();
+    let mut loci = sets(&rt, a, 1);
+    loci.push(mode(&rt, a, 1, &[0])).expect(&rt, "memory");
+    let form = PropertyForm::Involutiveness(UnaryOperation {
+        term: term(&rt, a, 1, &[1, 0]),
+        place: 0,
+    });
+    let row = Row {
+        owed: &[
+            "|- (all (all (not (and (A.M1 b1 b0) (not (all (not (and (A.M1 b2 b0) (and (A.M1 b2 (A.O1 b2 b0)) (not (= (A.O1 b2 (A.O1 b2 b0)) b0)))))))))))",
+        ],
+        property: "(all (not (and (A.M1 b2 b0) (and (A.M1 b2 (A.O1 b2 b0)) (not (= (A.O1 b2 (A.O1 b2 b0)) b0))))))",
+        ..NOTHING
+    };
+    check(&rt, a, Item::Property(Property { loci, form }), &row);
 }
 
 /// `let X be set`, and the mode M1 of X.
 #[test]
 fn sethood_of_a_mode(rt: HostRuntime) {
+    let a = rt.alloc();
+    let loci = sets(&rt, a, 1);
     let form = PropertyForm::Sethood(sym(Kind::Mode, 1));
-    let owed = "|- (all (not (all (not (all (not (and (A.M1 b2 b0) (not (HIDDEN.R1 b0 b1)))))))))";
-    assert!(rt; is_property(&rt, rt.alloc(), sets(&rt, rt.alloc(), 1), form, owed));
+    let row = Row {
+        owed: &[
+            "|- (all (not (all (not (all (not (and (A.M1 b2 b0) (not (HIDDEN.R1 b0 b1)))))))))",
+        ],
+        property: "(not (all (not (all (not (and (A.M1 b2 b0) (not (HIDDEN.R1 b0 b1))))))))",
+        ..NOTHING
+    };
+    check(&rt, a, Item::Property(Property { loci, form }), &row);
 }

@@ -1,100 +1,144 @@
-use crate::tests::is_row;
+//! What registrations owe.
 use crate::tests::parts::{adjectives, mode, sets, term};
+use crate::tests::rows::{NOTHING, Row, check};
+use mz_core::adjectives::Adjectives;
+use mz_core::hidden::set_type;
 use mz_core::item::Item;
 use mz_core::registration::{
     ConditionalRegistration, EquationRegistration, ExistentialRegistration, FunctorialRegistration,
 };
 use mz_core::soft_types::SoftTypes;
+use mz_items::condition::Condition;
 use mz_logic::term::Term;
-use std::alloc::Global;
-use std::process::Abort;
 
-/// `cluster non V1 M1`.
-pub fn existential(rt: &impl Abort, alloc: Global) -> Item {
-    let adjectives = adjectives(rt, alloc, false, 1);
-    let ty = mode(rt, alloc, 1, &[]);
-    Item::Existential(ExistentialRegistration {
-        loci: SoftTypes::new(alloc),
-        adjectives,
-        ty,
-    })
-}
-
+/// `cluster non V1 M1`, and `let X be set; cluster V1(X) non V2 M1 of X`.
 #[test]
-fn an_existential_registration(rt: HostRuntime) {
-    let item = existential(&rt, rt.alloc());
-    let owed = "|- (not (all (not (and (A.M1 b0) (not (A.V1 b0))))))";
-    assert!(rt; is_row(&rt, rt.alloc(), &item, &[owed], &[]));
+fn existential_registrations(rt: HostRuntime) {
+    let a = rt.alloc();
+    let one = ExistentialRegistration {
+        loci: SoftTypes::new(a),
+        adjectives: adjectives(&rt, a, &[(false, 1, &[])]),
+        ty: mode(&rt, a, 1, &[]),
+    };
+    let row = Row {
+        owed: &["|- (not (all (not (and (A.M1 b0) (not (A.V1 b0))))))"],
+        theses: &[(
+            Condition::Existence,
+            "(not (all (not (and (A.M1 b0) (not (A.V1 b0))))))",
+        )],
+        ..NOTHING
+    };
+    check(&rt, a, Item::Existential(one), &row);
+    let two = ExistentialRegistration {
+        loci: sets(&rt, a, 1),
+        adjectives: adjectives(&rt, a, &[(true, 1, &[0]), (false, 2, &[])]),
+        ty: mode(&rt, a, 1, &[0]),
+    };
+    let row = Row {
+        owed: &["|- (all (not (all (not (and (A.M1 b1 b0) (and (A.V1 b1 b0) (not (A.V2 b0))))))))"],
+        theses: &[(
+            Condition::Existence,
+            "(not (all (not (and (A.M1 b1 b0) (and (A.V1 b1 b0) (not (A.V2 b0)))))))",
+        )],
+        ..NOTHING
+    };
+    check(&rt, a, Item::Existential(two), &row);
 }
 
-/// `cluster V1 -> non V2 for M1`.
-pub fn conditional(rt: &impl Abort, alloc: Global) -> Item {
-    let from = adjectives(rt, alloc, true, 1);
-    let to = adjectives(rt, alloc, false, 2);
-    let ty = mode(rt, alloc, 1, &[]);
-    Item::Conditional(ConditionalRegistration {
-        loci: SoftTypes::new(alloc),
-        from,
-        to,
-        ty,
-    })
-}
-
+/// `cluster V1 -> non V2 for M1`, and without an antecedent `let X be set; cluster -> V1(X) non V2 for set`.
 #[test]
-fn a_conditional_registration(rt: HostRuntime) {
-    let item = conditional(&rt, rt.alloc());
-    let owed = "|- (all (not (and (A.M1 b0) (and (A.V1 b0) (A.V2 b0)))))";
-    assert!(rt; is_row(&rt, rt.alloc(), &item, &[owed], &[]));
+fn conditional_registrations(rt: HostRuntime) {
+    let a = rt.alloc();
+    let from_one = ConditionalRegistration {
+        loci: SoftTypes::new(a),
+        from: adjectives(&rt, a, &[(true, 1, &[])]),
+        to: adjectives(&rt, a, &[(false, 2, &[])]),
+        ty: mode(&rt, a, 1, &[]),
+    };
+    let row = Row {
+        owed: &["|- (all (not (and (A.M1 b0) (and (A.V1 b0) (A.V2 b0)))))"],
+        theses: &[(
+            Condition::Coherence,
+            "(all (not (and (A.M1 b0) (and (A.V1 b0) (A.V2 b0)))))",
+        )],
+        ..NOTHING
+    };
+    check(&rt, a, Item::Conditional(from_one), &row);
+    let from_none = ConditionalRegistration {
+        loci: sets(&rt, a, 1),
+        from: Adjectives::new(a),
+        to: adjectives(&rt, a, &[(true, 1, &[0]), (false, 2, &[])]),
+        ty: set_type(a),
+    };
+    let row = Row {
+        owed: &["|- (all (all (and (A.V1 b1 b0) (not (A.V2 b0)))))"],
+        theses: &[(
+            Condition::Coherence,
+            "(all (and (A.V1 b1 b0) (not (A.V2 b0))))",
+        )],
+        ..NOTHING
+    };
+    check(&rt, a, Item::Conditional(from_none), &row);
 }
 
-/// `let X be set; cluster O1(X) -> V1 for M1`.
-pub fn functorial(rt: &impl Abort, alloc: Global) -> Item {
-    let loci = sets(rt, alloc, 1);
-    let term = term(rt, alloc, 1, &[0]);
-    let adjectives = adjectives(rt, alloc, true, 1);
-    let ty = mode(rt, alloc, 1, &[]);
-    Item::Functorial(FunctorialRegistration {
-        loci,
-        term,
-        adjectives,
-        ty: Some(ty),
-    })
-}
-
+/// `let X be set; cluster O1(X) -> V1 for M1`, and the same with `non V1 for set`: a type that says nothing is an
+/// antecedent all the same.
 #[test]
-fn a_functorial_registration(rt: HostRuntime) {
-    let item = functorial(&rt, rt.alloc());
-    let owed = "|- (all (not (and (A.M1 (A.O1 b0)) (not (A.V1 (A.O1 b0))))))";
-    assert!(rt; is_row(&rt, rt.alloc(), &item, &[owed], &[]));
+fn functorial_registrations(rt: HostRuntime) {
+    let a = rt.alloc();
+    let for_mode = FunctorialRegistration {
+        loci: sets(&rt, a, 1),
+        term: term(&rt, a, 1, &[0]),
+        adjectives: adjectives(&rt, a, &[(true, 1, &[])]),
+        ty: Some(mode(&rt, a, 1, &[])),
+    };
+    let row = Row {
+        owed: &["|- (all (not (and (A.M1 (A.O1 b0)) (not (A.V1 (A.O1 b0))))))"],
+        theses: &[(
+            Condition::Coherence,
+            "(not (and (A.M1 (A.O1 b0)) (not (A.V1 (A.O1 b0)))))",
+        )],
+        ..NOTHING
+    };
+    check(&rt, a, Item::Functorial(for_mode), &row);
+    let for_set = FunctorialRegistration {
+        loci: sets(&rt, a, 1),
+        term: term(&rt, a, 1, &[0]),
+        adjectives: adjectives(&rt, a, &[(false, 1, &[])]),
+        ty: Some(set_type(a)),
+    };
+    let row = Row {
+        owed: &["|- (all (not (and true (A.V1 (A.O1 b0)))))"],
+        theses: &[(Condition::Coherence, "(not (and true (A.V1 (A.O1 b0))))")],
+        ..NOTHING
+    };
+    check(&rt, a, Item::Functorial(for_set), &row);
 }
 
-/// `let X be set`, O1(X), and the other term.
-fn equation(rt: &impl Abort, alloc: Global, right: Term) -> EquationRegistration {
-    let loci = sets(rt, alloc, 1);
-    let left = term(rt, alloc, 1, &[0]);
-    EquationRegistration { loci, left, right }
-}
-
-/// `reduce O1(X) to X`.
-pub fn reduction(rt: &impl Abort, alloc: Global) -> Item {
-    Item::Reduction(equation(rt, alloc, Term::bound(0)))
-}
-
+/// `let X be set; reduce O1(X) to X`, and `identify O1(X) with O2(X)`.
 #[test]
-fn a_reduction(rt: HostRuntime) {
-    let item = reduction(&rt, rt.alloc());
-    assert!(rt; is_row(&rt, rt.alloc(), &item, &["|- (all (= (A.O1 b0) b0))"], &[]));
-}
-
-/// `identify O1(X) with O2(X)`.
-pub fn identification(rt: &impl Abort, alloc: Global) -> Item {
-    let right = term(rt, alloc, 2, &[0]);
-    Item::Identification(equation(rt, alloc, right))
-}
-
-#[test]
-fn an_identification(rt: HostRuntime) {
-    let item = identification(&rt, rt.alloc());
-    let owed = "|- (all (= (A.O1 b0) (A.O2 b0)))";
-    assert!(rt; is_row(&rt, rt.alloc(), &item, &[owed], &[]));
+fn registrations_of_equations(rt: HostRuntime) {
+    let a = rt.alloc();
+    let reduction = EquationRegistration {
+        loci: sets(&rt, a, 1),
+        left: term(&rt, a, 1, &[0]),
+        right: Term::bound(0),
+    };
+    let row = Row {
+        owed: &["|- (all (= (A.O1 b0) b0))"],
+        theses: &[(Condition::Reducibility, "(= (A.O1 b0) b0)")],
+        ..NOTHING
+    };
+    check(&rt, a, Item::Reduction(reduction), &row);
+    let identification = EquationRegistration {
+        loci: sets(&rt, a, 1),
+        left: term(&rt, a, 1, &[0]),
+        right: term(&rt, a, 2, &[0]),
+    };
+    let row = Row {
+        owed: &["|- (all (= (A.O1 b0) (A.O2 b0)))"],
+        theses: &[(Condition::Compatibility, "(= (A.O1 b0) (A.O2 b0))")],
+        ..NOTHING
+    };
+    check(&rt, a, Item::Identification(identification), &row);
 }

@@ -1,15 +1,13 @@
 //! Statements with terms for their indices, their conjuncts, and what is in force.
-use crate::tests::parts::{adjectives, atom, mode, sym};
+use crate::tests::parts::{atom, mode, negative_mode, sym};
 use crate::tests::texts::{are_formulas, is_formula};
+use mz_core::abstraction::statement_over;
 use mz_core::erasure::erase;
 use mz_core::guard::guard;
 use mz_core::in_force::{statement_in_force, type_in_force};
 use mz_core::parts::{conjunction, parts};
-use mz_core::radix::Radix;
-use mz_core::soft_type::SoftType;
 use mz_core::statement::Statement;
 use mz_core::statements::Statements;
-use mz_core::abstraction::statement_over;
 use mz_core::type_substitution::statement_at;
 use mz_logic::kind::Kind;
 use mz_logic::term::{Term, Terms};
@@ -74,13 +72,7 @@ fn constants_in_force(rt: HostRuntime) {
 /// `non V1 M1`: the radix first, then the adjective with its sign.
 #[test]
 fn the_guard_of_a_type(rt: HostRuntime) {
-    let ty = SoftType {
-        adjectives: adjectives(&rt, rt.alloc(), false, 1),
-        radix: Radix {
-            sym: sym(Kind::Mode, 1),
-            args: Terms::new(rt.alloc()),
-        },
-    };
+    let ty = negative_mode(&rt, rt.alloc());
     assert!(rt; type_in_force(&ty, 0));
     let fs = guard(rt.alloc(), &ty, &Term::constant(3)).expect(&rt, "memory");
     let texts = ["(A.M1 c3)", "(not (A.V1 c3))"];

@@ -1,41 +1,52 @@
-use crate::tests::is_row;
-use crate::tests::parts::{atom, mode, one, sets, structure, sym, term};
+//! What structures, set terms and choices owe and grant.
+use crate::tests::parts::{atom, mode, one, pattern, radix, sets, sym, term};
+use crate::tests::rows::{NOTHING, Row, check};
+use mz_compare::items::item_equal;
 use mz_core::field::Field;
 use mz_core::fields::Fields;
 use mz_core::item::Item;
+use mz_core::notation::{Meaning, Notation};
 use mz_core::notations::Notations;
 use mz_core::set_term::{Choice, SetTerm};
 use mz_core::soft_type::SoftType;
+use mz_core::soft_types::SoftTypes;
 use mz_core::structure::Structure;
+use mz_items::condition::Condition;
 use mz_logic::kind::Kind;
+use mz_logic::term::Terms;
 use std::alloc::Global;
 use std::process::Abort;
 
-fn field(number: u32, ty: SoftType) -> Field {
-    Field {
-        selector: sym(Kind::Selector, number),
-        ty,
-    }
-}
-
-/// `U1 -> M1, U2 -> M2 of the U1`. A field's type stands under the structure's object and the fields'
-/// values, of which the last one is the innermost.
-fn two_fields(rt: &impl Abort, alloc: Global) -> Fields {
+/// `U1 -> T1, U2 -> T2`. A field's type stands under the structure's object and the fields' values, of which the last one is
+/// the innermost.
+fn two_fields(rt: &impl Abort, alloc: Global, first: SoftType, second: SoftType) -> Fields {
     let mut fields = Fields::new(alloc);
+    let selector = sym(Kind::Selector, 1);
     fields
-        .push(field(1, mode(rt, alloc, 1, &[])))
+        .push(Field {
+            selector,
+            ty: first,
+        })
         .expect(rt, "memory");
+    let selector = sym(Kind::Selector, 2);
     fields
-        .push(field(2, mode(rt, alloc, 2, &[1])))
+        .push(Field {
+            selector,
+            ty: second,
+        })
         .expect(rt, "memory");
     fields
 }
 
-/// `let X be set; struct (G2) G1 over X (# U1 -> M1, U2 -> M2 of the U1 #)`.
-pub fn pairs(rt: &impl Abort, alloc: Global) -> Item {
+/// `let X be set; struct (..) G1 over X (# .. #)`.
+fn structure(
+    rt: &impl Abort,
+    alloc: Global,
+    ancestors: SoftTypes,
+    fields: Fields,
+    notations: Notations,
+) -> Item {
     let loci = sets(rt, alloc, 1);
-    let ancestors = one(rt, alloc, structure(alloc, 2));
-    let fields = two_fields(rt, alloc);
     Item::Structure(Structure {
         loci,
         sym: sym(Kind::Structure, 1),
@@ -43,78 +54,155 @@ pub fn pairs(rt: &impl Abort, alloc: Global) -> Item {
         aggregate: sym(Kind::Aggregate, 1),
         ancestors,
         fields,
-        notations: Notations::new(alloc),
+        notations,
     })
 }
+
+/// `let X be set; struct (G2) G1 over X (# U1 -> M1, U2 -> M2 of the U1 #)`.
+fn pairs(rt: &impl Abort, alloc: Global, notations: Notations) -> Item {
+    let ancestors = one(
+        rt,
+        alloc,
+        radix(alloc, Kind::Structure, 2, Terms::new(alloc)),
+    );
+    let first = mode(rt, alloc, 1, &[]);
+    let second = mode(rt, alloc, 2, &[1]);
+    let fields = two_fields(rt, alloc, first, second);
+    structure(rt, alloc, ancestors, fields, notations)
+}
+
+const PAIRS: Row = Row {
+    granted: &[
+        "(all (all (not (and (A.G1 b1 b0) (not (A.G2 b0))))))",
+        "(all (all (not (and (A.G1 b1 b0) (not (and (A.M1 (A.U1 b0)) (A.M2 (A.U1 b0) (A.U2 b0))))))))",
+        "(all (all (all (not (and (and (A.M1 b1) (A.M2 b1 b0)) (not (and (and (and (A.G1 b2 (A.A1 b2 b1 b0)) (A.V1 b2 (A.A1 b2 b1 b0))) (= (A.U1 (A.A1 b2 b1 b0)) b1)) (= (A.U2 (A.A1 b2 b1 b0)) b0))))))))",
+        "(all (all (not (and (and (A.G1 b1 b0) (A.V1 b1 b0)) (not (= b0 (A.A1 b1 (A.U1 b0) (A.U2 b0))))))))",
+    ],
+    ..NOTHING
+};
 
 #[test]
 fn a_structure(rt: HostRuntime) {
-    let item = pairs(&rt, rt.alloc());
-    let ancestors = "(all (all (not (and (A.G1 b1 b0) (not (A.G2 b0))))))";
-    let fields =
-        "(all (all (not (and (A.G1 b1 b0) (not (and (A.M1 (A.U1 b0)) (A.M2 (A.U1 b0) (A.U2 b0))))))))";
-    let aggregate =
-        "(all (all (all (not (and (and (A.M1 b1) (A.M2 b1 b0)) (not (and (and (and (A.G1 b2 (A.A1 b2 b1 b0)) (A.V1 b2 (A.A1 b2 b1 b0))) (= (A.U1 (A.A1 b2 b1 b0)) b1)) (= (A.U2 (A.A1 b2 b1 b0)) b0))))))))";
-    let strict =
-        "(all (all (not (and (and (A.G1 b1 b0) (A.V1 b1 b0)) (not (= b0 (A.A1 b1 (A.U1 b0) (A.U2 b0))))))))";
-    assert!(rt;
-        is_row(
-            &rt,
-            rt.alloc(),
-            &item,
-            &[],
-            &[ancestors, fields, aggregate, strict]
-        )
-    );
+    let a = rt.alloc();
+    check(&rt, a, pairs(&rt, a, Notations::new(a)), &PAIRS);
 }
 
-/// `let X be set; { O1(x) where x is M1 of X : R1[x] }`, the symbol being O2.
-pub fn set_term(rt: &impl Abort, alloc: Global) -> Item {
-    let loci = sets(rt, alloc, 1);
-    let ty = mode(rt, alloc, 1, &[0]);
-    let term = term(rt, alloc, 1, &[0]);
-    let formula = atom(rt, alloc, 1, &[0]);
-    Item::SetTerm(SetTerm {
-        loci,
-        sym: sym(Kind::Functor, 2),
-        ty,
-        term,
-        formula,
-    })
+/// `let X be set; struct G1 over X (# U1 -> M1 of X,the object, U2 -> M2 of the U1,the U2 #)`.
+#[test]
+fn a_structure_without_ancestors(rt: HostRuntime) {
+    let a = rt.alloc();
+    let first = mode(&rt, a, 1, &[3, 2]);
+    let second = mode(&rt, a, 2, &[1, 0]);
+    let fields = two_fields(&rt, a, first, second);
+    let item = structure(&rt, a, SoftTypes::new(a), fields, Notations::new(a));
+    let row = Row {
+        granted: &[
+            "(all (all (not (and (A.G1 b1 b0) (not true)))))",
+            "(all (all (not (and (A.G1 b1 b0) (not (and (A.M1 b1 b0 (A.U1 b0)) (A.M2 (A.U1 b0) (A.U2 b0) (A.U2 b0))))))))",
+            "(all (all (all (not (and (and (A.M1 b2 (A.A1 b2 b1 b0) b1) (A.M2 b1 b0 b0)) (not (and (and (and (A.G1 b2 (A.A1 b2 b1 b0)) (A.V1 b2 (A.A1 b2 b1 b0))) (= (A.U1 (A.A1 b2 b1 b0)) b1)) (= (A.U2 (A.A1 b2 b1 b0)) b0))))))))",
+            "(all (all (not (and (and (A.G1 b1 b0) (A.V1 b1 b0)) (not (= b0 (A.A1 b1 (A.U1 b0) (A.U2 b0))))))))",
+        ],
+        ..NOTHING
+    };
+    check(&rt, a, item, &row);
+}
+
+/// The modes M1 and M2 of one locus as notations.
+fn two_notations(rt: &impl Abort, alloc: Global) -> Notations {
+    let mut notations = Notations::new(alloc);
+    for number in 1..3u32 {
+        let pattern = pattern(alloc, sets(rt, alloc, 1));
+        let meaning = Meaning::OfType(mode(rt, alloc, number, &[0]));
+        notations
+            .push(Notation { pattern, meaning })
+            .expect(rt, "memory");
+    }
+    notations
 }
 
 #[test]
-fn a_set_term(rt: HostRuntime) {
-    let item = set_term(&rt, rt.alloc());
-    let owed =
-        "|- (all (not (all (not (all (and (not (and (HIDDEN.R1 b0 b1) (all (not (and (A.M1 b3 b0) (and (= b1 (A.O1 b0)) (A.R1 b0))))))) (not (and (not (all (not (and (A.M1 b3 b0) (and (= b1 (A.O1 b0)) (A.R1 b0)))))) (not (HIDDEN.R1 b0 b1))))))))))";
-    let granted =
-        "(all (all (and (not (and (HIDDEN.R1 b0 (A.O2 b1)) (all (not (and (A.M1 b2 b0) (and (= b1 (A.O1 b0)) (A.R1 b0))))))) (not (and (not (all (not (and (A.M1 b2 b0) (and (= b1 (A.O1 b0)) (A.R1 b0)))))) (not (HIDDEN.R1 b0 (A.O2 b1))))))))";
-    assert!(rt; is_row(&rt, rt.alloc(), &item, &[owed], &[granted]));
+fn a_structure_with_notations(rt: HostRuntime) {
+    let a = rt.alloc();
+    let row = Row {
+        notations: &["(A.M1 b0 b9)", "(A.M2 b0 b9)"],
+        ..PAIRS
+    };
+    check(&rt, a, pairs(&rt, a, two_notations(&rt, a)), &row);
+}
+
+#[test]
+fn structures_that_differ(rt: HostRuntime) {
+    let a = rt.alloc();
+    let first = pairs(&rt, a, Notations::new(a));
+    let second = pairs(&rt, a, two_notations(&rt, a));
+    assert!(rt; !item_equal(&first, &second));
+}
+
+/// `let X be set; { O1(x) where x is M1 of X : R1[x] }`, the symbol being O2, and the same with O1(x,X) and R1[x,X].
+#[test]
+fn set_terms(rt: HostRuntime) {
+    let a = rt.alloc();
+    let item = SetTerm {
+        loci: sets(&rt, a, 1),
+        sym: sym(Kind::Functor, 2),
+        ty: mode(&rt, a, 1, &[0]),
+        term: term(&rt, a, 1, &[0]),
+        formula: atom(&rt, a, 1, &[0]),
+    };
+    let row = Row {
+        owed: &[
+            "|- (all (not (all (not (all (and (not (and (HIDDEN.R1 b0 b1) (all (not (and (A.M1 b3 b0) (and (= b1 (A.O1 b0)) (A.R1 b0))))))) (not (and (not (all (not (and (A.M1 b3 b0) (and (= b1 (A.O1 b0)) (A.R1 b0)))))) (not (HIDDEN.R1 b0 b1))))))))))",
+        ],
+        granted: &[
+            "(all (all (and (not (and (HIDDEN.R1 b0 (A.O2 b1)) (all (not (and (A.M1 b2 b0) (and (= b1 (A.O1 b0)) (A.R1 b0))))))) (not (and (not (all (not (and (A.M1 b2 b0) (and (= b1 (A.O1 b0)) (A.R1 b0)))))) (not (HIDDEN.R1 b0 (A.O2 b1))))))))",
+        ],
+        theses: &[(
+            Condition::Existence,
+            "(not (all (not (all (and (not (and (HIDDEN.R1 b0 b1) (all (not (and (A.M1 b3 b0) (and (= b1 (A.O1 b0)) (A.R1 b0))))))) (not (and (not (all (not (and (A.M1 b3 b0) (and (= b1 (A.O1 b0)) (A.R1 b0)))))) (not (HIDDEN.R1 b0 b1)))))))))",
+        )],
+        ..NOTHING
+    };
+    check(&rt, a, Item::SetTerm(item), &row);
+    let with_locus = SetTerm {
+        loci: sets(&rt, a, 1),
+        sym: sym(Kind::Functor, 2),
+        ty: mode(&rt, a, 1, &[0]),
+        term: term(&rt, a, 1, &[0, 1]),
+        formula: atom(&rt, a, 1, &[0, 1]),
+    };
+    let row = Row {
+        owed: &[
+            "|- (all (not (all (not (all (and (not (and (HIDDEN.R1 b0 b1) (all (not (and (A.M1 b3 b0) (and (= b1 (A.O1 b0 b3)) (A.R1 b0 b3))))))) (not (and (not (all (not (and (A.M1 b3 b0) (and (= b1 (A.O1 b0 b3)) (A.R1 b0 b3)))))) (not (HIDDEN.R1 b0 b1))))))))))",
+        ],
+        granted: &[
+            "(all (all (and (not (and (HIDDEN.R1 b0 (A.O2 b1)) (all (not (and (A.M1 b2 b0) (and (= b1 (A.O1 b0 b2)) (A.R1 b0 b2))))))) (not (and (not (all (not (and (A.M1 b2 b0) (and (= b1 (A.O1 b0 b2)) (A.R1 b0 b2)))))) (not (HIDDEN.R1 b0 (A.O2 b1))))))))",
+        ],
+        theses: &[(
+            Condition::Existence,
+            "(not (all (not (all (and (not (and (HIDDEN.R1 b0 b1) (all (not (and (A.M1 b3 b0) (and (= b1 (A.O1 b0 b3)) (A.R1 b0 b3))))))) (not (and (not (all (not (and (A.M1 b3 b0) (and (= b1 (A.O1 b0 b3)) (A.R1 b0 b3)))))) (not (HIDDEN.R1 b0 b1)))))))))",
+        )],
+        ..NOTHING
+    };
+    check(&rt, a, Item::SetTerm(with_locus), &row);
 }
 
 /// `let X be set; the M1 of X`, the symbol being O1.
-pub fn choice(rt: &impl Abort, alloc: Global) -> Item {
-    let loci = sets(rt, alloc, 1);
-    let ty = mode(rt, alloc, 1, &[0]);
-    Item::Choice(Choice {
-        loci,
-        sym: sym(Kind::Functor, 1),
-        ty,
-    })
-}
-
 #[test]
 fn a_choice(rt: HostRuntime) {
-    let item = choice(&rt, rt.alloc());
-    let owed = "|- (all (not (all (not (and (A.M1 b1 b0) true)))))";
-    assert!(rt;
-        is_row(
-            &rt,
-            rt.alloc(),
-            &item,
-            &[owed],
-            &["(all (A.M1 b0 (A.O1 b0)))"]
-        )
-    );
+    let a = rt.alloc();
+    let item = Choice {
+        loci: sets(&rt, a, 1),
+        sym: sym(Kind::Functor, 1),
+        ty: mode(&rt, a, 1, &[0]),
+    };
+    let row = Row {
+        owed: &["|- (all (not (all (not (and (A.M1 b1 b0) true)))))"],
+        granted: &["(all (A.M1 b0 (A.O1 b0)))"],
+        theses: &[(
+            Condition::Existence,
+            "(not (all (not (and (A.M1 b1 b0) true))))",
+        )],
+        ..NOTHING
+    };
+    check(&rt, a, Item::Choice(item), &row);
 }

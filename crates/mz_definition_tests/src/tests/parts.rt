@@ -9,7 +9,6 @@ use mz_core::soft_type::SoftType;
 use mz_core::soft_types::SoftTypes;
 use mz_core::statement::Statement;
 use mz_logic::kind::Kind;
-use mz_logic::literal::Literal;
 use mz_logic::sym::Sym;
 use mz_logic::term::{Term, Terms};
 use std::alloc::Global;
@@ -42,22 +41,6 @@ pub fn term(rt: &impl Abort, alloc: Global, number: u32, indices: &[u32]) -> Ter
 pub fn atom(rt: &impl Abort, alloc: Global, number: u32, indices: &[u32]) -> Statement {
     let args = bounds(rt, alloc, indices);
     Statement::atom(sym(Kind::Predicate, number), args)
-}
-
-/// `sym[..]` or its negation.
-pub fn literal(
-    rt: &impl Abort,
-    alloc: Global,
-    positive: bool,
-    sym: Sym,
-    indices: &[u32],
-) -> Literal {
-    let args = bounds(rt, alloc, indices);
-    Literal::Atom {
-        positive,
-        sym,
-        args,
-    }
 }
 
 /// `Mn of ..`.
