@@ -1,0 +1,5 @@
+//! Tests of the clauses that items give.
+#![tactic(auto)]
+
+#[cfg(test)]
+mod tests;
