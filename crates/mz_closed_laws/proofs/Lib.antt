@@ -1,0 +1,12 @@
+pub mod LiteralLemmas
+pub mod GroupLemmas
+pub mod ValueLemmas
+pub mod DefinitionProofs
+pub mod StructureProofs
+pub mod PropertyProofs
+pub mod ItemProofs
+pub mod UnfoldingProofs
+pub mod NotationProofs
+pub mod CitedProofs
+pub mod EnvironmentProofs
+pub mod FormulaProofs

@@ -1,0 +1,4 @@
+pub mod ClosedClauses
+pub mod ClosedLaws
+pub mod ClosedEnvironment
+pub mod EnvironmentLaws

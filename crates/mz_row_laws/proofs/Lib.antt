@@ -1,0 +1,3 @@
+pub mod IndexLemmas
+pub mod MemberLemmas
+pub mod RowProofs
