@@ -1,0 +1,5 @@
+pub mod Keywords
+pub mod ReferenceSteps
+pub mod SimpleSteps
+pub mod Taken
+pub mod Unique

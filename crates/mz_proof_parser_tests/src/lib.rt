@@ -1,0 +1,7 @@
+//! Tests of the parsers of proofs.
+#![tactic(auto)]
+
+#[cfg(test)]
+mod justifications;
+#[cfg(test)]
+mod texts;
