@@ -1,0 +1,4 @@
+//! The unfoldings of items derive from what these grant or owe.
+#![tactic(auto)]
+
+pub mod laws;
