@@ -1,282 +1,185 @@
 //! Small problems with their disjuncts, worked out by hand.
-use mz_logic::disjunct::Disjunct;
-use mz_logic::disjuncts::Disjuncts;
-use mz_logic::formula::{Formula, FormulaNode};
-use mz_logic::formulas::Formulas;
-use mz_logic::kind::Kind;
-use mz_logic::sym::Sym;
-use mz_logic::term::{Term, TermNode, Terms};
+use mz_logic::texts::push_formula;
 use mz_nf::disjuncts::disjuncts;
 use mz_nf::nf_fault::NfFault;
 use mz_nf::problem::Problem;
-use std::alloc::{AllocError, Global};
-use std::test::Fail;
+use mz_samples::parts::sequent;
+use std::alloc::Global;
+use std::process::Abort;
 
-// Formulas are written in postfix notation. A digit is a constant; `x`, `y`, `z`, `w` are the indices
-// 0 to 3. `P` makes an atom of one term, `R` one of two, `=` an equation; `T` is truth, `!` negation,
-// `&` conjunction, `A` a quantifier; any other letter is an atom without terms. A problem is its
-// premises and then its conclusion. A disjunct is its literals, `/`, its universals and `;`.
-#[derive(Drop)]
-struct Stack {
-    terms: Terms,
-    formulas: Formulas,
-}
-
-fn sym(letter: u8) -> Sym {
-    Sym {
-        article: 0,
-        kind: Kind::Predicate,
-        number: letter as u32,
+/// The problem of a text: its premises and its conclusion, as those of a sequent.
+fn problem(rt: &impl Abort, alloc: Global, text: &str) -> Problem {
+    let s = sequent(alloc, text).expect(rt, "a sequent");
+    Problem {
+        premises: s.premises,
+        conclusion: s.conclusion,
     }
 }
 
-impl Stack {
-    fn term(&mut self) -> Result<Term, AllocError> {
-        self.terms.items.pop().ok_or(AllocError)
-    }
-
-    fn formula(&mut self) -> Result<Formula, AllocError> {
-        self.formulas.items.pop().ok_or(AllocError)
-    }
-
-    fn atom(&mut self, alloc: Global, letter: u8) -> Result<(), AllocError> {
-        let mut args = Terms::new(alloc);
-        match letter {
-            b'P' => args.push(self.term()?)?,
-            b'R' => {
-                let second = self.term()?;
-                args.push(self.term()?)?;
-                args.push(second)?
-            }
-            _ => {}
-        }
-        self.formulas.push(Formula::atom(sym(letter), args))
-    }
-
-    fn equation(&mut self) -> Result<(), AllocError> {
-        let right = self.term()?;
-        let left = self.term()?;
-        self.formulas.push(Formula::equation(left, right))
-    }
-
-    fn negate(&mut self, alloc: Global) -> Result<(), AllocError> {
-        let f = Formula::not(alloc, self.formula()?)?;
-        self.formulas.push(f)
-    }
-
-    fn join(&mut self, alloc: Global) -> Result<(), AllocError> {
-        let g = self.formula()?;
-        let f = Formula::and(alloc, self.formula()?, g)?;
-        self.formulas.push(f)
-    }
-
-    fn quantify(&mut self, alloc: Global) -> Result<(), AllocError> {
-        let f = Formula::all(alloc, self.formula()?)?;
-        self.formulas.push(f)
-    }
-
-    fn put(&mut self, alloc: Global, c: u8) -> Result<(), AllocError> {
-        match c {
-            b' ' => Ok(()),
-            b'0'..=b'9' => self.terms.push(Term::constant((c - b'0') as u32)),
-            b'x' => self.terms.push(Term::bound(0)),
-            b'y' => self.terms.push(Term::bound(1)),
-            b'z' => self.terms.push(Term::bound(2)),
-            b'w' => self.terms.push(Term::bound(3)),
-            b'T' => self.formulas.push(Formula::truth()),
-            b'=' => self.equation(),
-            b'!' => self.negate(alloc),
-            b'&' => self.join(alloc),
-            b'A' => self.quantify(alloc),
-            _ => self.atom(alloc, c),
-        }
-    }
-}
-
-fn problem(alloc: Global, text: &[u8]) -> Result<Problem, AllocError> {
-    let mut stack = Stack {
-        terms: Terms::new(alloc),
-        formulas: Formulas::new(alloc),
-    };
-    for c in text {
-        stack.put(alloc, *c)?;
-    }
-    let conclusion = stack.formula()?;
-    Ok(Problem {
-        premises: stack.formulas,
-        conclusion,
-    })
-}
-
-fn show_term(out: &mut Vec<u8>, t: &Term) -> Result<(), AllocError> {
-    let c = match &t.node {
-        TermNode::Bound(0) => b'x',
-        TermNode::Bound(1) => b'y',
-        TermNode::Bound(2) => b'z',
-        TermNode::Bound(_) => b'w',
-        TermNode::Const(number) => b'0' + (*number % 10) as u8,
-        TermNode::App(_, _) => b'?',
-    };
-    out.push(c)?;
-    Ok(())
-}
-
-fn show(out: &mut Vec<u8>, f: &Formula) -> Result<(), AllocError> {
-    match &f.node {
-        FormulaNode::Truth => out.push(b'T')?,
-        FormulaNode::Eq(t, u) => {
-            show_term(out, t)?;
-            show_term(out, u)?;
-            out.push(b'=')?
-        }
-        FormulaNode::Atom(s, ts) => {
-            for t in &ts.items {
-                show_term(out, t)?;
-            }
-            out.push((s.number % 128) as u8)?
-        }
-        FormulaNode::Not(g) => {
-            show(out, g)?;
-            out.push(b'!')?
-        }
-        FormulaNode::And(g, h) => {
-            show(out, g)?;
-            show(out, h)?;
-            out.push(b'&')?
-        }
-        FormulaNode::All(b) => {
-            show(out, b)?;
-            out.push(b'A')?
-        }
-    }
-    Ok(())
-}
-
-fn show_disjunct(alloc: Global, out: &mut Vec<u8>, d: &Disjunct) -> Result<(), AllocError> {
-    for l in &d.literals.items {
-        show(out, &l.formula(alloc)?)?;
-    }
-    out.push(b'/')?;
-    for f in &d.universals.items {
-        show(out, f)?;
-    }
-    out.push(b';')?;
-    Ok(())
-}
-
-fn shown(alloc: Global, ds: &Disjuncts) -> Result<Vec<u8>, AllocError> {
+/// The problem's disjuncts: of each its literals, `/` and its universals, with `;` at its end.
+fn found(rt: &impl Abort, alloc: Global, text: &str) -> Vec<u8> {
+    let ds = disjuncts(alloc, &problem(rt, alloc, text)).expect(rt, "disjuncts");
     let mut out = Vec::new(alloc);
     for d in &ds.items {
-        show_disjunct(alloc, &mut out, d)?;
+        for l in &d.literals.items {
+            let f = l.formula(alloc).expect(rt, "memory");
+            push_formula(alloc, &mut out, &f).expect(rt, "memory");
+            out.push(b' ').expect(rt, "memory");
+        }
+        out.push(b'/').expect(rt, "memory");
+        for f in &d.universals.items {
+            out.push(b' ').expect(rt, "memory");
+            push_formula(alloc, &mut out, f).expect(rt, "memory");
+        }
+        out.push(b';').expect(rt, "memory");
     }
-    Ok(out)
+    out
 }
 
-/// What is obvious of small problems: premises, conclusion, disjuncts.
+/// What is obvious of small problems, and their disjuncts.
 #[test]
-fn small_problems(rt: HostRuntime) -> Result<(), Fail> {
-    let alloc = rt.alloc();
+fn small_problems(rt: HostRuntime) {
     for (text, want) in [
         // Premises in order, and then the negated conclusion.
-        ("a b c", "abc!/;"),
-        ("T", ""),
-        ("T!", "/;"),
+        ("A.R1, A.R2 |- A.R3", "A.R1 A.R2 (not A.R3) /;"),
+        ("|- true", ""),
+        ("|- (not true)", "/;"),
         // Double negations vanish at every depth.
-        ("a!! b!!! c!", "ab!c/;"),
+        (
+            "(not (not A.R1)), (not (not (not A.R2))) |- (not A.R3)",
+            "A.R1 (not A.R2) A.R3 /;",
+        ),
         // All pairs, the left one slowest; the negated left part before the negated right part.
-        ("ab&! cd&! T!", "a!c!/;a!d!/;b!c!/;b!d!/;"),
-        ("ab&cd&!& T!", "abc!/;abd!/;"),
-        ("a a", "aa!/;"),
-        ("a aa&", "aa!/;aa!/;"),
+        (
+            "(not (and A.R1 A.R2)), (not (and A.R3 A.R4)) |- (not true)",
+            "(not A.R1) (not A.R3) /;(not A.R1) (not A.R4) /;(not A.R2) (not A.R3) /;(not A.R2) (not A.R4) /;",
+        ),
+        (
+            "(and (and A.R1 A.R2) (not (and A.R3 A.R4))) |- (not true)",
+            "A.R1 A.R2 (not A.R3) /;A.R1 A.R2 (not A.R4) /;",
+        ),
+        ("A.R1 |- A.R1", "A.R1 (not A.R1) /;"),
+        (
+            "A.R1 |- (and A.R1 A.R1)",
+            "A.R1 (not A.R1) /;A.R1 (not A.R1) /;",
+        ),
         // Truth in a conjunction, and in a negated one.
-        ("Ta& aT&", "aa!/;"),
-        ("aT!& b", ""),
+        ("(and true A.R1) |- (and A.R1 true)", "A.R1 (not A.R1) /;"),
+        ("(and A.R1 (not true)) |- A.R2", ""),
         // Negated universals in both parts of a conjunction, and in both of a negated one.
-        ("xPA! xPA!& T!", "1P!2P!/;"),
-        ("xPAxPA&", "1P!/;2P!/;"),
+        (
+            "(and (not (all (A.R5 b0))) (not (all (A.R5 b0)))) |- (not true)",
+            "(not (A.R5 c1)) (not (A.R5 c2)) /;",
+        ),
+        (
+            "|- (and (all (A.R5 b0)) (all (A.R5 b0)))",
+            "(not (A.R5 c1)) /;(not (A.R5 c2)) /;",
+        ),
         // The same constant in each disjunct that comes from it; none that the problem has.
-        ("xPA! ab&!& T!", "1P!a!/;1P!b!/;"),
-        ("1P 3P xPAxPA&", "1P3P2P!/;1P3P4P!/;"),
-        ("2PxPA!& 02R", "2P1P!02R!/;"),
+        (
+            "(and (not (all (A.R5 b0))) (not (and A.R1 A.R2))) |- (not true)",
+            "(not (A.R5 c1)) (not A.R1) /;(not (A.R5 c1)) (not A.R2) /;",
+        ),
+        (
+            "(A.R5 c1), (A.R5 c3) |- (and (all (A.R5 b0)) (all (A.R5 b0)))",
+            "(A.R5 c1) (A.R5 c3) (not (A.R5 c2)) /;(A.R5 c1) (A.R5 c3) (not (A.R5 c4)) /;",
+        ),
+        (
+            "(and (A.R5 c2) (not (all (A.R5 b0)))) |- (A.R6 c0 c2)",
+            "(A.R5 c2) (not (A.R5 c1)) (not (A.R6 c0 c2)) /;",
+        ),
         // A place takes its constant in each disjunct, also where that doesn't have it.
-        ("1P a!xPA&! xPA", "1Pa3P!/;1P2P!3P!/;"),
+        (
+            "(A.R5 c1), (not (and (not A.R1) (all (A.R5 b0)))) |- (all (A.R5 b0))",
+            "(A.R5 c1) A.R1 (not (A.R5 c3)) /;(A.R5 c1) (not (A.R5 c2)) (not (A.R5 c3)) /;",
+        ),
         // An outer one before those in its body.
-        ("yxRAA", "12R!/;"),
-        ("yxRAAxPA&", "12R!/;3P!/;"),
+        ("|- (all (all (A.R6 b1 b0)))", "(not (A.R6 c1 c2)) /;"),
+        (
+            "|- (and (all (all (A.R6 b1 b0))) (all (A.R5 b0)))",
+            "(not (A.R6 c1 c2)) /;(not (A.R5 c3)) /;",
+        ),
         // A part without disjuncts takes its constant.
-        ("xPA!T!& ! b! &! xPA", "b2P!/;"),
-        ("T!xPA!& ! b! &! xPA", "b2P!/;"),
+        (
+            "(not (and (not (and (not (all (A.R5 b0))) (not true))) (not A.R2))) |- (all (A.R5 b0))",
+            "A.R2 (not (A.R5 c2)) /;",
+        ),
+        (
+            "(not (and (not (and (not true) (not (all (A.R5 b0))))) (not A.R2))) |- (all (A.R5 b0))",
+            "A.R2 (not (A.R5 c2)) /;",
+        ),
         // A universal is listed as it is written.
-        ("xP!!A !! b", "b!/xP!!A;"),
-        ("xPA xP!A!", "/xPAxP!A;"),
+        (
+            "(not (not (all (not (not (A.R5 b0)))))) |- A.R2",
+            "(not A.R2) / (all (not (not (A.R5 b0))));",
+        ),
+        (
+            "(all (A.R5 b0)) |- (not (all (not (A.R5 b0))))",
+            "/ (all (A.R5 b0)) (all (not (A.R5 b0)));",
+        ),
     ] {
-        let p = problem(alloc, text.as_bytes())?;
-        let ds = disjuncts(alloc, &p)?;
-        let found = shown(alloc, &ds)?;
+        let found = found(&rt, rt.alloc(), text);
         assert_eq!(rt; found.as_slice(), want.as_bytes(), "at {text}");
     }
-    Ok(())
 }
 
 /// From `for x,y ex z st for a holds a in z iff a = x or a = y` to `ex z st for a holds a in z iff a = 1
 /// or a = 1`, and from nothing to `1 = 1 & 1 = 2`.
 #[test]
-fn existence_of_a_pair(rt: HostRuntime) -> Result<(), Fail> {
-    let alloc = rt.alloc();
+fn existence_of_a_pair(rt: HostRuntime) {
     for (text, want) in [
         (
-            "xyRxw=!xz=!&&!xw=!xz=!&!xyR!&!&A!A!AA xyRx1=!x1=!&&!x1=!x1=!&!xyR!&!&A!A!",
-            "/xyRxw=!xz=!&&!xw=!xz=!&!xyR!&!&A!A!AAxyRx1=!x1=!&&!x1=!x1=!&!xyR!&!&A!A;",
+            "(all (all (not (all (not (all (and (not (and (A.R6 b0 b1) (and (not (= b0 b3)) (not (= b0 b2))))) (not (and (not (and (not (= b0 b3)) (not (= b0 b2)))) (not (A.R6 b0 b1))))))))))) |- (not (all (not (all (and (not (and (A.R6 b0 b1) (and (not (= b0 c1)) (not (= b0 c1))))) (not (and (not (and (not (= b0 c1)) (not (= b0 c1)))) (not (A.R6 b0 b1)))))))))",
+            "/ (all (all (not (all (not (all (and (not (and (A.R6 b0 b1) (and (not (= b0 b3)) (not (= b0 b2))))) (not (and (not (and (not (= b0 b3)) (not (= b0 b2)))) (not (A.R6 b0 b1))))))))))) (all (not (all (and (not (and (A.R6 b0 b1) (and (not (= b0 c1)) (not (= b0 c1))))) (not (and (not (and (not (= b0 c1)) (not (= b0 c1)))) (not (A.R6 b0 b1))))))));",
         ),
-        ("11=12=&", "11=!/;12=!/;"),
+        (
+            "|- (and (= c1 c1) (= c1 c2))",
+            "(not (= c1 c1)) /;(not (= c1 c2)) /;",
+        ),
     ] {
-        let p = problem(alloc, text.as_bytes())?;
-        let ds = disjuncts(alloc, &p)?;
-        let found = shown(alloc, &ds)?;
+        let found = found(&rt, rt.alloc(), text);
         assert_eq!(rt; found.as_slice(), want.as_bytes(), "at {text}");
     }
-    Ok(())
 }
 
-/// `1 in 2 or 2 in 1`, so many times, and then `1 = 1`.
-fn repeated(alloc: Global, times: u32) -> Result<Problem, AllocError> {
-    let mut text = Vec::new(alloc);
+/// From `1 in 2 or 2 in 1`, so many times, to `1 = 1`.
+fn repeated(rt: &impl Abort, alloc: Global, times: u32) -> String {
+    let mut text = String::new(alloc);
     for _ in 0..times {
-        text.extend_from_slice(b"12R!21R!&!")?;
+        text.push_str("(or (A.R6 c1 c2) (A.R6 c2 c1)), ")
+            .expect(rt, "memory");
     }
-    text.extend_from_slice(b"11=")?;
-    problem(alloc, text.as_slice())
+    text.push_str("|- (= c1 c1)").expect(rt, "memory");
+    text
 }
 
 /// Each choice of one part of ten, the first varying slowest.
-fn choices(alloc: Global) -> Result<Vec<u8>, AllocError> {
+fn choices(rt: &impl Abort, alloc: Global) -> Vec<u8> {
     let mut text = Vec::new(alloc);
     for k in 0u32..1024 {
         for j in 0u32..10 {
-            if (k >> (9 - j)) % 2 == 0 {
-                text.extend_from_slice(b"12R")?;
+            let part: &[u8] = if (k >> (9 - j)) % 2 == 0 {
+                b"(A.R6 c1 c2) "
             } else {
-                text.extend_from_slice(b"21R")?;
-            }
+                b"(A.R6 c2 c1) "
+            };
+            text.extend_from_slice(part).expect(rt, "memory");
         }
-        text.extend_from_slice(b"11=!/;")?;
+        text.extend_from_slice(b"(not (= c1 c1)) /;")
+            .expect(rt, "memory");
     }
-    Ok(text)
+    text
 }
 
 #[test]
-fn as_many_as_there_may_be(rt: HostRuntime) -> Result<(), Fail> {
-    let alloc = rt.alloc();
-    let p = repeated(alloc, 10)?;
-    let ds = disjuncts(alloc, &p)?;
-    let found = shown(alloc, &ds)?;
-    let want = choices(alloc)?;
-    assert!(rt; found.as_slice() == want.as_slice());
-    Ok(())
+fn as_many_as_there_may_be(rt: HostRuntime) {
+    let text = repeated(&rt, rt.alloc(), 10);
+    let found = found(&rt, rt.alloc(), &text);
+    assert!(rt; found.as_slice() == choices(&rt, rt.alloc()).as_slice());
 }
 
 #[test]
-fn too_many(rt: HostRuntime) -> Result<(), Fail> {
+fn too_many(rt: HostRuntime) {
     let alloc = rt.alloc();
     for (times, want) in [
         (11, 2048),
@@ -284,28 +187,29 @@ fn too_many(rt: HostRuntime) -> Result<(), Fail> {
         (30, 1_000_000_000),
         (100, 1_000_000_000),
     ] {
-        let p = repeated(alloc, times)?;
-        match disjuncts(alloc, &p) {
+        let text = repeated(&rt, alloc, times);
+        match disjuncts(alloc, &problem(&rt, alloc, &text)) {
             Err(NfFault::TooManyDisjuncts { count }) => assert_eq!(rt; count, want),
             _ => assert!(rt; false, "at {times}"),
         }
     }
-    Ok(())
 }
 
 /// A part with very many disjuncts beside falsity has none, and none of it is made.
 #[test]
-fn many_beside_none(rt: HostRuntime) -> Result<(), Fail> {
-    let alloc = rt.alloc();
-    let mut text = Vec::new(alloc);
-    text.extend_from_slice(b"T")?;
+fn many_beside_none(rt: HostRuntime) {
+    let mut text = String::new(rt.alloc());
+    text.push_str("(or (and ").expect(&rt, "memory");
     for _ in 0..60 {
-        text.extend_from_slice(b"ab&!&")?;
+        text.push_str("(and ").expect(&rt, "memory");
     }
-    text.extend_from_slice(b"T!& ! b! &! c")?;
-    let p = problem(alloc, text.as_slice())?;
-    let ds = disjuncts(alloc, &p)?;
-    let found = shown(alloc, &ds)?;
-    assert!(rt; found.as_slice() == b"bc!/;".as_slice());
-    Ok(())
+    text.push_str("true").expect(&rt, "memory");
+    for _ in 0..60 {
+        text.push_str(" (not (and A.R1 A.R2)))")
+            .expect(&rt, "memory");
+    }
+    text.push_str(" (not true)) A.R2) |- A.R3")
+        .expect(&rt, "memory");
+    let found = found(&rt, rt.alloc(), &text);
+    assert!(rt; found.as_slice() == b"A.R2 (not A.R3) /;".as_slice());
 }
