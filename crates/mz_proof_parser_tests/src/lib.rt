@@ -4,4 +4,6 @@
 #[cfg(test)]
 mod justifications;
 #[cfg(test)]
+mod propositions;
+#[cfg(test)]
 mod texts;

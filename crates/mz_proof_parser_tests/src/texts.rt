@@ -8,6 +8,7 @@ use mz_lex::table::table;
 use mz_lex::tokens::tokens;
 use mz_marks::marks::Marks;
 use mz_pjustification::parse::simple;
+use mz_pproposition::parse::proposition;
 use mz_pterm::parse::ParseFault;
 use mz_tree::tree::Spell;
 use std::alloc::Global;
@@ -103,6 +104,7 @@ fn article_tokens(rt: &impl Abort, alloc: Global, text: &[u8]) -> Tokens {
 #[derive(Clone, Copy, Debug, PartialEq, Eq)]
 pub enum Part {
     Simple,
+    Proposition,
 }
 
 fn refused(fault: &ParseFault) -> Answer {
@@ -123,6 +125,10 @@ pub fn answered(rt: &impl Abort, alloc: Global, part: Part, text: &[u8]) -> Answ
     }
     match part {
         Part::Simple => match simple(alloc, all.as_slice(), tokens.end, 5) {
+            Ok((tree, until)) => taken(rt, alloc, &tree, all.as_slice(), until),
+            Err(fault) => refused(&fault),
+        },
+        Part::Proposition => match proposition(alloc, all.as_slice(), tokens.end, 5) {
             Ok((tree, until)) => taken(rt, alloc, &tree, all.as_slice(), until),
             Err(fault) => refused(&fault),
         },
