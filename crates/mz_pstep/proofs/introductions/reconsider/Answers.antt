@@ -1,0 +1,41 @@
+use Rattle.std.proofs.Common.{refl}
+use Rattle.std.proofs.lemmas.Result.{err_from_is_err_and}
+use Rattle.mz_forms.proofs.Words.{word_in_any, word_refuses}
+use Rattle.mz_base.specs.declared.place.Place.{Place}
+use Rattle.mz_pjustification.specs.declared.keyword.Keyword.TheVariants as keywords
+use Rattle.mz_pjustification.specs.Words.{key}
+use Rattle.mz_pstep.proofs.Sequences.{reconsider_refused_1, reconsider_refused_2, reconsider_refused_3, reconsider_refused_4, reconsider_refused_5, reconsider_refused_6, reconsider_found}
+use Rattle.mz_pstep.proofs.introductions.reconsider.Goals as goal
+
+pub returns-in_err-reconsider : goal.returns-in_err-reconsider
+returns-in_err-reconsider c =
+    let p = err_from_is_err_and c.from_residual.result c.from_residual.ensures.1 in
+    rw (p.1, p.2) (reconsider_refused_1 c.args.room _ _ _ (word_refuses Place (key keywords.Reconsider) c.args.room _ _ _ c.in_err-reconsider.ensures))
+
+pub returns-in_err-retyped : goal.returns-in_err-retyped
+returns-in_err-retyped c =
+    let p = err_from_is_err_and c.from_residual-in_err-retyped.result c.from_residual-in_err-retyped.ensures.1 in
+    rw (p.1, p.2) (reconsider_refused_2 c.args.room _ _ _ (word_in_any Place (key keywords.Reconsider) c.args.room _ _ _ c.in_ok-reconsider.ensures) _ _ c.in_err-retyped.ensures)
+
+pub returns-in_err-as_ : goal.returns-in_err-as_
+returns-in_err-as_ c =
+    let p = err_from_is_err_and c.from_residual-in_err-as_.result c.from_residual-in_err-as_.ensures.1 in
+    rw (p.1, p.2) (reconsider_refused_3 c.args.room _ _ _ (word_in_any Place (key keywords.Reconsider) c.args.room _ _ _ c.in_ok-reconsider.ensures) _ _ c.in_ok-retyped.ensures _ _ (word_refuses Place (key keywords.As) c.args.room _ _ _ c.in_err-as_.ensures))
+
+pub returns-in_err-node : goal.returns-in_err-node
+returns-in_err-node c =
+    let p = err_from_is_err_and c.from_residual-in_err-node.result c.from_residual-in_err-node.ensures.1 in
+    rw (p.1, p.2) (reconsider_refused_4 c.args.room _ _ _ (word_in_any Place (key keywords.Reconsider) c.args.room _ _ _ c.in_ok-reconsider.ensures) _ _ c.in_ok-retyped.ensures _ _ (word_in_any Place (key keywords.As) c.args.room _ _ _ c.in_ok-as_.ensures) _ _ c.in_err-node.ensures)
+
+pub returns-in_err-simple : goal.returns-in_err-simple
+returns-in_err-simple c =
+    let p = err_from_is_err_and c.from_residual-in_err-simple.result c.from_residual-in_err-simple.ensures.1 in
+    rw (p.1, p.2) (reconsider_refused_5 c.args.room _ _ _ (word_in_any Place (key keywords.Reconsider) c.args.room _ _ _ c.in_ok-reconsider.ensures) _ _ c.in_ok-retyped.ensures _ _ (word_in_any Place (key keywords.As) c.args.room _ _ _ c.in_ok-as_.ensures) _ _ c.in_ok-node.ensures _ _ c.in_err-simple.ensures)
+
+pub returns-in_err-semicolon : goal.returns-in_err-semicolon
+returns-in_err-semicolon c =
+    let p = err_from_is_err_and c.from_residual-in_err-semicolon.result c.from_residual-in_err-semicolon.ensures.1 in
+    rw (p.1, p.2) (reconsider_refused_6 c.args.room _ _ _ (word_in_any Place (key keywords.Reconsider) c.args.room _ _ _ c.in_ok-reconsider.ensures) _ _ c.in_ok-retyped.ensures _ _ (word_in_any Place (key keywords.As) c.args.room _ _ _ c.in_ok-as_.ensures) _ _ c.in_ok-node.ensures _ _ c.in_ok-simple.ensures _ _ (word_refuses Place (key keywords.Semicolon) c.args.room _ _ _ c.in_err-semicolon.ensures))
+
+pub returns : goal.returns
+returns c = (_, reconsider_found c.args.room _ _ _ (word_in_any Place (key keywords.Reconsider) c.args.room _ _ _ c.in_ok-reconsider.ensures) _ _ c.in_ok-retyped.ensures _ _ (word_in_any Place (key keywords.As) c.args.room _ _ _ c.in_ok-as_.ensures) _ _ c.in_ok-node.ensures _ _ c.in_ok-simple.ensures _ _ (word_in_any Place (key keywords.Semicolon) c.args.room _ _ _ c.in_ok-semicolon.ensures), rw c.from_node-ty.ensures refl)
