@@ -11,8 +11,8 @@ use mz_logic::kind::Kind;
 use mz_logic::sym::Sym;
 use mz_logic::term::{Term, Terms};
 use mz_nf::problem::Problem;
-use std::alloc::{AllocError, Global};
-use std::test::Fail;
+use std::alloc::Global;
+use std::process::Abort;
 
 // Formulas are written in postfix notation. A digit is a constant; `x`, `y`, `z` and `w` are the indices 0 to 3;
 // `f` is a functor of one term. `P`, `Q` and `S` make an atom of one term, `E` one of two, `=` an equation; `T` is truth,
@@ -33,107 +33,119 @@ fn sym(kind: Kind, letter: u8) -> Sym {
 }
 
 impl Stack {
-    fn term(&mut self) -> Result<Term, AllocError> {
-        self.terms.items.pop().ok_or(AllocError)
+    fn term(&mut self, rt: &impl Abort) -> Term {
+        self.terms.items.pop().expect(rt, "a term")
     }
 
-    fn formula(&mut self) -> Result<Formula, AllocError> {
-        self.formulas.items.pop().ok_or(AllocError)
+    fn formula(&mut self, rt: &impl Abort) -> Formula {
+        self.formulas.items.pop().expect(rt, "a formula")
     }
 
-    fn apply(&mut self, alloc: Global) -> Result<(), AllocError> {
+    fn put_term(&mut self, rt: &impl Abort, t: Term) {
+        self.terms.push(t).expect(rt, "memory");
+    }
+
+    fn put_formula(&mut self, rt: &impl Abort, f: Formula) {
+        self.formulas.push(f).expect(rt, "memory");
+    }
+
+    // The last terms, as many as the count.
+    fn args(&mut self, rt: &impl Abort, alloc: Global, count: usize) -> Terms {
+        let last = self.term(rt);
         let mut args = Terms::new(alloc);
-        args.push(self.term()?)?;
-        self.terms.push(Term::apply(sym(Kind::Functor, b'f'), args))
-    }
-
-    fn atom(&mut self, alloc: Global, letter: u8) -> Result<(), AllocError> {
-        let mut args = Terms::new(alloc);
-        let last = self.term()?;
-        if letter == b'E' {
-            args.push(self.term()?)?;
+        if count == 2 {
+            args.push(self.term(rt)).expect(rt, "memory");
         }
-        args.push(last)?;
-        self.formulas
-            .push(Formula::atom(sym(Kind::Predicate, letter), args))
+        args.push(last).expect(rt, "memory");
+        args
     }
 
-    fn equation(&mut self) -> Result<(), AllocError> {
-        let right = self.term()?;
-        let left = self.term()?;
-        self.formulas.push(Formula::equation(left, right))
+    fn apply(&mut self, rt: &impl Abort, alloc: Global) {
+        let args = self.args(rt, alloc, 1);
+        self.put_term(rt, Term::apply(sym(Kind::Functor, b'f'), args));
     }
 
-    fn negate(&mut self, alloc: Global) -> Result<(), AllocError> {
-        let f = Formula::not(alloc, self.formula()?)?;
-        self.formulas.push(f)
+    fn atom(&mut self, rt: &impl Abort, alloc: Global, letter: u8) {
+        let args = self.args(rt, alloc, if letter == b'E' { 2 } else { 1 });
+        self.put_formula(rt, Formula::atom(sym(Kind::Predicate, letter), args));
     }
 
-    fn join(&mut self, alloc: Global) -> Result<(), AllocError> {
-        let g = self.formula()?;
-        let f = Formula::and(alloc, self.formula()?, g)?;
-        self.formulas.push(f)
+    fn equation(&mut self, rt: &impl Abort) {
+        let right = self.term(rt);
+        let left = self.term(rt);
+        self.put_formula(rt, Formula::equation(left, right));
+    }
+
+    fn negate(&mut self, rt: &impl Abort, alloc: Global) {
+        let f = self.formula(rt);
+        self.put_formula(rt, Formula::not(alloc, f).expect(rt, "memory"));
+    }
+
+    fn join(&mut self, rt: &impl Abort, alloc: Global) {
+        let g = self.formula(rt);
+        let f = self.formula(rt);
+        self.put_formula(rt, Formula::and(alloc, f, g).expect(rt, "memory"));
     }
 
     /// `not (not f & not g)`.
-    fn either(&mut self, alloc: Global) -> Result<(), AllocError> {
-        self.negate(alloc)?;
-        let g = self.formula()?;
-        self.negate(alloc)?;
-        self.formulas.push(g)?;
-        self.join(alloc)?;
-        self.negate(alloc)
+    fn either(&mut self, rt: &impl Abort, alloc: Global) {
+        self.negate(rt, alloc);
+        let g = self.formula(rt);
+        self.negate(rt, alloc);
+        self.put_formula(rt, g);
+        self.join(rt, alloc);
+        self.negate(rt, alloc);
     }
 
     /// `not (f & not g)`.
-    fn implies(&mut self, alloc: Global) -> Result<(), AllocError> {
-        self.negate(alloc)?;
-        self.join(alloc)?;
-        self.negate(alloc)
+    fn implies(&mut self, rt: &impl Abort, alloc: Global) {
+        self.negate(rt, alloc);
+        self.join(rt, alloc);
+        self.negate(rt, alloc);
     }
 
-    fn quantify(&mut self, alloc: Global) -> Result<(), AllocError> {
-        let f = Formula::all(alloc, self.formula()?)?;
-        self.formulas.push(f)
+    fn quantify(&mut self, rt: &impl Abort, alloc: Global) {
+        let f = self.formula(rt);
+        self.put_formula(rt, Formula::all(alloc, f).expect(rt, "memory"));
     }
 
-    fn put(&mut self, alloc: Global, c: u8) -> Result<(), AllocError> {
+    fn put(&mut self, rt: &impl Abort, alloc: Global, c: u8) {
         match c {
-            b'x'..=b'z' => self.terms.push(Term::bound(u32::from(c - b'x'))),
-            b'w' => self.terms.push(Term::bound(3)),
-            b'0'..=b'9' => self.terms.push(Term::constant(u32::from(c - b'0'))),
-            b'f' => self.apply(alloc),
-            b'P' | b'Q' | b'S' | b'E' => self.atom(alloc, c),
-            b'=' => self.equation(),
-            b'T' => self.formulas.push(Formula::truth()),
-            b'!' => self.negate(alloc),
-            b'&' => self.join(alloc),
-            b'|' => self.either(alloc),
-            b'>' => self.implies(alloc),
-            b'A' => self.quantify(alloc),
-            _ => Ok(()),
+            b'x'..=b'z' => self.put_term(rt, Term::bound(u32::from(c - b'x'))),
+            b'w' => self.put_term(rt, Term::bound(3)),
+            b'0'..=b'9' => self.put_term(rt, Term::constant(u32::from(c - b'0'))),
+            b'f' => self.apply(rt, alloc),
+            b'P' | b'Q' | b'S' | b'E' => self.atom(rt, alloc, c),
+            b'=' => self.equation(rt),
+            b'T' => self.put_formula(rt, Formula::truth()),
+            b'!' => self.negate(rt, alloc),
+            b'&' => self.join(rt, alloc),
+            b'|' => self.either(rt, alloc),
+            b'>' => self.implies(rt, alloc),
+            b'A' => self.quantify(rt, alloc),
+            _ => {}
         }
     }
 }
 
-fn problem(alloc: Global, text: &str) -> Result<Problem, AllocError> {
+fn problem(rt: &impl Abort, alloc: Global, text: &str) -> Problem {
     let mut stack = Stack {
         terms: Terms::new(alloc),
         formulas: Formulas::new(alloc),
     };
     for c in text.as_bytes() {
-        stack.put(alloc, *c)?;
+        stack.put(rt, alloc, *c);
     }
-    let conclusion = stack.formula()?;
-    Ok(Problem {
+    let conclusion = stack.formula(rt);
+    Problem {
         premises: stack.formulas,
         conclusion,
-    })
+    }
 }
 
-fn verdict(alloc: Global, text: &str) -> Result<ByVerdict, AllocError> {
-    let p = problem(alloc, text)?;
-    by(alloc, &p, &Clauses::new(alloc))
+fn verdict(rt: &impl Abort, alloc: Global, text: &str) -> ByVerdict {
+    let p = problem(rt, alloc, text);
+    by(alloc, &p, &Clauses::new(alloc)).expect(rt, "memory")
 }
 
 const CLOSED: [&str; 26] = [
@@ -196,28 +208,26 @@ const OPEN: [(&str, u32); 15] = [
 ];
 
 #[test]
-fn problems_that_are_closed(rt: HostRuntime) -> Result<(), Fail> {
+fn problems_that_are_closed(rt: HostRuntime) {
     for text in CLOSED {
-        assert_eq!(rt; verdict(rt.alloc(), text)?, ByVerdict::Closed, "{text}");
+        assert_eq!(&rt; verdict(&rt, rt.alloc(), text), ByVerdict::Closed, "{text}");
     }
-    Ok(())
 }
 
 #[test]
-fn problems_with_an_open_disjunct(rt: HostRuntime) -> Result<(), Fail> {
+fn problems_with_an_open_disjunct(rt: HostRuntime) {
     for (text, disjunct) in OPEN {
-        assert_eq!(rt;
-            verdict(rt.alloc(), text)?,
+        assert_eq!(&rt;
+            verdict(&rt, rt.alloc(), text),
             ByVerdict::Open { disjunct },
             "{text}"
         );
     }
-    Ok(())
 }
 
 /// Ten disjunctions have 1,024 disjuncts, eleven 2,048; falsity beside them leaves none.
 #[test]
-fn problems_with_many_disjuncts(rt: HostRuntime) -> Result<(), Fail> {
+fn problems_with_many_disjuncts(rt: HostRuntime) {
     let over = ByVerdict::Over {
         limit: Limit::Disjuncts,
         number: 2048,
@@ -229,15 +239,14 @@ fn problems_with_many_disjuncts(rt: HostRuntime) -> Result<(), Fail> {
         ("1P2P| 11=", over),
         ("1P2P| T! T!", ByVerdict::Closed),
     ] {
-        let text = format!(in rt.alloc(); "{ten}{rest}")?;
-        assert_eq!(rt; verdict(rt.alloc(), &text)?, wanted, "{rest}");
+        let text = format!(in rt.alloc(); "{ten}{rest}").expect(&rt, "memory");
+        assert_eq!(&rt; verdict(&rt, rt.alloc(), &text), wanted, "{rest}");
     }
-    Ok(())
 }
 
 /// Facts `1 in 1`, .., `n in 1` and four atoms of eight variables: the work of the universal is the fourth power of n.
 #[test]
-fn work_of_a_universal(rt: HostRuntime) -> Result<(), Fail> {
+fn work_of_a_universal(rt: HostRuntime) {
     for (n, wanted) in [
         (56, ByVerdict::Closed),
         (
@@ -248,44 +257,38 @@ fn work_of_a_universal(rt: HostRuntime) -> Result<(), Fail> {
             },
         ),
     ] {
-        let p = pairs(rt.alloc(), n)?;
-        assert_eq!(rt;
-            by(rt.alloc(), &p, &Clauses::new(rt.alloc()))?,
-            wanted,
-            "{n}"
-        );
+        let p = pairs(&rt, rt.alloc(), n);
+        let found = by(rt.alloc(), &p, &Clauses::new(rt.alloc())).expect(&rt, "memory");
+        assert_eq!(&rt; found, wanted, "{n}");
     }
-    Ok(())
 }
 
-fn related(alloc: Global, t: Term, u: Term) -> Result<Formula, AllocError> {
+fn related(rt: &impl Abort, alloc: Global, t: Term, u: Term) -> Formula {
     let mut args = Terms::new(alloc);
-    args.push(t)?;
-    args.push(u)?;
-    Ok(Formula::atom(sym(Kind::Predicate, b'E'), args))
+    args.push(t).expect(rt, "memory");
+    args.push(u).expect(rt, "memory");
+    Formula::atom(sym(Kind::Predicate, b'E'), args)
 }
 
-fn pairs(alloc: Global, n: u32) -> Result<Problem, AllocError> {
+fn pairs(rt: &impl Abort, alloc: Global, n: u32) -> Problem {
     let mut premises = Formulas::new(alloc);
     for i in 0..n {
-        premises.push(related(
-            alloc,
-            Term::constant(i.saturating_add(2)),
-            Term::constant(1),
-        )?)?;
+        let number = Term::constant(i.saturating_add(2));
+        let premise = related(rt, alloc, number, Term::constant(1));
+        premises.push(premise).expect(rt, "memory");
     }
-    let mut body = related(alloc, Term::bound(7), Term::bound(6))?;
+    let mut body = related(rt, alloc, Term::bound(7), Term::bound(6));
     for i in [5, 3, 1] {
-        let next = related(alloc, Term::bound(i), Term::bound(i - 1))?;
-        body = Formula::and(alloc, body, next)?;
+        let next = related(rt, alloc, Term::bound(i), Term::bound(i - 1));
+        body = Formula::and(alloc, body, next).expect(rt, "memory");
     }
-    let mut universal = Formula::not(alloc, body)?;
+    let mut universal = Formula::not(alloc, body).expect(rt, "memory");
     for _ in 0..8 {
-        universal = Formula::all(alloc, universal)?;
+        universal = Formula::all(alloc, universal).expect(rt, "memory");
     }
-    premises.push(universal)?;
-    Ok(Problem {
+    premises.push(universal).expect(rt, "memory");
+    Problem {
         premises,
-        conclusion: Formula::not(alloc, Formula::truth())?,
-    })
+        conclusion: Formula::not(alloc, Formula::truth()).expect(rt, "memory"),
+    }
 }

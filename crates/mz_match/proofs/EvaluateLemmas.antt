@@ -1,6 +1,6 @@
 -- What is known of the class of a term is right of it.
-use Rattle.std.proofs.Common.{◌≡◌, ◌≤◌, ◌-◌, inl, inr, ℕ, zero, suc, List, [], ◌∷◌, ◌++◌, refl, arith, ap, sym, ◌∙◌, Bool, true, false, subst, append-nil, append_assoc}
-use Rattle.std.specs.Prelude.{slice_get, Option, None, Some, nat_lt, if◌then◌else◌}
+use Rattle.std.proofs.Common.{◌≡◌, ◌≤◌, ◌-◌, inl, inr, ℕ, zero, suc, List, [], ◌∷◌, ◌++◌, refl, arith, ap, sym, ◌∙◌, Bool, true, subst, append-nil, append_assoc}
+use Rattle.std.specs.Prelude.{slice_get, Option, None, Some, if◌then◌else◌}
 use Rattle.std.proofs.lemmas.Bool.Decides.{leb_tells}
 use Rattle.mz_logic.specs.Term as term
 use Rattle.mz_logic.specs.Term.{Term, Terms, Bound, Const, App}

@@ -1,19 +1,14 @@
 -- The rows of a table with one row more.
 use Rattle.std.proofs.Common.{◌≡◌, ◌<◌, ◌+◌, ◌⊎◌, inl, inr, ℕ, zero, suc, List, [], ◌∷◌, ◌++◌, length, set, refl, arith, ap, sym, ◌∙◌, subst, Bool, true, false}
-use Rattle.std.specs.Prelude.{nat_eq, if◌then◌else◌, slice_index_or, Some, None, Option}
-use Rattle.std.specs.BTreeMap.{get, BTreeMap, is_at}
+use Rattle.std.specs.Prelude.{if◌then◌else◌, slice_index_or, Some, None, Option}
+use Rattle.std.specs.BTreeMap.{is_at}
 use Rattle.std.specs.Map.{lookup}
-use Rattle.std.specs.Prelude.{cond, nat_lt}
-use Rattle.std.proofs.Common.{Less, Equal, Greater, is_eq}
-use Rattle.std.proofs.lemmas.Bool.Decides.{leb_tells}
 use Rattle.std.proofs.lemmas.Bool.Decides.{eqb_tells}
-use Rattle.mz_logic.specs.declared.sym.Sym.{Sym}
 use Rattle.std.specs.Ordering.{nat_cmp}
-use Rattle.mz_match.specs.Heads.{same_head}
+use Rattle.mz_match.specs.Heads.{same_head, number_of}
 use Rattle.mz_match.specs.Rows.{SomeOf}
-use Rattle.mz_match.specs.Table.{rows_in, count_in, group_of, rows_at, HasNoGroup, IsGroupAt, NoneBefore, IsAdded, IsAddedWhere, GroupsGrow, ConstantsGrow, Grows}
+use Rattle.mz_match.specs.Table.{rows_in, count_in, group_of, groups_at, groups_in, rows_at, HasNoGroup, IsGroupAt, NoneBefore, IsAdded, IsAddedWhere, GroupsGrow, Grows}
 use Rattle.mz_match.specs.declared.row.Head.{Head}
-use Rattle.mz_match.specs.declared.row.Head.TheVariants.{Constant, Functor, Holds, Fails, Disequal}
 use Rattle.mz_match.specs.declared.row.Row.{Row}
 use Rattle.mz_match.specs.declared.table.Group.{Group}
 use Rattle.mz_match.specs.declared.rows.Rows.{Rows}
@@ -103,93 +98,38 @@ pub told_new : (h : Head) (r : Row) (gs ks : List Group) (o : Rows) (k : Group) 
 unfolding GroupsGrow
 told_new h r gs ks o k a n e c m s = λ q. subst (λ (xs : List Group). IsAddedWhere (same_head h q) r (group_of q gs) (group_of q xs)) (sym s) (grown_end h q r gs k a n (same_before r (Some o) None (Some k.rows) e c m))
 
--- the whole table
-pub group_grows : (h : Head) (r : Row) (table next : Table) → ((n : ℕ) → same_head h (Constant n) ≡ false) → next.constants ≡ table.constants → GroupsGrow h r table.groups.items next.groups.items → Grows h r table next
-unfolding GroupsGrow Grows rows_at
-group_grows h r table next f e g (Constant n) =
-    subst (λ (b : Bool). IsAddedWhere b r (get nat_cmp table.constants n) (get nat_cmp next.constants n)) (sym (f n)) (ap (λ m. get nat_cmp m n) e)
-group_grows h r table next f e g (Functor s) = g (Functor s)
-group_grows h r table next f e g (Holds s) = g (Holds s)
-group_grows h r table next f e g (Fails s) = g (Fails s)
-group_grows h r table next f e g Disequal = g Disequal
-
-pub constant_grows : (n : ℕ) (r : Row) (table next : Table) → next.groups.items ≡ table.groups.items → ConstantsGrow n r table.constants next.constants → Grows (Constant n) r table next
-unfolding ConstantsGrow Grows rows_at
-constant_grows n r table next e g (Constant m) = g m
-constant_grows n r table next e g (Functor s) = ap (group_of (Functor s)) e
-constant_grows n r table next e g (Holds s) = ap (group_of (Holds s)) e
-constant_grows n r table next e g (Fails s) = ap (group_of (Fails s)) e
-constant_grows n r table next e g Disequal = ap (group_of Disequal) e
-
-pub functor_grows : (s : Sym) (r : Row) (table next : Table) → next.constants ≡ table.constants → GroupsGrow (Functor s) r table.groups.items next.groups.items → Grows (Functor s) r table next
-functor_grows s r table next e g = group_grows (Functor s) r table next (λ n. refl) e g
-
-pub holds_grows : (s : Sym) (r : Row) (table next : Table) → next.constants ≡ table.constants → GroupsGrow (Holds s) r table.groups.items next.groups.items → Grows (Holds s) r table next
-holds_grows s r table next e g = group_grows (Holds s) r table next (λ n. refl) e g
-
-pub fails_grows : (s : Sym) (r : Row) (table next : Table) → next.constants ≡ table.constants → GroupsGrow (Fails s) r table.groups.items next.groups.items → Grows (Fails s) r table next
-fails_grows s r table next e g = group_grows (Fails s) r table next (λ n. refl) e g
-
-pub disequal_grows : (r : Row) (table next : Table) → next.constants ≡ table.constants → GroupsGrow Disequal r table.groups.items next.groups.items → Grows Disequal r table next
-disequal_grows r table next e g = group_grows Disequal r table next (λ n. refl) e g
-
-pub ruleset table_rules = (constant_grows, functor_grows, holds_grows, fails_grows, disequal_grows)
-
 pub ruleset group_rules = (told_old, told_new)
 
+-- the whole table
+head_apart : (h q : Head) → (number_of h ≡ number_of q → ⊥) → same_head h q ≡ false
+head_apart h q n =
+    elim (bool_cases (same_head h q)) [
+      | inl a ↦ absurd (n (ap number_of (same_head-true h q a)))
+      | inr a ↦ a
+    ]
+
+pub told_grown : (h : Head) (r : Row) (table mid next : Table) (number : ℕ) (found groups : List Group) → number ≡ number_of h → found ≡ groups_at table.groups number → ((q : ℕ) → (q ≡ number → ⊥) → groups_at mid.groups q ≡ groups_at table.groups q) → GroupsGrow h r found groups → groups_at next.groups number ≡ groups → ((q : ℕ) → (q ≡ number → ⊥) → groups_at next.groups q ≡ groups_at mid.groups q) → Grows h r table next
+unfolding GroupsGrow Grows rows_at
+told_grown h r table mid next number found groups e f others g n more q =
+    elim (eqb_tells number (number_of q)) [
+      | inl a ↦
+          subst (λ (k : ℕ). IsAddedWhere (same_head h q) r (group_of q (groups_at table.groups k)) (group_of q (groups_at next.groups k))) a.1
+          (subst (λ (gs : List Group). IsAddedWhere (same_head h q) r (group_of q gs) (group_of q (groups_at next.groups number))) f
+          (subst (λ (gs : List Group). IsAddedWhere (same_head h q) r (group_of q found) (group_of q gs)) (sym n) (g q)))
+      | inr a ↦
+          let other : number_of q ≡ number → ⊥ = λ o. a.1 (sym o) in
+          subst (λ (b : Bool). IsAddedWhere b r (group_of q (groups_at table.groups (number_of q))) (group_of q (groups_at next.groups (number_of q)))) (sym (head_apart h q (λ o. a.1 (e ∙ o))))
+          (ap (group_of q) (more (number_of q) other ∙ others (number_of q) other))
+    ]
+
+pub ruleset table_rules = (told_grown)
+
 -- a table without rows
-pub told_empty : (table : Table) → table.constants.entries ≡ [] → table.groups.items ≡ [] → (h : Head) → rows_at table h ≡ None
+pub told_empty : (table : Table) → table.groups.entries ≡ [] → (h : Head) → rows_at table h ≡ None
 unfolding rows_at
-told_empty table c g (Constant n) = ap (λ es. lookup (is_at (nat_cmp n)) es) c
-told_empty table c g (Functor s) = ap (λ gs. group_of (Functor s) gs) g
-told_empty table c g (Holds s) = ap (λ gs. group_of (Holds s) gs) g
-told_empty table c g (Fails s) = ap (λ gs. group_of (Fails s) gs) g
-told_empty table c g Disequal = ap (λ gs. group_of Disequal gs) g
+told_empty table g h = ap (λ es. group_of h (groups_in (lookup (is_at (nat_cmp (number_of h))) es))) g
 
 pub ruleset new_rules = (told_empty)
-
-both_ways : (b c : Bool) (new : Rows) (old : Option Rows) (r : Row) → b ≡ c → IsAdded r old (Some new) → IsAddedWhere c r old (cond b (Some new) (cond b None old))
-both_ways true true new old r e a = a
-both_ways true false new old r e a = absurd (true_false true refl e)
-both_ways false true new old r e a = absurd (true_false true refl (sym e))
-both_ways false false new old r e a = refl
-
-other_way : (b c : Bool) (new : Rows) (old : Option Rows) (r : Row) → b ≡ c → c ≡ false → IsAddedWhere c r old (cond b (Some new) (cond b None old))
-other_way true true new old r e n = absurd (true_false true refl n)
-other_way true false new old r e n = absurd (true_false true refl e)
-other_way false true new old r e n = absurd (true_false true refl n)
-other_way false false new old r e n = refl
-
-compared : (l e : Bool) → (l ≡ true → e ≡ false) → is_eq (cond l Less (cond e Equal Greater)) ≡ e
-compared true e f = sym (f refl)
-compared false true f = refl
-compared false false f = refl
-
-less_apart : (n q : ℕ) → nat_lt n q ≡ true → nat_eq n q ≡ false
-less_apart n q h =
-    elim (leb_tells (suc n) q) [
-      | inl a ↦ elim (eqb_tells n q) [ inl b ↦ absurd (omega (arith, a.1, b.1)) | inr b ↦ b.0 ]
-      | inr a ↦ let z = a.0 in cc
-    ]
-
-same_number : (n q : ℕ) → is_at (nat_cmp n) q ≡ nat_eq n q
-same_number n q = compared (nat_lt n q) (nat_eq n q) (less_apart n q)
-
-constant_cases : (n : ℕ) (r : Row) (m : BTreeMap ℕ Rows) (new : Rows) → IsAdded r (get nat_cmp m n) (Some new) → (q : ℕ) → IsAddedWhere (nat_eq n q) r (get nat_cmp m q) (cond (is_at (nat_cmp n) q) (Some new) (cond (is_at (nat_cmp n) q) None (get nat_cmp m q)))
-constant_cases n r m new e q =
-    elim (eqb_tells n q) [
-      | inl a ↦ both_ways (is_at (nat_cmp n) q) (nat_eq n q) new (get nat_cmp m q) r (same_number n q) (subst (λ (x : ℕ). IsAdded r (get nat_cmp m x) (Some new)) a.1 e)
-      | inr a ↦ other_way (is_at (nat_cmp n) q) (nat_eq n q) new (get nat_cmp m q) r (same_number n q) a.0
-    ]
-
--- a constant's rows
-pub told_constant : (n : ℕ) (r : Row) (m k o : BTreeMap ℕ Rows) (before new : Rows) → before.items.items ≡ rows_in (get nat_cmp m n) → before.count ≡ count_in (get nat_cmp m n) → IsAdded r (Some before) (Some new) → ((q : ℕ) → get nat_cmp k q ≡ cond (is_at (nat_cmp n) q) None (get nat_cmp m q)) → ((q : ℕ) → get nat_cmp o q ≡ cond (is_at (nat_cmp n) q) (Some new) (get nat_cmp k q)) → ConstantsGrow n r m o
-unfolding ConstantsGrow
-told_constant n r m k o before new e c i a b q =
-    let p : get nat_cmp o q ≡ cond (is_at (nat_cmp n) q) (Some new) (cond (is_at (nat_cmp n) q) None (get nat_cmp m q)) = b q ∙ ap (λ x. cond (is_at (nat_cmp n) q) (Some new) x) (a q) in
-    subst (λ (x : Option Rows). IsAddedWhere (nat_eq n q) r (get nat_cmp m q) x) (sym p) (constant_cases n r m new (same_before r (Some before) (get nat_cmp m n) (Some new) e c i) q)
-
-pub ruleset constant_rules = (told_constant)
 
 one_add : (i : ℕ) → suc i ≡ i + 1
 one_add i = omega arith

@@ -1,5 +1,6 @@
 pub mod ArgsLemmas
 pub mod BindLemmas
+pub mod ByClassLemmas
 pub mod CongruentLemmas
 pub mod EvaluateLemmas
 pub mod GroupLemmas

@@ -4,7 +4,7 @@ use Rattle.std.specs.Prelude.{◌&&◌, nat_eq, None, Some, Option, if◌then◌
 use Rattle.std.specs.Map.{lookup, KeepsOthers}
 use Rattle.std.specs.HashMap.{HashMap, UpdatesBy}
 use Rattle.mz_match.specs.Rows.{SomeOf, has_value}
-use Rattle.mz_match.specs.Table.{rows_in, count_in, value_in, group_of, rows_at, rows_of, value_of, IsAdded}
+use Rattle.mz_match.specs.Table.{rows_in, value_in, rows_at, rows_of, value_of, IsAdded}
 use Rattle.mz_match.specs.Values.{is_list, value_at, values_of, is_right, with_value, is_class, AreKnown, or_nothing}
 use Rattle.mz_match.specs.declared.row.Head.{Head}
 use Rattle.mz_match.specs.declared.row.Row.{Row}
@@ -13,7 +13,8 @@ use Rattle.mz_match.specs.declared.table.Table.{Table}
 use Rattle.mz_match.specs.declared.value.Value.{Value}
 use Rattle.mz_match.specs.declared.value.Value.TheVariants.{Unknown, Nothing, Class}
 use Rattle.mz_match.specs.declared.values.Values.{Values}
-use Rattle.mz_match.proofs.SomeLemmas.{some_map, value_out}
+use Rattle.mz_match.proofs.ByClassLemmas.{by_class_none}
+use Rattle.mz_match.proofs.SomeLemmas.{some_map}
 
 true_false : (b : Bool) → b ≡ true → b ≡ false → ⊥
 true_false b h k = cc
@@ -97,7 +98,7 @@ known_more rs ks m n r args known next k q o a v e =
 pub known_none : (rs : List Row) (m : Values) → rs ≡ [] → ((s : List ℕ) → value_at m s ≡ Nothing) → AreKnown rs m
 known_none rs m e f args = λ i. is_right (f args i) (values_of (e i) args)
 
-pub ruleset new_rules = (known_none)
+pub ruleset new_rules = (known_none, by_class_none)
 
 -- the rows with some arguments
 put_some : (P : ℕ → Type 0) (b : Bool) (v : ℕ) (vs : List ℕ) → SomeOf P vs → SomeOf P (if b then v ∷ vs else vs)

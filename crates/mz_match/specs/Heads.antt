@@ -1,4 +1,4 @@
--- When two heads are one.
+-- When two heads are one, and their numbers.
 use Rattle.std.specs.Prelude.{ℕ, Bool, true, false, nat_eq}
 use Rattle.mz_logic.specs.Sym.{same_sym}
 use Rattle.mz_logic.specs.declared.sym.Sym.{Sym}
@@ -31,3 +31,11 @@ same_head (Functor s) h = is_functor s h
 same_head (Holds s) h = is_holds s h
 same_head (Fails s) h = is_fails s h
 same_head Disequal h = is_disequal h
+
+-- the number of the constant or of the symbol
+abbrev pub number_of : Head → ℕ
+number_of (Constant n) = n
+number_of (Functor s) = s.number
+number_of (Holds s) = s.number
+number_of (Fails s) = s.number
+number_of Disequal = 0

@@ -3,6 +3,7 @@ pub mod Heads
 pub mod Values
 pub mod Table
 pub mod Rows
+pub mod ByClass
 pub mod RowsCongruent
 pub mod RowsRefuted
 pub mod Evaluate

@@ -1,15 +1,15 @@
 -- The rows of a table by their heads.
-use Rattle.std.specs.Prelude.{◌≡◌, ◌⊎◌, ℕ, zero, suc, ◌+◌, Bool, true, false, Option, None, Some, List, [], ◌∷◌, ◌++◌, nat_eq, if◌then◌else◌}
+use Rattle.std.specs.Prelude.{◌≡◌, ◌⊎◌, ℕ, zero, suc, ◌+◌, Bool, true, false, Option, None, Some, List, [], ◌∷◌, ◌++◌, if◌then◌else◌}
 use Rattle.std.specs.Ordering.{nat_cmp}
 use Rattle.std.specs.BTreeMap.{get, BTreeMap}
-use Rattle.mz_match.specs.Heads.{same_head}
+use Rattle.mz_match.specs.Heads.{same_head, number_of}
 use Rattle.mz_match.specs.Rows.{SomeOf}
 use Rattle.mz_match.specs.Values.{value_at}
 use Rattle.mz_match.specs.declared.row.Head.{Head}
-use Rattle.mz_match.specs.declared.row.Head.TheVariants.{Constant, Functor, Holds, Fails, Disequal}
 use Rattle.mz_match.specs.declared.row.Row.{Row}
 use Rattle.mz_match.specs.declared.rows.Rows.{Rows}
 use Rattle.mz_match.specs.declared.table.Group.{Group}
+use Rattle.mz_match.specs.declared.table.Groups.{Groups}
 use Rattle.mz_match.specs.declared.table.Table.{Table}
 use Rattle.mz_match.specs.declared.value.Value.{Value}
 use Rattle.mz_match.specs.declared.value.Value.TheVariants.{Nothing}
@@ -32,12 +32,16 @@ abbrev pub group_of : Head → List Group → Option Rows
 group_of h [] = None
 group_of h (g ∷ gs) = if same_head g.head h then Some g.rows else group_of h gs
 
+abbrev pub groups_in : Option Groups → List Group
+groups_in None = []
+groups_in (Some groups) = groups.items.items
+
+-- the groups at a number
+abbrev pub groups_at : BTreeMap ℕ Groups → ℕ → List Group
+groups_at m n = groups_in (get nat_cmp m n)
+
 unfoldable pub rows_at : Table → Head → Option Rows
-rows_at table (Constant n) = get nat_cmp table.constants n
-rows_at table (Functor s) = group_of (Functor s) table.groups.items
-rows_at table (Holds s) = group_of (Holds s) table.groups.items
-rows_at table (Fails s) = group_of (Fails s) table.groups.items
-rows_at table Disequal = group_of Disequal table.groups.items
+rows_at table h = group_of h (groups_at table.groups (number_of h))
 
 -- the rows with a head, of which equal ones stand once
 abbrev pub rows_of : Table → Head → List Row
@@ -80,9 +84,6 @@ IsAddedWhere false r old new = new ≡ old
 -- one row more with its head, and no other change
 unfoldable pub GroupsGrow : Head → Row → List Group → List Group → Type 0
 GroupsGrow h r gs ks = (q : Head) → IsAddedWhere (same_head h q) r (group_of q gs) (group_of q ks)
-
-unfoldable pub ConstantsGrow : ℕ → Row → BTreeMap ℕ Rows → BTreeMap ℕ Rows → Type 0
-ConstantsGrow n r m k = (q : ℕ) → IsAddedWhere (nat_eq n q) r (get nat_cmp m q) (get nat_cmp k q)
 
 unfoldable pub Grows : Head → Row → Table → Table → Type 0
 Grows h r table next = (q : Head) → IsAddedWhere (same_head h q) r (rows_at table q) (rows_at next q)

@@ -3,6 +3,7 @@
 
 pub mod assignment;
 pub mod assignments;
+pub mod by_class;
 mod congruent;
 mod evaluate;
 pub mod literals;

@@ -203,29 +203,10 @@ fn match_functor_rows(
     ensures { IfOk result (λ out. out ≡ flat_map (λ r. if has_value v r then match_args table.now depth (terms_of ts.now) r.args.items es.now else []) (rows_of table.now (Functor s))) }
 {
     let mut out = Assignments::new(alloc);
-    for r in table.rows(Head::Functor(s)) {
-        out.append(match_functor_row(alloc, table, depth, r, ts, v, es)?)?;
+    for args in table.args_with(Head::Functor(s), v) {
+        out.append(match_args(alloc, table, depth, ts, args.as_slice(), es)?)?;
     }
     Ok(out)
-}
-
-#[cycle(matching)]
-fn match_functor_row(
-    alloc: Global,
-    table: &Table,
-    depth: usize,
-    r: &Row,
-    ts: &Terms,
-    v: usize,
-    es: &Assignments,
-) -> Result<Assignments, AllocError>
-    ensures { IfOk result (λ out. out ≡ (if has_value v r.now then match_args table.now depth (terms_of ts.now) r.now.args.items es.now else [])) }
-{
-    if r.value == v {
-        match_args(alloc, table, depth, ts, r.args.as_slice(), es)
-    } else {
-        Ok(Assignments::new(alloc))
-    }
 }
 
 /// The assignments that extend one of `es` and at which the terms have the classes.

@@ -1,6 +1,6 @@
 //! Rows of a table.
 ghost use Rattle.std.specs.Prelude.{◌≡◌};
-ghost use Rattle.mz_match.specs.Heads.{same_head};
+ghost use Rattle.mz_match.specs.Heads.{same_head, number_of};
 
 use mz_logic::sym::Sym;
 
@@ -34,6 +34,19 @@ impl Head {
             (Head::Fails(r), Head::Fails(s)) => r.is(s),
             (Head::Disequal, Head::Disequal) => true,
             _ => false,
+        }
+    }
+
+    /// The number of the constant or of the symbol.
+    pub fn number(self) -> u32
+        ensures { result ≡ number_of self }
+    {
+        match self {
+            Head::Constant(n) => n,
+            Head::Functor(s) => s.number,
+            Head::Holds(s) => s.number,
+            Head::Fails(s) => s.number,
+            Head::Disequal => 0,
         }
     }
 }

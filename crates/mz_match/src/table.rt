@@ -1,9 +1,8 @@
 //! The table of rows.
-ghost use Rattle.std.specs.Prelude.{◌≡◌, ◌<◌, ℕ, None, OnOk, IfOk, IfSome, MatchOption, length};
+ghost use Rattle.std.specs.Prelude.{◌≡◌, ◌<◌, ℕ, None, OnOk, IfOk, IfSome, MatchOption, length, map};
 ghost use Rattle.std.specs.Option.{option_copied};
-ghost use Rattle.std.specs.Ordering.{nat_cmp};
-ghost use Rattle.std.specs.BTreeMap.{get};
-ghost use Rattle.mz_match.specs.Table.{rows_at, rows_of, count_of, value_of, rows_in, count_in, value_in, group_of, HasNoGroup, IsGroupAt, IsAdded, Grows, GroupsGrow, ConstantsGrow};
+ghost use Rattle.mz_match.specs.ByClass.{args_with};
+ghost use Rattle.mz_match.specs.Table.{rows_at, rows_of, count_of, value_of, group_of, groups_at, HasNoGroup, IsGroupAt, Grows, GroupsGrow};
 ghost use Rattle.mz_match.specs.declared.row.Head.{Head};
 
 use crate::row::{Head, Row};
@@ -19,11 +18,17 @@ pub struct Group {
     pub rows: Rows,
 }
 
-/// Rows by their heads, those of a constant by its number.
+/// Groups of different heads.
+#[derive(Drop)]
+pub struct Groups {
+    pub items: Vec<Group>,
+}
+
+/// Rows by their heads.
 #[derive(Drop)]
 pub struct Table {
-    pub constants: BTreeMap<u32, Rows>,
-    pub groups: Vec<Group>,
+    /// By the numbers of the heads, which several heads may share.
+    pub groups: BTreeMap<u32, Groups>,
 }
 
 impl Table {
@@ -33,8 +38,7 @@ impl Table {
         ensures { (h : Head) → rows_at result h ≡ None }
     {
         Table {
-            constants: BTreeMap::new(alloc),
-            groups: Vec::new(alloc),
+            groups: BTreeMap::new(alloc),
         }
     }
 
@@ -44,6 +48,16 @@ impl Table {
     {
         match self.find(head) {
             Some(rows) => rows.items.as_slice(),
+            None => &[],
+        }
+    }
+
+    /// The arguments of the rows with a head that have a class, in the order of the rows.
+    pub fn args_with(&self, head: Head, class: usize) -> &[Vec<usize>]
+        ensures { map (λ k. k.items) result.now ≡ args_with class (rows_of self.now head) }
+    {
+        match self.find(head) {
+            Some(rows) => rows.args_with(class),
             None => &[],
         }
     }
@@ -72,24 +86,10 @@ impl Table {
     fn find(&self, head: Head) -> Option<&Rows>
         ensures { option_copied result ≡ rows_at self.now head }
     {
-        match head {
-            Head::Constant(n) => self.constants.get(&n),
-            Head::Functor(_) => self.group(head),
-            Head::Holds(_) => self.group(head),
-            Head::Fails(_) => self.group(head),
-            Head::Disequal => self.group(head),
+        match self.groups.get(&head.number()) {
+            Some(groups) => group_in(groups.items.as_slice(), head),
+            None => None,
         }
-    }
-
-    fn group(&self, head: Head) -> Option<&Rows>
-        ensures { option_copied result ≡ group_of head self.now.groups.items }
-    {
-        for g in &self.groups {
-            if g.head.is(head) {
-                return Some(&g.rows);
-            }
-        }
-        None
     }
 
     /// Adds a row behind those with its head; an equal one that stands there is counted alone.
@@ -97,55 +97,55 @@ impl Table {
     pub fn add(&mut self, alloc: Global, head: Head, row: Row) -> Result<(), AllocError>
         ensures { OnOk result (Grows head row self.old self.new) }
     {
-        match head {
-            Head::Constant(n) => {
-                add_constant(alloc, &mut self.constants, n, row)?;
-                Ok(())
-            }
-            Head::Functor(_) => {
-                add_to_group(alloc, &mut self.groups, head, row)?;
-                Ok(())
-            }
-            Head::Holds(_) => {
-                add_to_group(alloc, &mut self.groups, head, row)?;
-                Ok(())
-            }
-            Head::Fails(_) => {
-                add_to_group(alloc, &mut self.groups, head, row)?;
-                Ok(())
-            }
-            Head::Disequal => {
-                add_to_group(alloc, &mut self.groups, head, row)?;
-                Ok(())
-            }
+        let number = head.number();
+        let before = self.remove(alloc, number);
+        let groups = with_row(alloc, before, head, row)?;
+        self.insert(number, groups)?;
+        Ok(())
+    }
+
+    /// Takes away the groups at a number.
+    fn remove(&mut self, alloc: Global, number: u32) -> Groups
+        ensures groups { result.items.items ≡ groups_at self.old.groups number }
+        ensures others { (q : ℕ) → (q ≡ number → ⊥) → groups_at self.new.groups q ≡ groups_at self.old.groups q }
+    {
+        match self.groups.remove(&number) {
+            Some(groups) => groups,
+            None => Groups {
+                items: Vec::new(alloc),
+            },
         }
     }
-}
 
-fn rows_or_none(alloc: Global, rows: Option<Rows>) -> Rows
-    ensures items { result.items.items ≡ rows_in rows }
-    ensures count { result.count ≡ count_in rows }
-{
-    match rows {
-        Some(rows) => rows,
-        None => Rows::new(alloc),
+    /// Puts groups at a number in place of those that were there.
+    fn insert(&mut self, number: u32, groups: Groups) -> Result<(), AllocError>
+        ensures groups { OnOk result (groups_at self.new.groups number ≡ groups.items.items) }
+        ensures others { OnOk result ((q : ℕ) → (q ≡ number → ⊥) → groups_at self.new.groups q ≡ groups_at self.old.groups q) }
+    {
+        self.groups.insert(number, groups)?;
+        Ok(())
     }
 }
 
-#[tactic(auto, using(crate::proofs::GroupLemmas::constant_rules))]
-fn add_constant(
-    alloc: Global,
-    constants: &mut BTreeMap<u32, Rows>,
-    n: u32,
-    row: Row,
-) -> Result<(), AllocError>
-    ensures { OnOk result (ConstantsGrow n row constants.old constants.new) }
+/// The groups with a row more.
+fn with_row(alloc: Global, groups: Groups, head: Head, row: Row) -> Result<Groups, AllocError>
+    ensures { IfOk result (λ out. GroupsGrow head row groups.items.items out.items.items) }
 {
-    let old = constants.remove(&n);
-    let before = rows_or_none(alloc, old);
-    let rows = before.with(alloc, row)?;
-    constants.insert(n, rows)?;
-    Ok(())
+    let Groups { items } = groups;
+    let mut items = items;
+    add_to_group(alloc, &mut items, head, row)?;
+    Ok(Groups { items })
+}
+
+fn group_in(groups: &[Group], head: Head) -> Option<&Rows>
+    ensures { option_copied result ≡ group_of head groups.now }
+{
+    for g in groups {
+        if g.head.is(head) {
+            return Some(&g.rows);
+        }
+    }
+    None
 }
 
 #[tactic(auto, using(crate::proofs::GroupLemmas::place_rules))]

@@ -1,10 +1,7 @@
 //! Small disjuncts with what is answered for a universal, worked out by hand from the rules.
-ghost use Rattle.mz_ground.specs.Ground.{IsGround};
-
 use mz_classes::close_classes::close_classes;
 use mz_ground::clauses::Clauses;
 use mz_ground::ground::ground;
-use mz_ground::ground_part::Ground;
 use mz_logic::disjunct::Disjunct;
 use mz_logic::formula::{Formula, FormulaNode};
 use mz_logic::formulas::Formulas;
@@ -15,10 +12,11 @@ use mz_logic::sym::Sym;
 use mz_logic::term::{Term, Terms};
 use mz_match::row::{Head, Row};
 use mz_match::table::Table;
+use mz_match::value::Value;
 use mz_refute::answer::Answer;
 use mz_refute::refuted::refuted;
 use std::alloc::{AllocError, Global};
-use std::test::Fail;
+use std::process::Abort;
 
 // A disjunct is written in postfix notation. A digit is a constant; `x` and `y` are the indices 0 and 1; `f` and `g`
 // are functors of one term. `P` and `Q` make an atom of one term, `E` one of two, `=` an equation; `T` is truth, `!`
@@ -56,114 +54,111 @@ fn literal(positive: bool, f: Formula) -> Result<Literal, AllocError> {
 }
 
 impl Stack {
-    fn term(&mut self) -> Result<Term, AllocError> {
-        self.terms.items.pop().ok_or(AllocError)
+    fn term(&mut self, rt: &impl Abort) -> Term {
+        self.terms.items.pop().expect(rt, "a term")
     }
 
-    fn formula(&mut self) -> Result<Formula, AllocError> {
-        self.formulas.items.pop().ok_or(AllocError)
+    fn formula(&mut self, rt: &impl Abort) -> Formula {
+        self.formulas.items.pop().expect(rt, "a formula")
     }
 
-    fn apply(&mut self, alloc: Global, letter: u8) -> Result<(), AllocError> {
+    fn put_term(&mut self, rt: &impl Abort, t: Term) {
+        self.terms.push(t).expect(rt, "memory");
+    }
+
+    fn put_formula(&mut self, rt: &impl Abort, f: Formula) {
+        self.formulas.push(f).expect(rt, "memory");
+    }
+
+    // The last terms, as many as the count.
+    fn args(&mut self, rt: &impl Abort, alloc: Global, count: usize) -> Terms {
+        let last = self.term(rt);
         let mut args = Terms::new(alloc);
-        args.push(self.term()?)?;
-        self.terms
-            .push(Term::apply(sym(Kind::Functor, letter), args))
-    }
-
-    fn atom(&mut self, alloc: Global, letter: u8) -> Result<(), AllocError> {
-        let mut args = Terms::new(alloc);
-        let last = self.term()?;
-        if letter == b'E' {
-            args.push(self.term()?)?;
+        if count == 2 {
+            args.push(self.term(rt)).expect(rt, "memory");
         }
-        args.push(last)?;
-        self.formulas
-            .push(Formula::atom(sym(Kind::Predicate, letter), args))
+        args.push(last).expect(rt, "memory");
+        args
     }
 
-    fn equation(&mut self) -> Result<(), AllocError> {
-        let right = self.term()?;
-        let left = self.term()?;
-        self.formulas.push(Formula::equation(left, right))
+    fn apply(&mut self, rt: &impl Abort, alloc: Global, letter: u8) {
+        let args = self.args(rt, alloc, 1);
+        self.put_term(rt, Term::apply(sym(Kind::Functor, letter), args));
     }
 
-    fn negate(&mut self, alloc: Global) -> Result<(), AllocError> {
-        let f = Formula::not(alloc, self.formula()?)?;
-        self.formulas.push(f)
+    fn atom(&mut self, rt: &impl Abort, alloc: Global, letter: u8) {
+        let args = self.args(rt, alloc, if letter == b'E' { 2 } else { 1 });
+        self.put_formula(rt, Formula::atom(sym(Kind::Predicate, letter), args));
     }
 
-    fn join(&mut self, alloc: Global) -> Result<(), AllocError> {
-        let g = self.formula()?;
-        let f = Formula::and(alloc, self.formula()?, g)?;
-        self.formulas.push(f)
+    fn equation(&mut self, rt: &impl Abort) {
+        let right = self.term(rt);
+        let left = self.term(rt);
+        self.put_formula(rt, Formula::equation(left, right));
     }
 
-    fn quantify(&mut self, alloc: Global) -> Result<(), AllocError> {
-        let f = Formula::all(alloc, self.formula()?)?;
-        self.formulas.push(f)
+    fn negate(&mut self, rt: &impl Abort, alloc: Global) {
+        let f = self.formula(rt);
+        self.put_formula(rt, Formula::not(alloc, f).expect(rt, "memory"));
     }
 
-    fn give(&mut self, positive: bool) -> Result<(), AllocError> {
-        let l = literal(positive, self.formula()?)?;
-        self.literals.push(l)
+    fn join(&mut self, rt: &impl Abort, alloc: Global) {
+        let g = self.formula(rt);
+        let f = self.formula(rt);
+        self.put_formula(rt, Formula::and(alloc, f, g).expect(rt, "memory"));
     }
 
-    fn put(&mut self, alloc: Global, c: u8) -> Result<(), AllocError> {
+    fn quantify(&mut self, rt: &impl Abort, alloc: Global) {
+        let f = self.formula(rt);
+        self.put_formula(rt, Formula::all(alloc, f).expect(rt, "memory"));
+    }
+
+    fn give(&mut self, rt: &impl Abort, positive: bool) {
+        let f = self.formula(rt);
+        let l = literal(positive, f).expect(rt, "an atom or an equation");
+        self.literals.push(l).expect(rt, "memory");
+    }
+
+    fn put(&mut self, rt: &impl Abort, alloc: Global, c: u8) {
         match c {
-            b'x'..=b'y' => self.terms.push(Term::bound(u32::from(c - b'x'))),
-            b'0'..=b'9' => self.terms.push(Term::constant(u32::from(c - b'0'))),
-            b'f' | b'g' => self.apply(alloc, c),
-            b'P' | b'Q' | b'E' => self.atom(alloc, c),
-            b'=' => self.equation(),
-            b'T' => self.formulas.push(Formula::truth()),
-            b'!' => self.negate(alloc),
-            b'&' => self.join(alloc),
-            b'A' => self.quantify(alloc),
-            b'+' => self.give(true),
-            b'-' => self.give(false),
-            _ => Ok(()),
+            b'x'..=b'y' => self.put_term(rt, Term::bound(u32::from(c - b'x'))),
+            b'0'..=b'9' => self.put_term(rt, Term::constant(u32::from(c - b'0'))),
+            b'f' | b'g' => self.apply(rt, alloc, c),
+            b'P' | b'Q' | b'E' => self.atom(rt, alloc, c),
+            b'=' => self.equation(rt),
+            b'T' => self.put_formula(rt, Formula::truth()),
+            b'!' => self.negate(rt, alloc),
+            b'&' => self.join(rt, alloc),
+            b'A' => self.quantify(rt, alloc),
+            b'+' => self.give(rt, true),
+            b'-' => self.give(rt, false),
+            _ => {}
         }
     }
 }
 
-fn disjunct(alloc: Global, text: &str) -> Result<Disjunct, AllocError> {
+fn disjunct(rt: &impl Abort, alloc: Global, text: &str) -> Disjunct {
     let mut stack = Stack {
         terms: Terms::new(alloc),
         formulas: Formulas::new(alloc),
         literals: Literals::new(alloc),
     };
     for c in text.as_bytes() {
-        stack.put(alloc, *c)?;
+        stack.put(rt, alloc, *c);
     }
-    Ok(Disjunct {
+    Disjunct {
         literals: stack.literals,
         universals: stack.formulas,
-    })
-}
-
-fn answer_for_last(
-    alloc: Global,
-    d: &Disjunct,
-    clauses: &Clauses,
-    g: &Ground,
-) -> Result<Answer, AllocError>
-    requires { IsGround d.now clauses.now g.now }
-{
-    let facts = close_classes(alloc, g, d, clauses.as_slice())?;
-    match d.universals.items.last() {
-        Some(u) => refuted(alloc, &facts, d, u),
-        None => Err(AllocError),
     }
 }
 
-fn answer_for(alloc: Global, text: &str) -> Result<Answer, AllocError> {
-    let d = disjunct(alloc, text)?;
+fn answer_for(rt: &impl Abort, alloc: Global, text: &str) -> Answer {
+    let d = disjunct(rt, alloc, text);
     let clauses = Clauses::new(alloc);
-    match ground(alloc, &d, clauses.as_slice()) {
-        Ok(g) => answer_for_last(alloc, &d, &clauses, &g),
-        Err(_) => Err(AllocError),
-    }
+    let g = ground(alloc, &d, clauses.as_slice()).expect(rt, "a ground part");
+    let facts = close_classes(alloc, &g, &d, clauses.as_slice()).expect(rt, "memory");
+    let u = d.universals.items.last().expect(rt, "a universal");
+    refuted(alloc, &facts, &d, u).expect(rt, "memory")
 }
 
 const REFUTED: [&str; 23] = [
@@ -231,25 +226,23 @@ const NOT_REFUTED: [&str; 20] = [
 ];
 
 #[test]
-fn universals_that_are_refuted(rt: HostRuntime) -> Result<(), Fail> {
+fn universals_that_are_refuted(rt: HostRuntime) {
     for text in REFUTED {
-        assert_eq!(rt; answer_for(rt.alloc(), text)?, Answer::Yes, "{text}");
+        assert_eq!(&rt; answer_for(&rt, rt.alloc(), text), Answer::Yes, "{text}");
     }
-    Ok(())
 }
 
 #[test]
-fn universals_that_are_not_refuted(rt: HostRuntime) -> Result<(), Fail> {
+fn universals_that_are_not_refuted(rt: HostRuntime) {
     for text in NOT_REFUTED {
-        assert_eq!(rt; answer_for(rt.alloc(), text)?, Answer::No, "{text}");
+        assert_eq!(&rt; answer_for(&rt, rt.alloc(), text), Answer::No, "{text}");
     }
-    Ok(())
 }
 
 /// Ten facts: seven atoms have the greatest work that is allowed, and truth beside them adds one to it. A work stops
 /// at 1,000,000,000, and is 0 where one factor is.
 #[test]
-fn work_of_a_universal(rt: HostRuntime) -> Result<(), Fail> {
+fn work_of_a_universal(rt: HostRuntime) {
     let facts = "0P+ 1P+ 2P+ 3P+ 4P+ 5P+ 6P+ 7P+ 8P+ 9P+ ";
     let seven = "xPxP&xP&xP&xP&xP&xP&";
     for (rest, wanted) in [
@@ -263,10 +256,9 @@ fn work_of_a_universal(rt: HostRuntime) -> Result<(), Fail> {
         ),
         ("xP&xQ&!A", Answer::No),
     ] {
-        let text = format!(in rt.alloc(); "{facts}{seven}{rest}")?;
-        assert_eq!(rt; answer_for(rt.alloc(), &text)?, wanted, "{rest}");
+        let text = format!(in rt.alloc(); "{facts}{seven}{rest}").expect(&rt, "memory");
+        assert_eq!(&rt; answer_for(&rt, rt.alloc(), &text), wanted, "{rest}");
     }
-    Ok(())
 }
 
 #[test]
@@ -283,32 +275,59 @@ fn heads_are_compared(rt: HostRuntime) {
     ];
     for i in 0..heads.len() {
         for j in 0..heads.len() {
-            assert_eq!(rt; heads[i].is(heads[j]), i == j, "{i} {j}");
+            assert_eq!(&rt; heads[i].is(heads[j]), i == j, "{i} {j}");
         }
     }
 }
 
-/// Rows stand under their own head, in the order in which they came.
+/// Rows stand under their own head, in the order in which they came; an equal one is counted alone.
 #[test]
-fn rows_by_their_heads(rt: HostRuntime) -> Result<(), Fail> {
+fn rows_by_their_heads(rt: HostRuntime) {
     let alloc = rt.alloc();
     let holds = Head::Holds(sym(Kind::Predicate, b'P'));
     let mut table = Table::new(alloc);
-    for (head, value) in [(Head::Constant(1), 5), (holds, 6), (Head::Constant(1), 7)] {
+    for (head, value) in [
+        (Head::Constant(1), 5),
+        (holds, 6),
+        (Head::Constant(1), 7),
+        (holds, 6),
+    ] {
         let args = Vec::new(alloc);
-        table.add(alloc, head, Row { args, value })?;
+        table
+            .add(alloc, head, Row { args, value })
+            .expect(&rt, "memory");
     }
-    for (head, wanted) in [
-        (Head::Constant(1), [5, 7].as_slice()),
-        (Head::Constant(2), &[]),
-        (holds, &[6]),
-        (Head::Disequal, &[]),
+    for (head, wanted, count) in [
+        (Head::Constant(1), [5, 7].as_slice(), 2),
+        (Head::Constant(2), &[], 0),
+        (holds, &[6], 2),
+        (Head::Disequal, &[], 0),
     ] {
         let rows = table.rows(head);
-        assert_eq!(rt; rows.len(), wanted.len());
+        assert_eq!(&rt; rows.len(), wanted.len());
+        assert_eq!(&rt; table.count(head), count);
         for i in 0..wanted.len() {
-            assert_eq!(rt; rows[i].value, wanted[i]);
+            assert_eq!(&rt; rows[i].value, wanted[i]);
         }
     }
-    Ok(())
+}
+
+/// The class of arguments is known where all rows that have them have one; it isn't where two rows differ.
+#[test]
+fn values_of_arguments(rt: HostRuntime) {
+    let alloc = rt.alloc();
+    let functor = Head::Functor(sym(Kind::Functor, b'f'));
+    let mut table = Table::new(alloc);
+    for (arg, value) in [(1, 5), (2, 5), (1, 5), (3, 5), (3, 6)] {
+        let args = vec![in alloc; arg].expect(&rt, "memory");
+        table
+            .add(alloc, functor, Row { args, value })
+            .expect(&rt, "memory");
+    }
+    assert!(&rt; matches!(table.value(functor, &[1]), Value::Class(5)));
+    assert!(&rt; matches!(table.value(functor, &[2]), Value::Class(5)));
+    assert!(&rt; matches!(table.value(functor, &[3]), Value::Unknown));
+    assert!(&rt; matches!(table.value(functor, &[4]), Value::Nothing));
+    assert!(&rt; matches!(table.value(functor, &[1, 1]), Value::Nothing));
+    assert!(&rt; matches!(table.value(Head::Disequal, &[1, 2]), Value::Nothing));
 }

@@ -16,75 +16,76 @@ use mz_logic::literals::Literals;
 use mz_logic::term::{Term, Terms};
 use mz_nf::disjuncts::disjuncts;
 use mz_nf::problem::Problem;
-use std::alloc::{AllocError, Global};
-use std::test::Fail;
+use std::alloc::Global;
+use std::process::Abort;
 
-fn terms(alloc: Global, t: Term) -> Result<Terms, AllocError> {
+fn terms(rt: &impl Abort, alloc: Global, t: Term) -> Terms {
     let mut ts = Terms::new(alloc);
-    ts.push(t)?;
-    Ok(ts)
+    ts.push(t).expect(rt, "memory");
+    ts
 }
 
 /// The functor's value at the variable.
-fn value(alloc: Global) -> Result<Term, AllocError> {
-    Ok(Term::apply(sym(Kind::Functor, b'f'), terms(alloc, Term::bound(0))?))
+fn value(rt: &impl Abort, alloc: Global) -> Term {
+    Term::apply(sym(Kind::Functor, b'f'), terms(rt, alloc, Term::bound(0)))
 }
 
 /// That the term has the attribute.
-fn says(alloc: Global, attribute: u8, t: Term) -> Result<Literal, AllocError> {
-    Ok(Literal::Atom {
+fn says(rt: &impl Abort, alloc: Global, attribute: u8, t: Term) -> Literal {
+    Literal::Atom {
         positive: true,
         sym: sym(Kind::Attribute, attribute),
-        args: terms(alloc, t)?,
-    })
+        args: terms(rt, alloc, t),
+    }
 }
 
 /// What has the one attribute has the other.
-fn cluster(alloc: Global, left: u8, right: u8) -> Result<Option<Clause>, AllocError> {
+fn cluster(rt: &impl Abort, alloc: Global, left: u8, right: u8) -> Clause {
     let mut premises = Literals::new(alloc);
-    premises.push(says(alloc, left, Term::bound(0))?)?;
-    let variable = terms(alloc, Term::bound(0))?;
+    let premise = says(rt, alloc, left, Term::bound(0));
+    premises.push(premise).expect(rt, "memory");
+    let variable = terms(rt, alloc, Term::bound(0));
     let trigger = Trigger::Atom(sym(Kind::Attribute, left), variable);
-    let conclusion = says(alloc, right, Term::bound(0))?;
-    Ok(Clause::new(1, trigger, premises, conclusion))
+    let conclusion = says(rt, alloc, right, Term::bound(0));
+    Clause::new(1, trigger, premises, conclusion).expect(rt, "its variable is in the trigger")
 }
 
 /// Each value of the functor has the first attribute.
-fn functorial(alloc: Global) -> Result<Option<Clause>, AllocError> {
-    let trigger = Trigger::Term(value(alloc)?);
-    let conclusion = says(alloc, 1, value(alloc)?)?;
-    Ok(Clause::new(1, trigger, Literals::new(alloc), conclusion))
+fn functorial(rt: &impl Abort, alloc: Global) -> Clause {
+    let trigger = Trigger::Term(value(rt, alloc));
+    let conclusion = says(rt, alloc, 1, value(rt, alloc));
+    Clause::new(1, trigger, Literals::new(alloc), conclusion).expect(
+        rt,
+        "its variable is in the trigger",
+    )
 }
 
 /// The clusters with these attributes on the left, and then the registration of the functor's values.
-fn registrations(alloc: Global, lefts: &[u8]) -> Result<Clauses, AllocError> {
+fn registrations(rt: &impl Abort, alloc: Global, lefts: &[u8]) -> Clauses {
     let mut clauses = Clauses::new(alloc);
     for left in lefts {
-        if let Some(c) = cluster(alloc, *left, left.saturating_add(1))? {
-            clauses.push(c)?;
-        }
+        let c = cluster(rt, alloc, *left, left.saturating_add(1));
+        clauses.push(c).expect(rt, "memory");
     }
-    if let Some(c) = functorial(alloc)? {
-        clauses.push(c)?;
-    }
-    Ok(clauses)
+    clauses.push(functorial(rt, alloc)).expect(rt, "memory");
+    clauses
 }
 
 /// That each value of the functor has the fourth attribute.
-fn conclusion(alloc: Global) -> Result<Formula, AllocError> {
-    let args = terms(alloc, value(alloc)?)?;
-    Formula::all(alloc, Formula::atom(sym(Kind::Attribute, 4), args))
+fn conclusion(rt: &impl Abort, alloc: Global) -> Formula {
+    let args = terms(rt, alloc, value(rt, alloc));
+    Formula::all(alloc, Formula::atom(sym(Kind::Attribute, 4), args)).expect(rt, "memory")
 }
 
-fn problem(alloc: Global) -> Result<Problem, AllocError> {
-    Ok(Problem {
+fn problem(rt: &impl Abort, alloc: Global) -> Problem {
+    Problem {
         premises: Formulas::new(alloc),
-        conclusion: conclusion(alloc)?,
-    })
+        conclusion: conclusion(rt, alloc),
+    }
 }
 
 #[test]
-fn the_chain_is_closed_where_no_cluster_lacks(rt: HostRuntime) -> Result<(), Fail> {
+fn the_chain_is_closed_where_no_cluster_lacks(rt: HostRuntime) {
     let alloc = rt.alloc();
     let open = ByVerdict::Open { disjunct: 1 };
     let rows: [(&[u8], ByVerdict); 4] = [
@@ -94,24 +95,21 @@ fn the_chain_is_closed_where_no_cluster_lacks(rt: HostRuntime) -> Result<(), Fai
         (&[], open),
     ];
     for (lefts, wanted) in rows {
-        let clauses = registrations(alloc, lefts)?;
-        assert_eq!(rt; by(alloc, &problem(alloc)?, &clauses)?, wanted, "{lefts:?}");
+        let clauses = registrations(&rt, alloc, lefts);
+        let found = by(alloc, &problem(&rt, alloc), &clauses).expect(&rt, "memory");
+        assert_eq!(&rt; found, wanted, "{lefts:?}");
     }
-    Ok(())
 }
 
 /// Under the first of the five clauses alone the chain is open, as long as one of the four that it needs is left out.
 #[test]
-fn the_first_clauses_count(rt: HostRuntime) -> Result<(), Fail> {
+fn the_first_clauses_count(rt: HostRuntime) {
     let alloc = rt.alloc();
     let mut clauses = Clauses::new(alloc);
-    if let Some(c) = functorial(alloc)? {
-        clauses.push(c)?;
-    }
+    clauses.push(functorial(&rt, alloc)).expect(&rt, "memory");
     for left in [3, 1, 2, 4] {
-        if let Some(c) = cluster(alloc, left, left.saturating_add(1))? {
-            clauses.push(c)?;
-        }
+        let c = cluster(&rt, alloc, left, left.saturating_add(1));
+        clauses.push(c).expect(&rt, "memory");
     }
     let open = ByVerdict::Open { disjunct: 1 };
     for (count, wanted) in [
@@ -122,29 +120,27 @@ fn the_first_clauses_count(rt: HostRuntime) -> Result<(), Fail> {
         (5, ByVerdict::Closed),
         (usize::MAX, ByVerdict::Closed),
     ] {
-        let found = by_first(alloc, &problem(alloc)?, &clauses, count)?;
-        assert_eq!(rt; found, wanted, "{count}");
+        let found = by_first(alloc, &problem(&rt, alloc), &clauses, count).expect(&rt, "memory");
+        assert_eq!(&rt; found, wanted, "{count}");
     }
-    Ok(())
 }
 
 /// The terms are the constant 0, the new constant and the functor's value there. Each layer has one atom more, until
 /// the last adds the one of the conclusion.
 #[test]
-fn one_attribute_a_layer(rt: HostRuntime) -> Result<(), Fail> {
+fn one_attribute_a_layer(rt: HostRuntime) {
     let alloc = rt.alloc();
-    let split = disjuncts(alloc, &problem(alloc)?)?;
-    let clauses = registrations(alloc, &[1, 2, 3])?;
-    let d = split.items.first().ok_or("no disjunct")?;
-    let g = ground(alloc, d, clauses.as_slice())?;
-    assert_eq!(rt; g.ends.items.len(), 5);
+    let split = disjuncts(alloc, &problem(&rt, alloc)).expect(&rt, "few disjuncts");
+    let clauses = registrations(&rt, alloc, &[1, 2, 3]);
+    let d = split.items.first().expect(&rt, "a disjunct");
+    let g = ground(alloc, d, clauses.as_slice()).expect(&rt, "a ground part");
+    assert_eq!(&rt; g.ends.items.len(), 5);
     for (i, atoms) in [1, 2, 3, 4, 4].into_iter().enumerate() {
         let wanted = LayerEnd {
             terms: 3,
             atoms,
             equations: 0,
         };
-        assert_eq!(rt; g.ends.items.get(i), Some(&wanted), "{i}");
+        assert_eq!(&rt; g.ends.items.get(i), Some(&wanted), "{i}");
     }
-    Ok(())
 }

@@ -1,6 +1,0 @@
-use Rattle.std.proofs.Common.{◌≡◌, drop}
-use Rattle.mz_match.specs.Table.{group_of}
-use Rattle.mz_match.proofs.table.Table.group.Given as goal
-
-abbrev pub invariant-loop-g : goal.invariant-loop-g
-invariant-loop-g l = group_of l.head l.self.groups.items ≡ group_of l.head (drop l.g-index l.self.groups.items)
