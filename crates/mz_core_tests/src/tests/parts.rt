@@ -88,11 +88,10 @@ pub fn negative_mode(rt: &impl Abort, alloc: Global) -> SoftType {
     }
 }
 
-/// One locus.
-pub fn one(rt: &impl Abort, alloc: Global, ty: SoftType) -> SoftTypes {
-    let mut out = SoftTypes::new(alloc);
-    out.push(ty).expect(rt, "memory");
-    out
+/// One locus more.
+pub fn more(rt: &impl Abort, mut loci: SoftTypes, ty: SoftType) -> SoftTypes {
+    loci.push(ty).expect(rt, "memory");
+    loci
 }
 
 /// So many loci of the type `set`.

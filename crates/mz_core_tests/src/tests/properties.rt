@@ -1,8 +1,9 @@
 //! What properties state and owe.
-use crate::tests::parts::{bounds, mode, one, sets, sym, term};
+use crate::tests::parts::{bounds, mode, more, sets, sym, term};
 use crate::tests::rows::{NOTHING, Row, check};
 use mz_core::item::Item;
 use mz_core::property::{Operation, Property, PropertyForm, Relation, UnaryOperation};
+use mz_core::soft_types::SoftTypes;
 use mz_logic::kind::Kind;
 use mz_logic::literal::Literal;
 use std::alloc::Global;
@@ -112,9 +113,8 @@ fn properties_of_functors(rt: HostRuntime) {
 #[test]
 fn symmetry_of_typed_loci(rt: HostRuntime) {
     let a = rt.alloc();
-    let mut loci = sets(&rt, a, 1);
-    loci.push(mode(&rt, a, 1, &[0])).expect(&rt, "memory");
-    loci.push(mode(&rt, a, 1, &[1])).expect(&rt, "memory");
+    let loci = more(&rt, sets(&rt, a, 1), mode(&rt, a, 1, &[0]));
+    let loci = more(&rt, loci, mode(&rt, a, 1, &[1]));
     let form = PropertyForm::Symmetry(relation(&rt, a));
     let row = Row {
         owed: &[
@@ -130,7 +130,7 @@ fn symmetry_of_typed_loci(rt: HostRuntime) {
 #[test]
 fn properties_of_unary_functors(rt: HostRuntime) {
     let a = rt.alloc();
-    let loci = one(&rt, a, mode(&rt, a, 1, &[]));
+    let loci = more(&rt, SoftTypes::new(a), mode(&rt, a, 1, &[]));
     let form = PropertyForm::Involutiveness(unary(&rt, a));
     let row = Row {
         owed: &[
@@ -140,7 +140,7 @@ fn properties_of_unary_functors(rt: HostRuntime) {
         ..NOTHING
     };
     check(&rt, a, Item::Property(Property { loci, form }), &row);
-    let loci = one(&rt, a, mode(&rt, a, 1, &[]));
+    let loci = more(&rt, SoftTypes::new(a), mode(&rt, a, 1, &[]));
     let form = PropertyForm::Projectivity(unary(&rt, a));
     let row = Row {
         owed: &[
@@ -156,8 +156,7 @@ fn properties_of_unary_functors(rt: HostRuntime) {
 #[test]
 fn involutiveness_with_a_hidden_locus(rt: HostRuntime) {
     let a = rt.alloc();
-    let mut loci = sets(&rt, a, 1);
-    loci.push(mode(&rt, a, 1, &[0])).expect(&rt, "memory");
+    let loci = more(&rt, sets(&rt, a, 1), mode(&rt, a, 1, &[0]));
     let form = PropertyForm::Involutiveness(UnaryOperation {
         term: term(&rt, a, 1, &[1, 0]),
         place: 0,

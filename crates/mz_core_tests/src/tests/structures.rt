@@ -1,5 +1,5 @@
 //! What structures, set terms and choices owe and grant.
-use crate::tests::parts::{atom, mode, one, pattern, radix, sets, sym, term};
+use crate::tests::parts::{atom, mode, more, pattern, radix, sets, sym, term};
 use crate::tests::rows::{NOTHING, Row, check};
 use mz_compare::items::item_equal;
 use mz_core::field::Field;
@@ -60,11 +60,8 @@ fn structure(
 
 /// `let X be set; struct (G2) G1 over X (# U1 -> M1, U2 -> M2 of the U1 #)`.
 fn pairs(rt: &impl Abort, alloc: Global, notations: Notations) -> Item {
-    let ancestors = one(
-        rt,
-        alloc,
-        radix(alloc, Kind::Structure, 2, Terms::new(alloc)),
-    );
+    let other = radix(alloc, Kind::Structure, 2, Terms::new(alloc));
+    let ancestors = more(rt, SoftTypes::new(alloc), other);
     let first = mode(rt, alloc, 1, &[]);
     let second = mode(rt, alloc, 2, &[1]);
     let fields = two_fields(rt, alloc, first, second);
