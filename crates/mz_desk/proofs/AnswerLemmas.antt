@@ -1,25 +1,28 @@
 -- Each call of a desk has one answer.
 use Rattle.std.proofs.lemmas.Bool.{cases_lt}
-use Rattle.std.proofs.Common.{inl, inr, ◌≡◌, ◌<◌, ◌≤◌, ℕ, List, [], ◌∷◌, ◌++◌, length, refl, ap, sym, ◌∙◌, subst, arith, true, false}
+use Rattle.std.proofs.Common.{inl, inr, ◌≡◌, ◌<◌, ◌≤◌, ℕ, zero, suc, List, [], ◌∷◌, ◌++◌, length, refl, ap, sym, ◌∙◌, subst, arith, Bool, true, false}
 use Rattle.std.specs.Prelude.{◌⊎◌, Option, Some, None, slice_get, slice_set}
+use Rattle.std.specs.List.{filter}
 use Rattle.std.proofs.lemmas.Option.{same_Some, slice_get_within}
 use Rattle.mz_base.proofs.NameEqual.{Name-equal}
 use Rattle.mz_corpus.specs.Article.{Article}
 use Rattle.mz_corpus.specs.Corpus.{Corpus, IsCorpus}
-use Rattle.mz_turns.specs.Row.{Row, Claimed, is_settled, is_claimed, row_at}
+use Rattle.mz_turns.specs.Row.{Row, Claimed, is_settled, is_claimed, is_accepted, row_of, row_at}
 use Rattle.mz_turns.specs.Dependencies.{place_of}
-use Rattle.mz_turns.specs.Library.{environment}
+use Rattle.mz_turns.specs.Library.{library_of, is_used_by, environment}
 use Rattle.mz_turns.specs.declared.turn.Turn.TheVariants.{Take}
-use Rattle.mz_turns.proofs.RowLemmas.{true_false, same_article}
+use Rattle.mz_turns.proofs.RowLemmas.{true_false, same_article, put_same}
 use Rattle.mz_turns.proofs.NameLemmas.{articles_of, same_place}
+use Rattle.mz_turns.proofs.LibraryLemmas.{library_same}
+use Rattle.mz_turns.proofs.OnceLemmas.{blocks_once}
 use Rattle.mz_rows.specs.Standing.{state_of}
 use Rattle.mz_rows.specs.Table.{is_ready, number_of, number_at}
 use Rattle.mz_rows.specs.declared.standing.RowState.{RowState}
 use Rattle.mz_rows.proofs.ReadyLemmas.{ready_is, claimed_is}
-use Rattle.mz_desk.specs.Job.{Job}
+use Rattle.mz_desk.specs.Job.{Job, Done}
 use Rattle.mz_desk.specs.State.{State}
 use Rattle.mz_desk.specs.Difference.{text_named, export_named, IsFirstDifference}
-use Rattle.mz_desk.specs.Desk.{IsJobOf, IsClaimedFor, DiffersIn, Stands, IsStale, Strays, Takes, NoneIsReady, AllAreSettled, Answers}
+use Rattle.mz_desk.specs.Desk.{IsJobOf, IsClaimedFor, DiffersIn, Stands, IsStale, Strays, Takes, NoneIsReady, AllAreSettled, IsFirstUnsettled, Answers, Publishes, Reclaims}
 use Rattle.mz_desk.specs.declared.job.Why.{Why}
 use Rattle.mz_desk.specs.declared.job.Why.TheVariants.{NotClaimed, Text, Vocabulary, Export as OfExport}
 use Rattle.mz_desk.specs.declared.claim.Claim.{Claim}
@@ -132,11 +135,37 @@ same_takes s corpus w new newer j k x y =
     let corpora = x.corpus ∙ sym y.corpus in
     (λ i. record { corpus = corpora i; rows = rows i; turns = turns i }, job)
 
+-- a job that was just taken stands
+pub taken_stands : (s new : State) (w : ℕ) (j : Job) → IsCorpus s.corpus → length s.rows ≡ length s.corpus.articles → Takes s w new j → Stands new.corpus.articles new.rows j
+taken_stands s new w j corpus whole x =
+    let c = s.corpus.articles in
+    let a = x.job.article in
+    let r = j.row in
+    let after = slice_set s.rows r (Claimed w) in
+    let ready = ready_is c s.rows r x.ready in
+    let l : r < length s.rows = subst (λ n. r < n) (sym whole) (slice_get_within c r a x.job.is_at) in
+    let place : place_of c j.name ≡ r = same_place c (articles_of s.corpus corpus) r a j.name x.job.is_at x.job.named in
+    let library : library_of after ≡ library_of s.rows = library_same s.rows r (Claimed w) (ap is_accepted ready.waits) refl in
+    let stands : Stands c after j = record {
+      claim = record {
+        article = a;
+        is_at = ap (slice_get c) place ∙ x.job.is_at;
+        named = x.job.named;
+        claimed = ap (row_at after) place ∙ (put_same s.rows r (Claimed w) l ∙ ap Claimed (sym x.job.worker));
+      };
+      input = record {
+        text = x.job.input.text;
+        vocabularies = x.job.input.vocabularies;
+        exports = ap (filter (is_used_by a)) library ∙ x.job.input.exports;
+      };
+    } in
+    subst (λ k. Stands k.articles new.rows j) (sym x.corpus) (subst (λ rows. Stands c rows j) (sym x.rows) stands)
+
 one_claimed : (rows : List Row) (k l : ℕ) → is_claimed (row_at rows k) ≡ true → is_claimed (row_at rows l) ≡ true → ((q : ℕ) → q < k → is_claimed (row_at rows q) ≡ false) → ((q : ℕ) → q < l → is_claimed (row_at rows q) ≡ false) → k ≡ l
 one_claimed rows k l h i first other =
     same_number_of k l (λ lt. true_false (is_claimed (row_at rows k)) h (other k lt)) (λ lt. true_false (is_claimed (row_at rows l)) i (first l lt))
 
-claimed_within : (rows : List Row) (k : ℕ) → is_claimed (row_at rows k) ≡ true → (k < length rows) ⊎ (length rows ≤ k) → k < length rows
+pub claimed_within : (rows : List Row) (k : ℕ) → is_claimed (row_at rows k) ≡ true → (k < length rows) ⊎ (length rows ≤ k) → k < length rows
 claimed_within rows k h (inl lt) = lt
 claimed_within rows k h (inr le) = absurd (true_false (is_claimed (row_at rows k)) h (ap is_claimed (waiting_beyond rows k le)))
 
@@ -167,3 +196,51 @@ one_answer s corpus whole w new newer (claim.NotYet k) claim.Finished h i = absu
 one_answer s corpus whole w new newer claim.Finished (claim.Take j) h i = absurd (not_settled_now s j.row i.ready h.1)
 one_answer s corpus whole w new newer claim.Finished (claim.NotYet k) h i = absurd (not_finished s whole k i.2 h.1)
 one_answer s corpus whole w new newer claim.Finished claim.Finished h i = (h.0 ∙ sym i.0, refl)
+
+-- what a publication and a reclaim leave
+pub one_publication : (old new newer : State) (d : Done) → Publishes old new d → Publishes old newer d → new ≡ newer
+one_publication old new newer d x y =
+    let c = old.corpus.articles in
+    let corpora = x.corpus ∙ sym y.corpus in
+    let rows = blocks_once c (slice_set old.rows (place_of c d.job.name) (row_of d.outcome)) new.rows newer.rows x.rows y.rows in
+    let turns = x.turns ∙ sym y.turns in
+    λ i. record { corpus = corpora i; rows = rows i; turns = turns i }
+
+-- one of the first rows is claimed, or none is
+abbrev SomeClaimed : List Row → ℕ → Type 0
+SomeClaimed rows n = (k : ℕ) × (k < n) × (is_claimed (row_at rows k) ≡ true)
+
+abbrev NoneClaimed : List Row → ℕ → Type 0
+NoneClaimed rows n = (k : ℕ) → k < n → is_claimed (row_at rows k) ≡ false
+
+none_more_if : (rows : List Row) (n k : ℕ) → NoneClaimed rows n → is_claimed (row_at rows n) ≡ false → k < suc n → (k < n) ⊎ (n ≤ k) → is_claimed (row_at rows k) ≡ false
+none_more_if rows n k none e lt (inl before) = none k before
+none_more_if rows n k none e lt (inr le) =
+    let same : k ≡ n = omega (arith, lt, le) in
+    ap (λ j. is_claimed (row_at rows j)) same ∙ e
+
+claimed_more : (rows : List Row) (n : ℕ) (b : Bool) → is_claimed (row_at rows n) ≡ b → SomeClaimed rows n ⊎ NoneClaimed rows n → SomeClaimed rows (suc n) ⊎ NoneClaimed rows (suc n)
+claimed_more rows n true e before = inl (n, omega arith, e)
+claimed_more rows n false e (inl (k, lt, h)) = inl (k, omega (arith, lt), h)
+claimed_more rows n false e (inr none) = inr (λ k lt. none_more_if rows n k none e lt (cases_lt k n))
+
+some_or_none : (rows : List Row) (n : ℕ) → SomeClaimed rows n ⊎ NoneClaimed rows n
+some_or_none rows zero = inr (λ k lt. absurd (omega (arith, lt)))
+some_or_none rows (suc n) = claimed_more rows n (is_claimed (row_at rows n)) refl (some_or_none rows n)
+
+one_reclaim_if : (old new newer : State) → Reclaims old new → Reclaims old newer → SomeClaimed old.rows (length old.corpus.articles) ⊎ NoneClaimed old.rows (length old.corpus.articles) → new ≡ newer
+one_reclaim_if old new newer x y (inl (k, lt, h)) =
+    let first = x.some k lt h in
+    let second = y.some k lt h in
+    let corpora = x.corpus ∙ sym y.corpus in
+    let rows = first.0 ∙ sym second.0 in
+    let turns = first.1 ∙ sym second.1 in
+    λ i. record { corpus = corpora i; rows = rows i; turns = turns i }
+one_reclaim_if old new newer x y (inr none) = x.none none ∙ sym (y.none none)
+
+pub one_reclaim : (old new newer : State) → Reclaims old new → Reclaims old newer → new ≡ newer
+one_reclaim old new newer x y = one_reclaim_if old new newer x y (some_or_none old.rows (length old.corpus.articles))
+
+pub one_unsettled : (s : State) (q r : ℕ) → IsFirstUnsettled s q → IsFirstUnsettled s r → q ≡ r
+one_unsettled s q r x y =
+    same_number_of q r (λ lt. true_false (is_settled (row_at s.rows q)) (y.2 q lt) x.1) (λ lt. true_false (is_settled (row_at s.rows r)) (x.2 r lt) y.1)

@@ -125,10 +125,11 @@ impl<C: Semantics> Desk<C> {
         self.table.library()
     }
 
-    /// What each desk keeps: its rows are those after its turns; so its library is sound, each settled row is
-    /// the verdict of its article, and where all are settled they are the verdicts.
+    /// What each desk keeps: its rows are those after its turns; so there is one for each article, its library is
+    /// sound, each settled row is the verdict of its article, and where all are settled they are the verdicts.
     pub fn law(&self)
         ensures replays { Replays C.is_outcome self.now.corpus.articles self.now.turns self.now.rows }
+        ensures whole { length self.now.rows ≡ length self.now.corpus.articles }
         ensures sound { Sound (library_of self.now.rows) }
         ensures verdict { (r : ℕ) → is_settled (row_at self.now.rows r) ≡ true → HasVerdict C.is_outcome self.now.corpus.articles r (row_at self.now.rows r) }
         ensures all { AllAreSettled self.now → AreVerdicts C.is_outcome self.now.corpus.articles self.now.rows }

@@ -210,6 +210,13 @@ impl Job {
 }
 
 impl<C: Semantics> Done<C> {
+    /// What each result keeps: its outcome is the one that the checker gives for its job.
+    pub fn law(&self)
+        ensures { IsOutcomeOf C.is_outcome self.now.job self.now.outcome }
+    {
+        let _found = &self.found;
+    }
+
     /// The job.
     pub fn job(&self) -> &Job
         ensures { result.now ≡ self.now.job }

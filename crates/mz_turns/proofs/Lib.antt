@@ -7,3 +7,4 @@ pub mod GoodLemmas
 pub mod MachineLemmas
 pub mod SoundLemmas
 pub mod OrderLemmas
+pub mod OnceLemmas

@@ -19,7 +19,7 @@ same_text : (a b : Article) (t u : List ℕ) → a ≡ b → a.text ≡ Some t �
 same_text a b t u e h k = same_Some t u (sym h ∙ (ap (λ x. x.text) e ∙ k))
 
 -- the outcome from the same article, exports and text
-same_outcome : (is_outcome : OutcomeRelation) → HasOneOutcome is_outcome → (a b : Article) (es fs : List Export) (t u : List ℕ) (o p : Outcome) → a ≡ b → es ≡ fs → t ≡ u → is_outcome a.name a.vocabularies es t o → is_outcome b.name b.vocabularies fs u p → o ≡ p
+pub same_outcome : (is_outcome : OutcomeRelation) → HasOneOutcome is_outcome → (a b : Article) (es fs : List Export) (t u : List ℕ) (o p : Outcome) → a ≡ b → es ≡ fs → t ≡ u → is_outcome a.name a.vocabularies es t o → is_outcome b.name b.vocabularies fs u p → o ≡ p
 same_outcome is_outcome once a b es fs t u o p ab ef tu h k =
     once b.name b.vocabularies fs u o p (subst (λ x. is_outcome x.name x.vocabularies fs u o) ab (subst (λ xs. is_outcome a.name a.vocabularies xs u o) ef (subst (λ x. is_outcome a.name a.vocabularies es x o) tu h))) k
 

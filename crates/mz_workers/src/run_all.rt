@@ -1,11 +1,13 @@
 //! All the work.
-ghost use Rattle.std.specs.Prelude.{◌≡◌, ◌≤◌, ◌<◌, ◌^◌, IfOk, OnOk};
+ghost use Rattle.std.specs.Prelude.{◌≡◌, ◌≤◌, ◌<◌, ◌^◌, [], IfOk, OnOk, IsTrue, IsFalse};
 ghost use Rattle.std.specs.Arc.{arc_value};
 ghost use Rattle.mz_axioms.specs.Library.{Sound};
 ghost use Rattle.mz_turns.specs.Library.{library_of};
 ghost use Rattle.mz_turns.specs.Verdicts.{AreVerdicts};
+ghost use Rattle.mz_turns.specs.Machine.{Starts};
 ghost use Rattle.mz_desk.specs.Job.{Done};
 ghost use Rattle.mz_desk.specs.Desk.{AllAreSettled, Stands, Publishes};
+ghost use Rattle.mz_workers.specs.Work.{work_left};
 
 use crate::work::work;
 use mz_axioms::checker::Checker;
@@ -64,6 +66,34 @@ fn check_one<C: Checker, R: Threads + Wait + Sync>(
     }
 }
 
+/// Checks the first ready row, or takes claims away where none is ready; whether there was something to do. So less
+/// is left.
+fn advance<C: Checker, R: Threads + Wait + Sync>(
+    rt: &R,
+    alloc: Global,
+    desk: &mut Desk<C>,
+    checker: &C,
+) -> Result<bool, AllocError>
+    ensures corpus { desk.new.corpus ≡ desk.old.corpus }
+    ensures less { IfOk result (λ more. IsTrue more → work_left desk.new.rows < work_left desk.old.rows) }
+    ensures settled { IfOk result (λ more. IsFalse more → AllAreSettled desk.new) }
+{
+    desk.law();
+    desk.corpus().law();
+    answers_law();
+    match desk.claim(alloc, 0)? {
+        Claim::Take(job) => {
+            check_one(rt, alloc, &mut *desk, job, checker)?;
+            Ok(true)
+        }
+        Claim::NotYet { .. } => {
+            desk.reclaim();
+            Ok(true)
+        }
+        Claim::Finished => Ok(false),
+    }
+}
+
 /// Finishes the work of a desk in this thread. It passes no gate, since it is no worker's.
 fn finish<C: Checker, R: Threads + Wait + Sync>(
     rt: &R,
@@ -76,17 +106,9 @@ fn finish<C: Checker, R: Threads + Wait + Sync>(
     ensures verdicts { IfOk result (λ s. AreVerdicts C.is_outcome s.corpus.articles s.rows) }
     ensures sound { IfOk result (λ s. Sound (library_of s.rows)) }
 {
-    for _ in rt.forever() {
-        match desk.claim(alloc, 0)? {
-            Claim::Take(job) => check_one(rt, alloc, &mut desk, job, checker)?,
-            Claim::NotYet { .. } => desk.reclaim(),
-            Claim::Finished => {
-                desk.law();
-                return Ok(desk);
-            }
-        }
-    }
-    unreachable!()
+    while advance(rt, alloc, &mut desk, checker)? {}
+    desk.law();
+    Ok(desk)
 }
 
 /// The desk, or a new one where it isn't over the corpus.
@@ -97,6 +119,7 @@ fn over<C: Checker>(
 ) -> Result<Desk<C>, AllocError>
     ensures corpus { IfOk result (λ s. s.corpus ≡ arc_value corpus) }
     ensures kept { desk.corpus ≡ arc_value corpus → IfOk result (λ s. s ≡ desk) }
+    ensures opened { (desk.corpus ≡ arc_value corpus → ⊥) → IfOk result (λ s. Starts s.corpus.articles s.rows × (s.turns ≡ [])) }
 {
     if desk.corpus().is_same(&corpus) {
         Ok(desk)

@@ -3,8 +3,10 @@ ghost use Rattle.std.specs.Prelude.{◌<◌, ◌^◌};
 
 use crate::scripted::Scripted;
 use mz_axioms::checker::Semantics;
+use mz_axioms::exports::Exports;
 use mz_base::name::Name;
-use mz_core::verdict::{Entry, Verdict};
+use mz_compare::items::export_equal;
+use mz_core::verdict::{Entry, Verdict, Verdicts};
 use mz_desk::desk::Desk;
 use mz_desk_tests::corpora::{diamond, name_of};
 use mz_io::gate::Gate;
@@ -70,6 +72,50 @@ pub fn has_library<C: Semantics, R: Abort>(rt: &R, desk: &Desk<C>, names: &[&str
 /// Whether all four articles are accepted.
 pub fn is_accepted<C: Semantics, R: Abort>(rt: &R, desk: &Desk<C>) -> bool {
     has_verdicts(rt, desk, "aaaa") && has_library(rt, desk, &LIBRARY)
+}
+
+fn is_same_entry(a: &Entry, b: &Entry) -> bool {
+    a.name == b.name
+        && letter(a) == letter(b)
+        && a.counts.theorems == b.counts.theorems
+        && a.counts.definitions == b.counts.definitions
+        && a.counts.registrations == b.counts.registrations
+        && a.counts.schemes == b.counts.schemes
+        && a.faults.items == b.faults.items
+}
+
+fn is_same_told(a: &Verdicts, b: &Verdicts) -> bool {
+    if a.items.len() != b.items.len() {
+        return false;
+    }
+    for (x, y) in a.items.iter().zip(b.items.iter()) {
+        if !is_same_entry(x, y) {
+            return false;
+        }
+    }
+    true
+}
+
+fn is_same_library(a: &Exports, b: &Exports) -> bool {
+    if a.len() != b.len() {
+        return false;
+    }
+    for (x, y) in a.as_slice().iter().zip(b.as_slice().iter()) {
+        if !export_equal(x, y) {
+            return false;
+        }
+    }
+    true
+}
+
+/// Whether two desks whose rows are all settled tell the same of each row, and have the same library.
+pub fn is_same<C: Semantics>(a: &Desk<C>, b: &Desk<C>) -> bool {
+    match (a.verdicts(), b.verdicts()) {
+        (Ok(told), Ok(others)) => {
+            is_same_told(told, others) && is_same_library(a.library(), b.library())
+        }
+        _ => false,
+    }
 }
 
 /// A desk over the four articles, by two workers on two threads, and how many of them stopped.

@@ -1,14 +1,34 @@
 //! Workers on several threads. What one article's check waits for, another worker has to bring about.
+ghost use Rattle.std.specs.Prelude.{◌≤◌};
+
 use crate::events::Hold;
 use crate::scripted::Scripted;
-use crate::shared::{LIBRARY, by_two, has_library, has_verdicts, is_accepted, name};
+use crate::shared::{LIBRARY, by_two, has_library, has_verdicts, is_accepted, is_same, name};
+use mz_desk::desk::Desk;
 use mz_desk_tests::corpora::diamond;
 use mz_desk_tests::plain::Plain;
 use mz_io::gate::OpenGate;
 use mz_workers::run_all::run_all;
 use std::alloc::Global;
+use std::process::Abort;
+use std::sync::Wait;
+use std::thread::Threads;
 
-/// The text of DB, the verdicts of DD, DB, DC and DA, and the names of the library.
+/// The desk that this many workers leave.
+fn desk_by<R: Abort + Threads + Wait + Sync>(
+    rt: &R,
+    alloc: Global,
+    text_of_db: &str,
+    workers: u32,
+) -> Desk<Plain>
+    requires { (1 ≤ workers) × (workers ≤ 16) }
+{
+    let corpus = diamond(alloc, text_of_db).expect(rt, "a corpus");
+    run_all(rt, alloc, corpus, &Plain, &OpenGate, workers).expect(rt, "memory")
+}
+
+/// The text of DB, the verdicts of DD, DB, DC and DA, and the names of the library. Another first byte of DB makes
+/// another export.
 #[test]
 fn one_worker_and_many(rt: HostRuntime) {
     let alloc: Global = rt.alloc();
@@ -19,14 +39,15 @@ fn one_worker_and_many(rt: HostRuntime) {
         ("", "braa", &without_db),
     ];
     for (text_of_db, letters, names) in rows {
-        for workers in [1, 4, 16] {
-            let corpus = diamond(alloc, text_of_db).expect(&rt, "a corpus");
-            let desk = run_all(&rt, alloc, corpus, &Plain, &OpenGate, workers);
-            let desk = desk.expect(&rt, "memory");
-            assert!(&rt; has_verdicts(&rt, &desk, letters));
-            assert!(&rt; has_library(&rt, &desk, names));
+        let one = desk_by(&rt, alloc, text_of_db, 1);
+        assert!(&rt; has_verdicts(&rt, &one, letters));
+        assert!(&rt; has_library(&rt, &one, names));
+        for workers in [4, 16] {
+            assert!(&rt; is_same(&one, &desk_by(&rt, alloc, text_of_db, workers)));
         }
     }
+    let plain = desk_by(&rt, alloc, "b", 4);
+    assert!(&rt; !is_same(&plain, &desk_by(&rt, alloc, "+b", 4)));
 }
 
 #[test]

@@ -1,4 +1,4 @@
-use Rattle.std.proofs.Common.{◌≡◌, ◌∙◌, ℕ, true, subst}
+use Rattle.std.proofs.Common.{◌≡◌, ◌∙◌, ℕ, true, length, subst}
 use Rattle.mz_axioms.specs.Library.{Sound}
 use Rattle.mz_corpus.specs.Corpus.{IsCorpus}
 use Rattle.mz_turns.specs.Row.{is_settled, row_at}
@@ -10,6 +10,13 @@ use Rattle.mz_turns.proofs.OrderLemmas.{settled_verdicts}
 use Rattle.mz_desk.specs.Desk.{AllAreSettled}
 use Rattle.mz_desk.proofs.DeskLemmas.{good}
 use Rattle.mz_desk.proofs.desk.Desk.law.Goals as goal
+
+pub returns-clause-whole : goal.returns-clause-whole
+returns-clause-whole g c =
+    let t = c.self.inside.table in
+    let law = subst IsCorpus (c.deref.ensures ∙ c.corpus.ensures) c.law.ensures in
+    subst (λ s. length s.rows ≡ length s.corpus.articles) c.self.view_is
+    (good g.C.Semantics.is_outcome g.C.Semantics.answers_name t.corpus law c.self.inside.turns.items t.rows c.self.invariant.0).whole
 
 pub returns-clause-sound : goal.returns-clause-sound
 returns-clause-sound g c =
