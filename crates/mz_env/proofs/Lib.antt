@@ -1,0 +1,7 @@
+pub mod SymbolLemmas
+pub mod ShareLemmas
+pub mod FindLemmas
+pub mod VisitLemmas
+pub mod FaultLemmas
+pub mod WalkLemmas
+pub mod OneOutcome
