@@ -1,0 +1,5 @@
+//! Tests of what environment parts let in.
+#![tactic(auto)]
+
+#[cfg(test)]
+mod tests;

@@ -1,0 +1,160 @@
+//! Environments of made exports, by lists of their entries, and the faults of environment parts.
+mod lists;
+mod samples;
+
+use crate::tests::lists::lists_of;
+use crate::tests::samples::exports;
+use mz_base::head::{DirectiveKind, Head};
+use mz_base::place::Place;
+use mz_env::accommodate::accommodate;
+use mz_env::env_fault::EnvFault;
+use mz_lex::head::head;
+use std::alloc::Global;
+use std::process::Abort;
+
+fn head_of(rt: &impl Abort, alloc: Global, text: &str) -> Head {
+    head(alloc, text.as_bytes()).expect(rt, "head")
+}
+
+/// Whether the text lets in just these lists.
+fn lets_in(rt: &impl Abort, alloc: Global, text: &str, circle: bool, wanted: &str) -> bool {
+    let head = head_of(rt, alloc, text);
+    let env = accommodate(alloc, &head, &exports(rt, alloc, circle)).expect(rt, "environment");
+    lists_of(rt, alloc, &env).as_slice() == wanted.as_bytes()
+}
+
+/// The same where the directives are all of the kind.
+fn lets_in_as(
+    rt: &impl Abort,
+    alloc: Global,
+    kind: DirectiveKind,
+    text: &str,
+    wanted: &str,
+) -> bool {
+    let mut head = head_of(rt, alloc, text);
+    for d in &mut head.items {
+        d.kind = kind;
+    }
+    let env = accommodate(alloc, &head, &exports(rt, alloc, false)).expect(rt, "environment");
+    lists_of(rt, alloc, &env).as_slice() == wanted.as_bytes()
+}
+
+#[test]
+fn constructors(rt: HostRuntime) {
+    let of_a = "functors A.O1 A.O2; modes A.M1; typing A.O1 A.O2; ";
+    assert!(rt;
+        lets_in(
+            &rt,
+            rt.alloc(),
+            "environ constructors A; begin",
+            false,
+            of_a
+        )
+    );
+    assert!(rt;
+        lets_in(
+            &rt,
+            rt.alloc(),
+            "environ constructors B; begin",
+            false,
+            of_a
+        )
+    );
+    assert!(rt;
+        lets_in(
+            &rt,
+            rt.alloc(),
+            "environ constructors B, A, B; begin",
+            false,
+            of_a
+        )
+    );
+}
+
+#[test]
+fn a_circle_of_dependencies_ends(rt: HostRuntime) {
+    let of_a = "functors A.O1 A.O2; modes A.M1; typing A.O1 A.O2; ";
+    assert!(rt;
+        lets_in(
+            &rt,
+            rt.alloc(),
+            "environ constructors A, P; begin",
+            true,
+            of_a
+        )
+    );
+}
+
+#[test]
+fn notations_in_their_order(rt: HostRuntime) {
+    let text = "environ notations B, A, B; constructors B; begin";
+    let wanted = "functors A.O1 A.O2; modes A.M1; notations v m f g v; typing A.O1 A.O2; ";
+    assert!(rt; lets_in(&rt, rt.alloc(), text, false, wanted));
+}
+
+#[test]
+fn registrations_whose_constructors_are_let_in(rt: HostRuntime) {
+    let without = "environ registrations A; begin";
+    assert!(rt; lets_in(&rt, rt.alloc(), without, false, ""));
+    let alone = "environ registrations A; constructors A; begin";
+    let wanted = "functors A.O1 A.O2; modes A.M1; typing A.M1 A.O1 A.O2; registrations A.V1; ";
+    assert!(rt; lets_in(&rt, rt.alloc(), alone, false, wanted));
+    let both = "environ constructors B; registrations A; begin";
+    let wanted = "functors A.O1 A.O2; modes A.M1; typing A.O1 A.O2 A.M1; registrations A.V1 B.V1; ";
+    assert!(rt; lets_in(&rt, rt.alloc(), both, false, wanted));
+}
+
+#[test]
+fn definitions(rt: HostRuntime) {
+    let text = "environ definitions B, A; begin";
+    assert!(rt; lets_in(&rt, rt.alloc(), text, false, "steps B.V1 A.M1 A.O1; "));
+    let kind = DirectiveKind::Expansions;
+    assert!(rt; lets_in_as(&rt, rt.alloc(), kind, text, "expansions B.V1 A.M1 A.O1; "));
+    let kind = DirectiveKind::Equalities;
+    assert!(rt; lets_in_as(&rt, rt.alloc(), kind, text, "equalities A.O2; "));
+}
+
+#[test]
+fn what_may_be_cited(rt: HostRuntime) {
+    let text = "environ theorems B, A; schemes A; begin";
+    let wanted = " B:def 1 B:1 A:def 1 A:def 2 A:1 A:def 3 A:sch 1";
+    assert!(rt; lets_in(&rt, rt.alloc(), text, false, wanted));
+}
+
+/// The fault of an environment part.
+fn fault_of(rt: &impl Abort, alloc: Global, text: &str) -> Option<EnvFault> {
+    let head = head_of(rt, alloc, text);
+    match accommodate(alloc, &head, &exports(rt, alloc, false)) {
+        Ok(_) => None,
+        Err(f) => Some(f),
+    }
+}
+
+fn at(column: u64) -> Place {
+    Place { line: 1, column }
+}
+
+#[test]
+fn a_constructor_that_is_missing(rt: HostRuntime) {
+    let text = "environ vocabularies V8; notations P; begin";
+    let fault = fault_of(&rt, rt.alloc(), text);
+    assert!(rt;
+        matches!(fault, Some(EnvFault::MissingConstructor { place, item: 1 }) if place == at(36))
+    );
+    let later = "environ vocabularies V8; notations P; constructors P; begin";
+    assert!(rt; fault_of(&rt, rt.alloc(), later).is_none());
+}
+
+#[test]
+fn a_requirement_that_is_not_known(rt: HostRuntime) {
+    let fault = fault_of(&rt, rt.alloc(), "environ requirements ARITHM; begin");
+    assert!(rt; matches!(fault, Some(EnvFault::UnknownRequirement { place }) if place == at(22)));
+    assert!(rt; fault_of(&rt, rt.alloc(), "environ requirements HIDDEN; begin").is_none());
+}
+
+#[test]
+fn the_first_fault_in_the_text(rt: HostRuntime) {
+    let text = "environ theorems A, NOWHERE; notations P; begin";
+    let fault = fault_of(&rt, rt.alloc(), text);
+    assert!(rt; matches!(fault, Some(EnvFault::NotExported { place }) if place == at(21)));
+}
