@@ -1,0 +1,5 @@
+use Rattle.mz_env_laws.proofs.LetInProofs.{closed_law}
+use Rattle.mz_env_laws.proofs.laws.closed_law.Goals as goal
+
+pub returns : goal.returns
+returns c = closed_law
