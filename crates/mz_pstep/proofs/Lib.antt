@@ -5,4 +5,5 @@ pub mod Equals
 pub mod ListSteps
 pub mod Named
 pub mod Sequences
+pub mod StepSequences
 pub mod Unique

@@ -44,6 +44,7 @@ use Rattle.mz_pstep.proofs.Equals.{equals_same, equals_signed, equals_own, set_s
 use Rattle.mz_pstep.proofs.ListSteps.{linked_named, linked_retyped, linked_taken, linked_types}
 use Rattle.mz_pstep.proofs.Named as named_terms
 use Rattle.mz_pstep.proofs.Sequences as sequences
+use Rattle.mz_pstep.proofs.StepSequences as steps
 
 words : (n : ℕ) (c : Sign) → is_fixed c ≡ true → One n (word c)
 words n c fix = one_class n Place (fixed c) (same_fixed c fix)
@@ -139,20 +140,20 @@ defpred_one n = one_as n defpred_form sequences.defpred_1 sequences.make_defpred
     (one_then n n (keyword keywords.Defpred) (λ _. sequences.defpred_2) sequences.defpred_apart_1 (keys n keywords.Defpred refl) (λ a. one_then n n (name signs.Identifier) (λ _. sequences.defpred_3) sequences.defpred_apart_2 (names n) (λ a. one_then n n (nested (word signs.OpenSquare)) (λ _. sequences.defpred_4) sequences.defpred_apart_3 (words n signs.OpenSquare refl) (λ a. one_then n n (closing_form signs.CloseSquare) (λ _. sequences.defpred_5) sequences.defpred_apart_4 (closing_one signs.CloseSquare refl n) (λ a. one_then n n (keyword keywords.Means) (λ _. sequences.defpred_6) sequences.defpred_apart_5 (keys n keywords.Means refl) (λ a. one_then n n (formula_form false) (λ _. sequences.defpred_7) sequences.defpred_apart_6 ((formulas_one false n).formulas) (λ a. keys n keywords.Semicolon refl) (λ a l isa h. omega (arith, h))) (λ a l isa h. omega (arith, h))) (λ a l isa h. omega (arith, h))) (λ a l isa h. omega (arith, h))) (λ a l isa h. omega (arith, h))) (λ a l isa h. omega (arith, h)))
 
 pub let_one : (n : ℕ) → One n let_form
-let_one n = one_as n let_form sequences.let_1 sequences.make_let sequences.only_let (λ s is. (sequences.as_let []).spells s is) (λ s t is g. (sequences.as_let []).goes s t is g)
-    (one_then n n (keyword keywords.Let) (λ _. sequences.let_2) sequences.let_apart_1 (keys n keywords.Let refl) (λ a. one_then n n (declarations_form false) (λ _. sequences.let_3) sequences.let_apart_2 (declarations_one false n) (λ a. one_then n n maybe_such_form (λ _. sequences.let_4) sequences.let_apart_3 (maybe_such_one n) (λ a. keys n keywords.Semicolon refl) (λ a l isa h. omega (arith, h))) (λ a l isa h. omega (arith, h))) (λ a l isa h. omega (arith, h)))
+let_one n = one_as n let_form steps.let_1 steps.make_let steps.only_let (λ s is. (steps.as_let []).spells s is) (λ s t is g. (steps.as_let []).goes s t is g)
+    (one_then n n (keyword keywords.Let) (λ _. steps.let_2) steps.let_apart_1 (keys n keywords.Let refl) (λ a. one_then n n (declarations_form false) (λ _. steps.let_3) steps.let_apart_2 (declarations_one false n) (λ a. one_then n n maybe_such_form (λ _. steps.let_4) steps.let_apart_3 (maybe_such_one n) (λ a. keys n keywords.Semicolon refl) (λ a l isa h. omega (arith, h))) (λ a l isa h. omega (arith, h))) (λ a l isa h. omega (arith, h)))
 
 pub assume_one : (n : ℕ) → One n assume_form
-assume_one n = one_as n assume_form sequences.assume_1 sequences.make_assume sequences.only_assume (λ s is. (sequences.as_assume []).spells s is) (λ s t is g. (sequences.as_assume []).goes s t is g)
-    (one_then n n (keyword keywords.Assume) (λ _. sequences.assume_2) sequences.assume_apart_1 (keys n keywords.Assume refl) (λ a. one_then n n hypotheses_form (λ _. sequences.assume_3) sequences.assume_apart_2 (hypotheses_one n) (λ a. keys n keywords.Semicolon refl) (λ a l isa h. omega (arith, h))) (λ a l isa h. omega (arith, h)))
+assume_one n = one_as n assume_form steps.assume_1 steps.make_assume steps.only_assume (λ s is. (steps.as_assume []).spells s is) (λ s t is g. (steps.as_assume []).goes s t is g)
+    (one_then n n (keyword keywords.Assume) (λ _. steps.assume_2) steps.assume_apart_1 (keys n keywords.Assume refl) (λ a. one_then n n hypotheses_form (λ _. steps.assume_3) steps.assume_apart_2 (hypotheses_one n) (λ a. keys n keywords.Semicolon refl) (λ a l isa h. omega (arith, h))) (λ a l isa h. omega (arith, h)))
 
 pub given_one : (n : ℕ) → One n given_form
-given_one n = one_as n given_form sequences.given_1 sequences.make_given sequences.only_given (λ s is. (sequences.as_given []).spells s is) (λ s t is g. (sequences.as_given []).goes s t is g)
-    (one_then n n (keyword keywords.Given) (λ _. sequences.given_2) sequences.given_apart_1 (keys n keywords.Given refl) (λ a. one_then n n (declarations_form false) (λ _. sequences.given_3) sequences.given_apart_2 (declarations_one false n) (λ a. one_then n n such_form (λ _. sequences.given_4) sequences.given_apart_3 (such_one n) (λ a. keys n keywords.Semicolon refl) (λ a l isa h. omega (arith, h))) (λ a l isa h. omega (arith, h))) (λ a l isa h. omega (arith, h)))
+given_one n = one_as n given_form steps.given_1 steps.make_given steps.only_given (λ s is. (steps.as_given []).spells s is) (λ s t is g. (steps.as_given []).goes s t is g)
+    (one_then n n (keyword keywords.Given) (λ _. steps.given_2) steps.given_apart_1 (keys n keywords.Given refl) (λ a. one_then n n (declarations_form false) (λ _. steps.given_3) steps.given_apart_2 (declarations_one false n) (λ a. one_then n n such_form (λ _. steps.given_4) steps.given_apart_3 (such_one n) (λ a. keys n keywords.Semicolon refl) (λ a l isa h. omega (arith, h))) (λ a l isa h. omega (arith, h))) (λ a l isa h. omega (arith, h)))
 
 pub take_one : (n : ℕ) → One n take_form
-take_one n = one_as n take_form sequences.take_1 sequences.make_take sequences.only_take (λ s is. (sequences.as_take []).spells s is) (λ s t is g. (sequences.as_take []).goes s t is g)
-    (one_then n n (keyword keywords.Take) (λ _. sequences.take_2) sequences.take_apart_1 (keys n keywords.Take refl) (λ a. one_then n n takens_form (λ _. sequences.take_3) sequences.take_apart_2 (takens_one n) (λ a. keys n keywords.Semicolon refl) (λ a l isa h. omega (arith, h))) (λ a l isa h. omega (arith, h)))
+take_one n = one_as n take_form steps.take_1 steps.make_take steps.only_take (λ s is. (steps.as_take []).spells s is) (λ s t is g. (steps.as_take []).goes s t is g)
+    (one_then n n (keyword keywords.Take) (λ _. steps.take_2) steps.take_apart_1 (keys n keywords.Take refl) (λ a. one_then n n takens_form (λ _. steps.take_3) steps.take_apart_2 (takens_one n) (λ a. keys n keywords.Semicolon refl) (λ a l isa h. omega (arith, h))) (λ a l isa h. omega (arith, h)))
 
 pub split_one : (n : ℕ) → One n split_form
-split_one n = one_then n n (keyword keywords.Per) (λ _. sequences.split_2) sequences.split_apart_1 (keys n keywords.Per refl) (λ a. one_then n n (keyword keywords.Cases) (λ _. sequences.split_3) sequences.split_apart_2 (keys n keywords.Cases refl) (λ a. one_then n n simple_form (λ _. sequences.split_4) sequences.split_apart_3 (simple_one n) (λ a. keys n keywords.Semicolon refl) (λ a l isa h. omega (arith, h))) (λ a l isa h. omega (arith, h))) (λ a l isa h. omega (arith, h))
+split_one n = one_then n n (keyword keywords.Per) (λ _. steps.split_2) steps.split_apart_1 (keys n keywords.Per refl) (λ a. one_then n n (keyword keywords.Cases) (λ _. steps.split_3) steps.split_apart_2 (keys n keywords.Cases refl) (λ a. one_then n n simple_form (λ _. steps.split_4) steps.split_apart_3 (simple_one n) (λ a. keys n keywords.Semicolon refl) (λ a l isa h. omega (arith, h))) (λ a l isa h. omega (arith, h))) (λ a l isa h. omega (arith, h))

@@ -3,7 +3,7 @@ use Rattle.mz_forms.proofs.Words.{word_in_any, word_refuses}
 use Rattle.mz_base.specs.declared.place.Place.{Place}
 use Rattle.mz_pjustification.specs.declared.keyword.Keyword.TheVariants as keywords
 use Rattle.mz_pjustification.specs.Words.{key}
-use Rattle.mz_pstep.proofs.Sequences.{assume_refused_1, assume_refused_2, assume_refused_3, assume_found}
+use Rattle.mz_pstep.proofs.StepSequences.{assume_refused_1, assume_refused_2, assume_refused_3, assume_found}
 use Rattle.mz_pstep.proofs.skeletons.assume.Goals as goal
 
 pub returns-in_err-assume : goal.returns-in_err-assume

@@ -3,7 +3,7 @@ use Rattle.mz_forms.proofs.Words.{word_in_any, word_refuses}
 use Rattle.mz_base.specs.declared.place.Place.{Place}
 use Rattle.mz_pjustification.specs.declared.keyword.Keyword.TheVariants as keywords
 use Rattle.mz_pjustification.specs.Words.{key}
-use Rattle.mz_pstep.proofs.Sequences.{given_refused_1, given_refused_2, given_refused_3, given_refused_4, given_found}
+use Rattle.mz_pstep.proofs.StepSequences.{given_refused_1, given_refused_2, given_refused_3, given_refused_4, given_found}
 use Rattle.mz_pstep.proofs.skeletons.given.Goals as goal
 
 pub returns-in_err-given : goal.returns-in_err-given

@@ -3,7 +3,7 @@ use Rattle.mz_forms.proofs.Words.{word_in_any, word_refuses}
 use Rattle.mz_base.specs.declared.place.Place.{Place}
 use Rattle.mz_pjustification.specs.declared.keyword.Keyword.TheVariants as keywords
 use Rattle.mz_pjustification.specs.Words.{key}
-use Rattle.mz_pstep.proofs.Sequences.{let_refused_1, let_refused_2, let_refused_3, let_refused_4, let_found}
+use Rattle.mz_pstep.proofs.StepSequences.{let_refused_1, let_refused_2, let_refused_3, let_refused_4, let_found}
 use Rattle.mz_pstep.proofs.skeletons.let_step.Goals as goal
 
 pub returns-in_err-let_ : goal.returns-in_err-let_

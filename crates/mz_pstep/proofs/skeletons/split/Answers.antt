@@ -4,7 +4,7 @@ use Rattle.mz_forms.proofs.Words.{word_in_any, word_refuses}
 use Rattle.mz_base.specs.declared.place.Place.{Place}
 use Rattle.mz_pjustification.specs.declared.keyword.Keyword.TheVariants as keywords
 use Rattle.mz_pjustification.specs.Words.{key}
-use Rattle.mz_pstep.proofs.Sequences.{split_refused_1, split_refused_2, split_refused_3, split_refused_4, split_found}
+use Rattle.mz_pstep.proofs.StepSequences.{split_refused_1, split_refused_2, split_refused_3, split_refused_4, split_found}
 use Rattle.mz_pstep.proofs.skeletons.split.Goals as goal
 
 pub returns-in_err-per : goal.returns-in_err-per

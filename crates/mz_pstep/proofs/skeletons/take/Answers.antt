@@ -3,7 +3,7 @@ use Rattle.mz_forms.proofs.Words.{word_in_any, word_refuses}
 use Rattle.mz_base.specs.declared.place.Place.{Place}
 use Rattle.mz_pjustification.specs.declared.keyword.Keyword.TheVariants as keywords
 use Rattle.mz_pjustification.specs.Words.{key}
-use Rattle.mz_pstep.proofs.Sequences.{take_refused_1, take_refused_2, take_refused_3, take_found}
+use Rattle.mz_pstep.proofs.StepSequences.{take_refused_1, take_refused_2, take_refused_3, take_found}
 use Rattle.mz_pstep.proofs.skeletons.take.Goals as goal
 
 pub returns-in_err-take : goal.returns-in_err-take
