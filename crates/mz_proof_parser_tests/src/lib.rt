@@ -6,4 +6,6 @@ mod justifications;
 #[cfg(test)]
 mod propositions;
 #[cfg(test)]
+mod steps;
+#[cfg(test)]
 mod texts;

@@ -33,7 +33,7 @@ pub enum Answer {
 }
 
 /// The tokens with their marks.
-fn marked(rt: &impl Abort, alloc: Global, tokens: &Tokens) -> Vec<MarkedToken> {
+pub fn marked(rt: &impl Abort, alloc: Global, tokens: &Tokens) -> Vec<MarkedToken> {
     let marks = Marks::of(alloc, tokens).expect(rt, "memory");
     let mut out = Vec::new(alloc);
     for (token, mark) in tokens.items.iter().zip(marks.items.iter()) {
@@ -58,7 +58,7 @@ fn is_same(left: &MarkedToken, right: &MarkedToken) -> bool {
 }
 
 /// The number of tokens that were taken, which the tree is spelled by.
-fn taken<T: Spell>(
+pub fn taken<T: Spell>(
     rt: &impl Abort,
     alloc: Global,
     tree: &T,
@@ -82,7 +82,7 @@ fn taken<T: Spell>(
 }
 
 /// The tokens of an article with this text behind its `begin`.
-fn article_tokens(rt: &impl Abort, alloc: Global, text: &[u8]) -> Tokens {
+pub fn article_tokens(rt: &impl Abort, alloc: Global, text: &[u8]) -> Tokens {
     let mut bytes = Vec::from_slice(alloc, b"environ vocabularies A; begin ".as_slice()).expect(
         rt, "memory",
     );
@@ -107,7 +107,7 @@ pub enum Part {
     Proposition,
 }
 
-fn refused(fault: &ParseFault) -> Answer {
+pub fn refused(fault: &ParseFault) -> Answer {
     match fault {
         ParseFault::Unexpected { place } => Answer::Unexpected(place.column),
         ParseFault::TooDeep { place } => Answer::TooDeep(place.column),
