@@ -4,7 +4,8 @@ use crate::plain::Plain;
 use mz_base::name::Name;
 use mz_desk::claim::Claim;
 use mz_desk::desk::Desk;
-use mz_desk::job::{Done, Job, Strayed};
+use mz_desk::job::{Done, Job, Strayed, Why};
+use mz_desk::look::Look;
 use std::alloc::Global;
 use std::process::Abort;
 use std::sync::Wait;
@@ -76,5 +77,28 @@ pub fn is_claimed<R: Abort>(rt: &R, alloc: Global, desk: &mut Desk<Plain>, row: 
     match desk.claim(alloc, 1).expect(rt, "memory") {
         Claim::NotYet { claimed } => claimed == row,
         _ => false,
+    }
+}
+
+/// Why the desk refuses the result.
+pub fn why<R: Abort>(rt: &R, desk: &mut Desk<Plain>, done: Done<Plain>) -> Why {
+    refusal(rt, desk, done).why
+}
+
+/// Whether the desk takes the result.
+pub fn is_published(desk: &mut Desk<Plain>, done: Done<Plain>) -> bool {
+    desk.publish(done).is_ok()
+}
+
+/// How the desk tells of the article, by one letter.
+pub fn told<R: Abort>(rt: &R, desk: &Desk<Plain>, word: &str) -> u8 {
+    match desk.look(&name(rt, word)) {
+        Look::Accepted(_) => b'a',
+        Look::Rejected => b'r',
+        Look::Blocked(_) => b'b',
+        Look::Cyclic => b'c',
+        Look::Missing => b'm',
+        Look::NotYet => b'.',
+        Look::Unknown => b'?',
     }
 }

@@ -1,10 +1,16 @@
 //! One desk, and results of others.
-use crate::calls::{Article, desk_over, done_after, is_claimed, name, next_done, refusal};
+use crate::calls::{
+    Article, desk_over, done_after, is_claimed, is_published, name, next_done, refusal, told, why,
+};
+use crate::plain::Plain;
 use mz_desk::claim::Claim;
-use mz_desk::job::{Found, Why};
-use mz_desk::look::Look;
+use mz_desk::desk::Desk;
+use mz_desk::job::{Done, Found, Strayed, Why};
 use mz_rows::standing::RowState;
 use std::alloc::Global;
+use std::process::Abort;
+use std::sync::Wait;
+use std::thread::Threads;
 
 /// DD rests on DB and DC, and these on DA.
 const WHOLE: [Article; 4] = [
@@ -41,6 +47,22 @@ const ANOTHER_TEXT: [Article; 4] = [
 /// The same without DC.
 const NARROW: [Article; 3] = [("DD", "DB", "d"), ("DB", "DA", "b"), ("DA", "", "a")];
 
+/// Why the desk refuses the result of the others, each made after so many that are published; it takes its own then.
+fn refused_for<R: Abort + Threads + Wait + Sync>(
+    rt: &R,
+    alloc: Global,
+    mut desk: Desk<Plain>,
+    count: u32,
+    mut others: Desk<Plain>,
+    others_count: u32,
+) -> Why {
+    let done = done_after(rt, alloc, &mut desk, count);
+    let stale = done_after(rt, alloc, &mut others, others_count);
+    let found = why(rt, &mut desk, stale);
+    assert!(rt; is_published(&mut desk, done));
+    found
+}
+
 /// Articles of the desk and of another, each with how many of them are published before the result is made, and why
 /// the other's result is refused.
 #[test]
@@ -74,14 +96,10 @@ fn another_input(rt: HostRuntime) {
             Why::NotClaimed(Some(RowState::Waiting)),
         ),
     ];
-    for (own, count, other, others_count, why) in rows {
-        let mut desk = desk_over(&rt, alloc, own, &[]);
-        let mut others = desk_over(&rt, alloc, other, &[]);
-        let done = done_after(&rt, alloc, &mut desk, count);
-        let stale = done_after(&rt, alloc, &mut others, others_count);
-        let refused = refusal(&rt, &mut desk, stale);
-        assert!(&rt; refused.why == why);
-        assert!(&rt; desk.publish(done).is_ok());
+    for (own, count, other, others_count, wanted) in rows {
+        let desk = desk_over(&rt, alloc, own, &[]);
+        let others = desk_over(&rt, alloc, other, &[]);
+        assert!(&rt; refused_for(&rt, alloc, desk, count, others, others_count) == wanted);
     }
 }
 
@@ -98,57 +116,100 @@ fn another_vocabulary(rt: HostRuntime) {
         ("-", "x", "v", "x", "VA"),
     ];
     for (va, vb, others_va, others_vb, wanted) in rows {
-        let articles = [("DA", "", "a")];
-        let mut desk = desk_over(&rt, alloc, &articles, &[("VB", vb), ("VA", va)]);
-        let mut others = desk_over(
-            &rt,
-            alloc,
-            &articles,
-            &[("VB", others_vb), ("VA", others_va)],
-        );
-        let done = next_done(&rt, alloc, &mut desk, 0);
-        let stale = next_done(&rt, alloc, &mut others, 0);
-        let refused = refusal(&rt, &mut desk, stale);
-        assert!(&rt;
-            refused.why
-                == Why::Vocabulary {
-                    name: name(&rt, wanted)
-                }
-        );
-        assert!(&rt; desk.publish(done).is_ok());
+        let desk = desk_over(&rt, alloc, &[("DA", "", "a")], &[("VB", vb), ("VA", va)]);
+        let words = [("VB", others_vb), ("VA", others_va)];
+        let others = desk_over(&rt, alloc, &[("DA", "", "a")], &words);
+        let wanted = Why::Vocabulary {
+            name: name(&rt, wanted),
+        };
+        assert!(&rt; refused_for(&rt, alloc, desk, 0, others, 0) == wanted);
     }
+}
+
+/// A desk over the article DA with this text.
+fn over_one<R: Abort>(rt: &R, alloc: Global, text: &'static str) -> Desk<Plain> {
+    desk_over(rt, alloc, &[("DA", "", text)], &[])
+}
+
+/// Whether nothing is left to claim.
+fn is_finished<R: Abort>(rt: &R, alloc: Global, desk: &mut Desk<Plain>) -> bool {
+    matches!(desk.claim(alloc, 0).expect(rt, "memory"), Claim::Finished)
 }
 
 #[test]
 fn a_desk_over_one_article(rt: HostRuntime) {
     let alloc: Global = rt.alloc();
-    let da = name(&rt, "DA");
-    let mut desk = desk_over(&rt, alloc, &[("DA", "", "a")], &[]);
-    assert!(&rt; matches!(desk.look(&da), Look::NotYet));
-    assert!(&rt; matches!(desk.look(&name(&rt, "DB")), Look::Unknown));
-    assert!(&rt; matches!(desk.look(&name(&rt, "TARSKI_0")), Look::Accepted(_)));
+    let mut desk = over_one(&rt, alloc, "a");
+    assert_eq!(&rt; told(&rt, &desk, "DA"), b'.');
+    assert_eq!(&rt; told(&rt, &desk, "DB"), b'?');
+    assert_eq!(&rt; told(&rt, &desk, "TARSKI_0"), b'a');
     let done = next_done(&rt, alloc, &mut desk, 0);
     assert!(&rt; is_claimed(&rt, alloc, &mut desk, 0));
-    let mut others = desk_over(&rt, alloc, &[("DA", "", "another")], &[]);
+    assert_eq!(&rt; told(&rt, &desk, "DA"), b'.');
+    assert!(&rt; is_published(&mut desk, done));
+    assert_eq!(&rt; told(&rt, &desk, "DA"), b'a');
+    assert!(&rt; is_finished(&rt, alloc, &mut desk));
+    assert_eq!(&rt; desk.library().len(), 4);
+    assert_eq!(&rt; desk.corpus().len(), 1);
+}
+
+/// Whether the refusal gives the result back: that of an accepted article with this text, by this worker.
+fn gives_back(refused: &Strayed<Plain>, text: &[u8], worker: u32) -> bool {
+    let job = refused.done.job();
+    job.text() == text
+        && job.worker() == worker
+        && matches!(refused.done.found(), Found::Accepted { .. })
+}
+
+#[test]
+fn a_result_of_another_text(rt: HostRuntime) {
+    let alloc: Global = rt.alloc();
+    let mut desk = over_one(&rt, alloc, "a");
+    let done = next_done(&rt, alloc, &mut desk, 0);
+    let mut others = over_one(&rt, alloc, "another");
     let stale = next_done(&rt, alloc, &mut others, 0);
     let refused = refusal(&rt, &mut desk, stale);
     assert!(&rt; refused.why == Why::Text);
-    assert!(&rt; refused.done.job().text() == b"another".as_slice());
-    assert!(&rt; matches!(refused.done.found(), Found::Accepted { .. }));
-    others.reclaim();
-    let foreign = next_done(&rt, alloc, &mut others, 1);
+    assert!(&rt; gives_back(&refused, b"another", 0));
+    assert!(&rt; is_claimed(&rt, alloc, &mut desk, 0));
+    assert!(&rt; is_published(&mut desk, done));
+}
+
+/// The result of this worker, after that of another whose claim was taken away.
+fn second_done<R: Abort + Threads + Wait + Sync>(
+    rt: &R,
+    alloc: Global,
+    desk: &mut Desk<Plain>,
+    worker: u32,
+) -> Done<Plain> {
+    let _first = next_done(rt, alloc, desk, 0);
+    desk.reclaim();
+    next_done(rt, alloc, desk, worker)
+}
+
+#[test]
+fn a_result_of_another_worker(rt: HostRuntime) {
+    let alloc: Global = rt.alloc();
+    let mut desk = over_one(&rt, alloc, "a");
+    let done = next_done(&rt, alloc, &mut desk, 0);
+    let mut others = over_one(&rt, alloc, "another");
+    let foreign = second_done(&rt, alloc, &mut others, 1);
     let refused = refusal(&rt, &mut desk, foreign);
     assert!(&rt; refused.why == Why::NotClaimed(Some(RowState::Claimed(0))));
-    assert_eq!(&rt; refused.done.job().worker(), 1);
-    assert!(&rt; matches!(desk.look(&da), Look::NotYet));
-    assert!(&rt; is_claimed(&rt, alloc, &mut desk, 0));
-    assert!(&rt; desk.publish(done).is_ok());
-    let refused = refusal(&rt, &mut desk, refused.done);
-    assert!(&rt; refused.why == Why::NotClaimed(Some(RowState::Accepted)));
-    assert!(&rt; matches!(desk.look(&da), Look::Accepted(_)));
-    assert!(&rt; matches!(desk.claim(alloc, 0).expect(&rt, "memory"), Claim::Finished));
-    assert_eq!(&rt; desk.library().len(), 4);
-    assert_eq!(&rt; desk.corpus().len(), 1);
+    assert!(&rt; gives_back(&refused, b"another", 1));
+    assert_eq!(&rt; told(&rt, &desk, "DA"), b'.');
+    assert!(&rt; is_published(&mut desk, done));
+    let found = why(&rt, &mut desk, refused.done);
+    assert!(&rt; found == Why::NotClaimed(Some(RowState::Accepted)));
+    assert_eq!(&rt; told(&rt, &desk, "DA"), b'a');
+}
+
+/// Whether the result is of this article, over so many exports and no vocabulary.
+fn is_of<R: Abort>(rt: &R, done: &Done<Plain>, word: &str, exports: usize) -> bool {
+    let job = done.job();
+    job.name() == name(rt, word)
+        && job.exports().len() == exports
+        && job.vocabularies().items.is_empty()
 }
 
 /// A claim that is taken away: its result is refused, and the row is claimed again.
@@ -157,22 +218,29 @@ fn a_claim_taken_away(rt: HostRuntime) {
     let alloc: Global = rt.alloc();
     let mut desk = desk_over(&rt, alloc, &WHOLE, &[]);
     let done = done_after(&rt, alloc, &mut desk, 1);
-    assert!(&rt; done.job().name() == name(&rt, "DB"));
+    assert!(&rt; is_of(&rt, &done, "DB", 4));
     assert_eq!(&rt; done.job().row(), 1);
-    assert_eq!(&rt; done.job().exports().len(), 4);
-    assert_eq!(&rt; done.job().vocabularies().items.len(), 0);
     desk.reclaim();
-    let refused = refusal(&rt, &mut desk, done);
-    assert!(&rt; refused.why == Why::NotClaimed(Some(RowState::Waiting)));
+    let found = why(&rt, &mut desk, done);
+    assert!(&rt; found == Why::NotClaimed(Some(RowState::Waiting)));
     let again = next_done(&rt, alloc, &mut desk, 1);
-    assert!(&rt; again.job().name() == name(&rt, "DB"));
-    let next = next_done(&rt, alloc, &mut desk, 2);
-    assert!(&rt; next.job().name() == name(&rt, "DC"));
+    assert!(&rt; is_of(&rt, &again, "DB", 4));
+    assert!(&rt; is_published(&mut desk, again));
+}
+
+/// Results that come in another order than their claims.
+#[test]
+fn results_in_another_order(rt: HostRuntime) {
+    let alloc: Global = rt.alloc();
+    let mut desk = desk_over(&rt, alloc, &WHOLE, &[]);
+    let first = done_after(&rt, alloc, &mut desk, 1);
+    let second = next_done(&rt, alloc, &mut desk, 2);
+    assert!(&rt; is_of(&rt, &second, "DC", 4));
     assert!(&rt; is_claimed(&rt, alloc, &mut desk, 1));
-    assert!(&rt; desk.publish(next).is_ok());
-    assert!(&rt; desk.publish(again).is_ok());
+    assert!(&rt; is_published(&mut desk, second));
+    assert!(&rt; is_published(&mut desk, first));
     let last = next_done(&rt, alloc, &mut desk, 1);
-    assert_eq!(&rt; last.job().exports().len(), 6);
-    assert!(&rt; desk.publish(last).is_ok());
+    assert!(&rt; is_of(&rt, &last, "DD", 6));
+    assert!(&rt; is_published(&mut desk, last));
     assert!(&rt; desk.verdicts().is_ok());
 }
