@@ -1,0 +1,3 @@
+pub mod ClosingLemmas
+pub mod NameLemmas
+pub mod ScopeLemmas

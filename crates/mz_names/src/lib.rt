@@ -1,0 +1,9 @@
+//! What names stand for at a place of an article: variables, reserved variables, private functors and predicates,
+//! letters, labels; and the way back from the constants that variables are to indices.
+#![tactic(auto)]
+
+pub mod closing;
+pub mod names;
+pub mod refusal;
+pub mod scope;
+pub mod variable;
