@@ -1,0 +1,4 @@
+pub mod GroupingLemmas
+pub mod NeighbourLemmas
+pub mod OpenedLemmas
+pub mod StretchLemmas
