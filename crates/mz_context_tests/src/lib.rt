@@ -1,0 +1,5 @@
+//! Contexts as they change.
+#![tactic(auto)]
+
+#[cfg(test)]
+mod tests;

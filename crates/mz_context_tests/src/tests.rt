@@ -1,0 +1,122 @@
+//! Small contexts, worked out by hand.
+use mz_base::text::Text;
+use mz_context::constant::Constant;
+use mz_context::context::Context;
+use mz_context::gather::{constants_of, reached};
+use mz_context::symbol_counts::SymbolCounts;
+use mz_core::hidden::object_type;
+use mz_core::statement::Statement;
+use mz_logic::literal::Literal;
+use mz_logic::term::Term;
+use std::alloc::{AllocError, Global};
+use std::test::Fail;
+
+const NO_SYMBOLS: SymbolCounts = SymbolCounts {
+    modes: 0,
+    structures: 0,
+    attributes: 0,
+    functors: 0,
+    selectors: 0,
+    aggregates: 0,
+    predicates: 0,
+    functor_letters: 0,
+    predicate_letters: 0,
+};
+
+/// A constant of the type `object`, equal to the constant with the number, if it isn't 0.
+fn constant(alloc: Global, equal: u32) -> Constant {
+    Constant {
+        name: Text::new(alloc),
+        ty: object_type(alloc),
+        equal: if equal == 0 {
+            None
+        } else {
+            Some(Term::constant(equal))
+        },
+    }
+}
+
+/// Takes the constant out of force, where the list has its place.
+fn release(ctx: &mut Context, number: u32) -> bool {
+    if number == 0 || number as usize > ctx.constants.items.len() {
+        return false;
+    }
+    ctx.release(number);
+    true
+}
+
+#[test]
+fn a_number_is_free_again_once_no_later_one_is_in_force(rt: HostRuntime) -> Result<(), Fail> {
+    let alloc = rt.alloc();
+    let mut ctx = Context::new(alloc, 1, NO_SYMBOLS);
+    assert_eq!(rt; ctx.next(), 1);
+    for number in 1..4 {
+        assert_eq!(rt; ctx.add(constant(alloc, 0))?, number);
+    }
+    assert!(rt; release(&mut ctx, 2));
+    assert!(rt; ctx.constants.get(2).is_none());
+    assert!(rt; ctx.constants.get(3).is_some());
+    assert!(rt; ctx.constants.get(0).is_none());
+    assert!(rt; ctx.constants.get(4).is_none());
+    assert_eq!(rt; ctx.next(), 4);
+    assert!(rt; release(&mut ctx, 3));
+    assert_eq!(rt; ctx.next(), 2);
+    assert_eq!(rt; ctx.add(constant(alloc, 0))?, 2);
+    Ok(())
+}
+
+/// Truth as the statement just before, under the label.
+fn state(alloc: Global, ctx: &mut Context, label: &[u8]) -> Result<(), AllocError> {
+    let label = Text::from_slice(alloc, label)?;
+    ctx.state(alloc, label, Statement::truth())?;
+    Ok(())
+}
+
+/// A constant and a labelled statement.
+fn begun(alloc: Global) -> Result<Context, AllocError> {
+    let mut ctx = Context::new(alloc, 1, NO_SYMBOLS);
+    ctx.add(constant(alloc, 0))?;
+    state(alloc, &mut ctx, b"A")?;
+    Ok(ctx)
+}
+
+/// A further constant, a statement without a label and one with.
+fn go_on(alloc: Global, ctx: &mut Context) -> Result<(), AllocError> {
+    ctx.add(constant(alloc, 0))?;
+    state(alloc, ctx, b"")?;
+    state(alloc, ctx, b"B")?;
+    Ok(())
+}
+
+#[test]
+fn a_context_is_cut_back_to_a_mark(rt: HostRuntime) -> Result<(), Fail> {
+    let alloc = rt.alloc();
+    let mut ctx = begun(alloc)?;
+    let mark = ctx.mark();
+    go_on(alloc, &mut ctx)?;
+    assert_eq!(rt; ctx.labelled.items.len(), 2);
+    ctx.restore(mark);
+    assert_eq!(rt; ctx.next(), 2);
+    assert_eq!(rt; ctx.labelled.items.len(), 1);
+    assert!(rt; ctx.previous.is_some());
+    Ok(())
+}
+
+#[test]
+fn constants_are_reached_in_rounds(rt: HostRuntime) -> Result<(), Fail> {
+    let alloc = rt.alloc();
+    let mut ctx = Context::new(alloc, 1, NO_SYMBOLS);
+    for equal in [0, 4, 1, 3, 2] {
+        ctx.add(constant(alloc, equal))?;
+    }
+    let l = Literal::Eq {
+        positive: true,
+        left: Term::constant(5),
+        right: Term::constant(3),
+    };
+    let first = constants_of(alloc, &ctx.constants, &l)?;
+    assert_eq!(rt; first.as_slice(), [3, 5].as_slice());
+    let all = reached(alloc, &ctx.constants, first.as_slice())?;
+    assert_eq!(rt; all.as_slice(), [3, 5, 1, 2, 4].as_slice());
+    Ok(())
+}
