@@ -1,0 +1,11 @@
+pub mod FunctorPatterns
+pub mod KindSteps
+pub mod LociSteps
+pub mod NameSteps
+pub mod OptionalSteps
+pub mod PatternSequences
+pub mod PatternSteps
+pub mod Sets
+pub mod SymbolSteps
+pub mod Unique
+pub mod WordSteps
