@@ -1,0 +1,14 @@
+pub mod PlainEquations
+pub mod FirstTokens
+pub mod Blocks
+pub mod Stated
+pub mod Statements
+pub mod Linked
+pub mod Unlabelled
+pub mod Steps
+pub mod Examples
+pub mod Cases
+pub mod StepLists
+pub mod Unique
+pub mod OneProof
+pub mod Marked

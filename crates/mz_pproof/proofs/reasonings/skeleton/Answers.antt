@@ -1,0 +1,59 @@
+use Rattle.std.proofs.Common.{rules}
+use Rattle.std.proofs.lemmas.Result.{err_from_is_err_and}
+use Rattle.mz_forms.proofs.Leads.{passes}
+use Rattle.mz_pjustification.specs.declared.keyword.Keyword.TheVariants as keywords
+use Rattle.mz_pstep.specs.Forms.{let_form, assume_form, given_form, take_form}
+use Rattle.mz_pproof.specs.Classes.{KeyComes}
+use Rattle.mz_pproof.specs.Forms.{step_form}
+use Rattle.mz_pproof.proofs.Steps.{begin_let, begin_assume, begin_given, begin_take, take_left}
+use Rattle.mz_pproof.proofs.reasonings.skeleton.Goals as goal
+
+pub returns-in_err-tree : goal.returns-in_err-tree
+returns-in_err-tree c =
+    let p = err_from_is_err_and c.from_residual.result c.from_residual.ensures.1 in
+    let on : KeyComes keywords.Let c.args.reader.now.rest.now = search rules in
+    rw (p.1, p.2) (passes step_form let_form c.args.room _ _ _ _ _ (begin_let c.args.room _ on) c.in_err-tree.ensures)
+
+pub returns-then-key_comes : goal.returns-then-key_comes
+returns-then-key_comes c =
+    let on : KeyComes keywords.Let c.args.reader.now.rest.now = search rules in
+    (begin_let c.args.room _ on).finds _ _ c.in_ok-tree.ensures
+
+pub returns-in_err-tree-2 : goal.returns-in_err-tree-2
+returns-in_err-tree-2 c =
+    let p = err_from_is_err_and c.from_residual-in_err-tree-2.result c.from_residual-in_err-tree-2.ensures.1 in
+    let on : KeyComes keywords.Assume c.args.reader.now.rest.now = search rules in
+    rw (p.1, p.2) (passes step_form assume_form c.args.room _ _ _ _ _ (begin_assume c.args.room _ on) c.in_err-tree-2.ensures)
+
+pub returns-then-key_comes-2 : goal.returns-then-key_comes-2
+returns-then-key_comes-2 c =
+    let on : KeyComes keywords.Assume c.args.reader.now.rest.now = search rules in
+    (begin_assume c.args.room _ on).finds _ _ c.in_ok-tree-2.ensures
+
+pub returns-in_err-tree-3 : goal.returns-in_err-tree-3
+returns-in_err-tree-3 c =
+    let p = err_from_is_err_and c.from_residual-in_err-tree-3.result c.from_residual-in_err-tree-3.ensures.1 in
+    let on : KeyComes keywords.Given c.args.reader.now.rest.now = search rules in
+    rw (p.1, p.2) (passes step_form given_form c.args.room _ _ _ _ _ (begin_given c.args.room _ on) c.in_err-tree-3.ensures)
+
+pub returns-then-key_comes-3 : goal.returns-then-key_comes-3
+returns-then-key_comes-3 c =
+    let on : KeyComes keywords.Given c.args.reader.now.rest.now = search rules in
+    (begin_given c.args.room _ on).finds _ _ c.in_ok-tree-3.ensures
+
+pub returns-in_err-tree-4 : goal.returns-in_err-tree-4
+returns-in_err-tree-4 c =
+    let p = err_from_is_err_and c.from_residual-in_err-tree-4.result c.from_residual-in_err-tree-4.ensures.1 in
+    let off_1 : KeyComes keywords.Let c.args.reader.now.rest.now → ⊥ = search rules in
+    let off_2 : KeyComes keywords.Assume c.args.reader.now.rest.now → ⊥ = search rules in
+    let off_3 : KeyComes keywords.Given c.args.reader.now.rest.now → ⊥ = search rules in
+    let on = take_left _ c.requires off_1 off_2 off_3 in
+    rw (p.1, p.2) (passes step_form take_form c.args.room _ _ _ _ _ (begin_take c.args.room _ on) c.in_err-tree-4.ensures)
+
+pub returns : goal.returns
+returns c =
+    let off_1 : KeyComes keywords.Let c.args.reader.now.rest.now → ⊥ = search rules in
+    let off_2 : KeyComes keywords.Assume c.args.reader.now.rest.now → ⊥ = search rules in
+    let off_3 : KeyComes keywords.Given c.args.reader.now.rest.now → ⊥ = search rules in
+    let on = take_left _ c.requires off_1 off_2 off_3 in
+    (begin_take c.args.room _ on).finds _ _ c.in_ok-tree-4.ensures

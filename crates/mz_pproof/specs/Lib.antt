@@ -1,0 +1,4 @@
+pub mod Classes
+pub mod Equations
+pub mod Forms
+pub mod Proof
