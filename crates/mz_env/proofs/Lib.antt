@@ -5,3 +5,4 @@ pub mod VisitLemmas
 pub mod FaultLemmas
 pub mod WalkLemmas
 pub mod OneOutcome
+pub mod ArticleLemmas

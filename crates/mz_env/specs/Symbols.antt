@@ -1,6 +1,8 @@
 -- Whether constructors are let in: those of an article are, where the article is.
-use Rattle.std.specs.Prelude.{ℕ, Bool, true, false, ◌&&◌, nat_eq, List, [], ◌∷◌, Option, Some, None}
+use Rattle.std.specs.Prelude.{◌≡◌, ℕ, Bool, true, false, ◌&&◌, nat_eq, List, [], ◌∷◌, Option, Some, None}
 use Rattle.std.specs.List.{list_all, list_any}
+use Rattle.std.specs.BTreeSet.{BTreeSet, contains}
+use Rattle.std.specs.Ordering.{nat_cmp}
 use Rattle.mz_base.specs.declared.name.Name.{Name}
 use Rattle.mz_logic.specs.Term.{Term, Terms, Bound, Const, App, none, more}
 use Rattle.mz_logic.specs.declared.sym.Sym.{Sym}
@@ -20,6 +22,10 @@ is_numbered n a = nat_eq a.number n
 -- the article with the number is one of these
 abbrev pub is_among : ℕ → List Name → Bool
 is_among n articles = list_any (is_numbered n) articles
+
+-- the set has the numbers of the articles and no others
+abbrev pub AreNumbers : List Name → BTreeSet ℕ → Type 0
+AreNumbers articles numbers = (n : ℕ) → contains nat_cmp numbers n ≡ is_among n articles
 
 abbrev pub sym_in : List Name → Sym → Bool
 sym_in articles s = is_among s.article articles

@@ -6,6 +6,7 @@ ghost use Rattle.mz_env.specs.Shares.{whole_of};
 ghost use Rattle.mz_env.specs.Visits.{export_named};
 ghost use Rattle.mz_env.specs.Walking.{GivesBehind};
 
+use crate::articles::Articles;
 use crate::directed::Directed;
 use crate::directed_names::{DirectedNames, constructor_names, directed_names};
 use crate::env_fault::EnvFault;
@@ -28,13 +29,22 @@ fn one_name(alloc: Global, n: &Name) -> Result<Names, AllocError>
     Ok(out)
 }
 
+/// One article.
+fn one_article(alloc: Global, n: &Name) -> Result<Articles, AllocError>
+    ensures { IfOk result (λ a. a ≡ n.now ∷ []) }
+{
+    let mut out = Articles::new(alloc);
+    out.push(alloc, *n)?;
+    Ok(out)
+}
+
 /// HIDDEN alone.
 #[tactic(auto, using(crate::proofs::WalkLemmas::hidden_rules))]
-fn only_hidden(alloc: Global) -> Result<Names, AllocError>
+fn only_hidden(alloc: Global) -> Result<Articles, AllocError>
     ensures { IfOk result (λ ns. ns ≡ hidden_name ∷ []) }
 {
     let hidden = Name::hidden();
-    let out = one_name(alloc, &hidden)?;
+    let out = one_article(alloc, &hidden)?;
     Ok(out)
 }
 
@@ -61,7 +71,7 @@ fn reached(
     alloc: Global,
     exports: &Exports,
     d: &Directed,
-    begun: &mut Names,
+    begun: &mut Articles,
 ) -> Result<Exports, AllocError>
     ensures { IfOk result (λ es. Reaches exports.now begun.old d.now.kind d.now.name begun.new es) }
 {
@@ -88,9 +98,9 @@ fn reached(
 fn walk(
     alloc: Global,
     exports: &Exports,
-    articles: &Names,
+    articles: &Articles,
     ds: &DirectedNames,
-    begun: &mut Names,
+    begun: &mut Articles,
     start: Environment,
 ) -> Result<Result<Environment, EnvFault>, AllocError>
     ensures { IfOk result (λ o. GivesBehind exports.now articles.now begun.old ds.now start o) }

@@ -6,6 +6,7 @@ ghost use Rattle.mz_env.specs.Symbols.{notation_in};
 ghost use Rattle.mz_env.specs.LetIn.{first_missing, missing_at, exported, constructors_known, requirement_known, fault_of};
 ghost use Rattle.mz_env.specs.Visits.{export_named};
 
+use crate::articles::Articles;
 use crate::directed::Directed;
 use crate::env_fault::EnvFault;
 use crate::symbols::notation_in;
@@ -13,7 +14,6 @@ use crate::visits::export_named;
 use mz_axioms::exports::Exports;
 use mz_base::head::DirectiveKind;
 use mz_base::name::Name;
-use mz_base::names::Names;
 use mz_base::place::Place;
 use mz_core::item::Item;
 use mz_core::items::Items;
@@ -22,7 +22,7 @@ use mz_items::notations_of::notations_of;
 use std::alloc::{AllocError, Global};
 
 /// Whether the constructors that the notations name are let in.
-fn notations_in(articles: &Names, xs: &Notations) -> bool
+fn notations_in(articles: &Articles, xs: &Notations) -> bool
     ensures { result ≡ list_all (notation_in articles.now) xs.now }
 {
     for x in &xs.items {
@@ -33,7 +33,7 @@ fn notations_in(articles: &Names, xs: &Notations) -> bool
     true
 }
 
-fn item_known(alloc: Global, articles: &Names, item: &Item) -> Result<bool, AllocError>
+fn item_known(alloc: Global, articles: &Articles, item: &Item) -> Result<bool, AllocError>
     ensures { IfOk result (λ b. b ≡ list_all (notation_in articles.now) (notations_of item.now)) }
 {
     let xs = notations_of(alloc, item)?;
@@ -42,7 +42,11 @@ fn item_known(alloc: Global, articles: &Names, item: &Item) -> Result<bool, Allo
 
 /// The number, from 1, of the first item a notation of which names a constructor that isn't let in.
 #[tactic(auto, using(crate::proofs::FaultLemmas::missing_rules))]
-fn first_missing(alloc: Global, articles: &Names, items: &Items) -> Result<Option<u64>, AllocError>
+fn first_missing(
+    alloc: Global,
+    articles: &Articles,
+    items: &Items,
+) -> Result<Option<u64>, AllocError>
     ensures { IfOk result (λ n. n ≡ first_missing articles.now 0 items.now) }
 {
     let mut above: u64 = 0;
@@ -81,7 +85,7 @@ fn exported(exports: &Exports, n: &Name, place: Place) -> Option<EnvFault>
 fn constructors_known(
     alloc: Global,
     exports: &Exports,
-    articles: &Names,
+    articles: &Articles,
     n: &Name,
     place: Place,
 ) -> Result<Option<EnvFault>, AllocError>
@@ -114,7 +118,7 @@ fn requirement_known(n: &Name, place: Place) -> Option<EnvFault>
 pub fn fault_of(
     alloc: Global,
     exports: &Exports,
-    articles: &Names,
+    articles: &Articles,
     d: &Directed,
 ) -> Result<Option<EnvFault>, AllocError>
     ensures { IfOk result (λ f. f ≡ fault_of exports.now articles.now d.now.kind d.now.name d.now.place) }

@@ -2,6 +2,7 @@
 #![tactic(auto)]
 
 pub mod accommodate;
+pub mod articles;
 pub mod directed;
 pub mod directed_names;
 pub mod env_fault;

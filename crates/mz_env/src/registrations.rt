@@ -3,8 +3,8 @@ ghost use Rattle.std.specs.Prelude.{◌≡◌};
 ghost use Rattle.mz_env.specs.Symbols.{registration_in};
 ghost use Rattle.mz_env.specs.Shares.{is_registration};
 
+use crate::articles::Articles;
 use crate::symbols::{adjectives_in, term_in, type_if_any_in, type_in, types_in};
-use mz_base::names::Names;
 use mz_core::item::Item;
 
 /// Whether the item is a registration.
@@ -22,7 +22,7 @@ pub fn is_registration(item: &Item) -> bool
 }
 
 /// Whether each constructor that the registration names is let in; another item names none.
-pub fn registration_in(articles: &Names, item: &Item) -> bool
+pub fn registration_in(articles: &Articles, item: &Item) -> bool
     ensures { result ≡ registration_in articles.now item.now }
 {
     match item {

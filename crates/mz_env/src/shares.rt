@@ -4,10 +4,10 @@ ghost use Rattle.mz_environment.specs.Cited.{at_start};
 ghost use Rattle.mz_environment.specs.Environment.{joined};
 ghost use Rattle.mz_env.specs.Shares.{notations_share, constructors_share, registrations_share, definitions_share, expansions_share, equalities_share, theorems_share, schemes_share, share, shares, shares_of, wholes};
 
+use crate::articles::Articles;
 use crate::registrations::{is_registration, registration_in};
 use mz_axioms::exports::Exports;
 use mz_base::head::DirectiveKind;
-use mz_base::names::Names;
 use mz_clauses::clauses_of::{equality_clauses, further_clauses, typing_clauses};
 use mz_core::export::Export;
 use mz_core::item::Item;
@@ -15,6 +15,7 @@ use mz_core::items::Items;
 use mz_environment::cited::{schemes_cited, statements_cited};
 use mz_environment::environment::Environment;
 use mz_environment::joining::join;
+use mz_environment::notation_table::notation_table;
 use mz_environment::numbering::Numbering;
 use mz_environment::rows_of::{functor_rows, mode_rows};
 use mz_environment::shares::{existentials_of, sethoods_of, structures_of};
@@ -27,7 +28,7 @@ fn notations_share(alloc: Global, item: &Item) -> Result<Environment, AllocError
     ensures { IfOk result (λ e. e ≡ notations_share item.now) }
 {
     let mut out = Environment::new(alloc);
-    out.notations = notations_of(alloc, item)?;
+    out.notations = notation_table(alloc, notations_of(alloc, item)?)?;
     Ok(out)
 }
 
@@ -105,7 +106,7 @@ fn schemes_share(alloc: Global, at: Numbering, item: &Item) -> Result<Environmen
 /// articles are let in.
 fn share(
     alloc: Global,
-    articles: &Names,
+    articles: &Articles,
     kind: DirectiveKind,
     at: Numbering,
     item: &Item,
@@ -147,7 +148,7 @@ fn share(
 fn add_shares(
     alloc: Global,
     out: &mut Environment,
-    articles: &Names,
+    articles: &Articles,
     kind: DirectiveKind,
     start: Numbering,
     items: &Items,
@@ -157,7 +158,7 @@ fn add_shares(
     let mut at = start;
     for item in &items.items {
         let part = share(alloc, articles, kind, at, item)?;
-        join(out, part)?;
+        join(alloc, out, &part)?;
         at = at.after(item)?;
     }
     Ok(())
@@ -167,7 +168,7 @@ fn add_shares(
 fn add_export(
     alloc: Global,
     out: &mut Environment,
-    articles: &Names,
+    articles: &Articles,
     kind: DirectiveKind,
     e: &Export,
 ) -> Result<(), AllocError>
@@ -182,7 +183,7 @@ fn add_export(
 pub fn add_exports(
     alloc: Global,
     out: &mut Environment,
-    articles: &Names,
+    articles: &Articles,
     kind: DirectiveKind,
     es: &Exports,
 ) -> Result<(), AllocError>

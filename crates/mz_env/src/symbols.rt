@@ -1,9 +1,8 @@
 //! Whether constructors are let in.
 ghost use Rattle.std.specs.Prelude.{◌≡◌};
-ghost use Rattle.mz_env.specs.Symbols.{is_numbered, is_among, sym_in, term_in, terms_in, literal_in, adjective_in, adjectives_in, type_in, types_in, type_if_any_in, meaning_in, notation_in};
+ghost use Rattle.mz_env.specs.Symbols.{sym_in, term_in, terms_in, literal_in, adjective_in, adjectives_in, type_in, types_in, type_if_any_in, meaning_in, notation_in};
 
-use mz_base::name::Name;
-use mz_base::names::Names;
+use crate::articles::Articles;
 use mz_core::adjective::Adjective;
 use mz_core::adjectives::Adjectives;
 use mz_core::notation::{Meaning, Notation};
@@ -13,34 +12,16 @@ use mz_logic::literal::Literal;
 use mz_logic::sym::Sym;
 use mz_logic::term::{Term, TermNode, Terms};
 
-fn is_numbered(a: &Name, number: u64) -> bool
-    ensures { result ≡ is_numbered number a.now }
-{
-    a.number == number
-}
-
-/// Whether the article with the number is one of these.
-pub fn is_among(number: u64, articles: &Names) -> bool
-    ensures { result ≡ is_among number articles.now }
-{
-    for a in &articles.items {
-        if is_numbered(a, number) {
-            return true;
-        }
-    }
-    false
-}
-
-fn sym_in(articles: &Names, s: Sym) -> bool
+fn sym_in(articles: &Articles, s: Sym) -> bool
     ensures { result ≡ sym_in articles.now s }
 {
-    is_among(s.article, articles)
+    articles.has(s.article)
 }
 
 /// Whether the constructors of the term are let in.
 #[cycle(let_in)]
 #[tactic(auto, using(crate::proofs::SymbolLemmas::args_in_rules))]
-pub fn term_in(articles: &Names, t: &Term) -> bool
+pub fn term_in(articles: &Articles, t: &Term) -> bool
     ensures { result ≡ term_in articles.now t.now }
 {
     match &t.node {
@@ -51,7 +32,7 @@ pub fn term_in(articles: &Names, t: &Term) -> bool
 }
 
 #[cycle(let_in)]
-fn terms_in(articles: &Names, ts: &Terms) -> bool
+fn terms_in(articles: &Articles, ts: &Terms) -> bool
     ensures { result ≡ terms_in articles.now ts.now }
 {
     for t in &ts.items {
@@ -62,7 +43,7 @@ fn terms_in(articles: &Names, ts: &Terms) -> bool
     true
 }
 
-fn literal_in(articles: &Names, l: &Literal) -> bool
+fn literal_in(articles: &Articles, l: &Literal) -> bool
     ensures { result ≡ literal_in articles.now l.now }
 {
     match l {
@@ -71,14 +52,14 @@ fn literal_in(articles: &Names, l: &Literal) -> bool
     }
 }
 
-fn adjective_in(articles: &Names, a: &Adjective) -> bool
+fn adjective_in(articles: &Articles, a: &Adjective) -> bool
     ensures { result ≡ adjective_in articles.now a.now }
 {
     sym_in(articles, a.sym) && terms_in(articles, &a.args)
 }
 
 /// Whether the constructors of the adjectives are let in.
-pub fn adjectives_in(articles: &Names, xs: &Adjectives) -> bool
+pub fn adjectives_in(articles: &Articles, xs: &Adjectives) -> bool
     ensures { result ≡ adjectives_in articles.now xs.now }
 {
     for a in &xs.items {
@@ -90,7 +71,7 @@ pub fn adjectives_in(articles: &Names, xs: &Adjectives) -> bool
 }
 
 /// Whether the constructors of the type are let in.
-pub fn type_in(articles: &Names, ty: &SoftType) -> bool
+pub fn type_in(articles: &Articles, ty: &SoftType) -> bool
     ensures { result ≡ type_in articles.now ty.now }
 {
     sym_in(articles, ty.radix.sym)
@@ -99,7 +80,7 @@ pub fn type_in(articles: &Names, ty: &SoftType) -> bool
 }
 
 /// Whether the constructors of the types are let in.
-pub fn types_in(articles: &Names, tys: &SoftTypes) -> bool
+pub fn types_in(articles: &Articles, tys: &SoftTypes) -> bool
     ensures { result ≡ types_in articles.now tys.now }
 {
     for ty in &tys.items {
@@ -111,7 +92,7 @@ pub fn types_in(articles: &Names, tys: &SoftTypes) -> bool
 }
 
 /// Whether the constructors of the type, if there is one, are let in.
-pub fn type_if_any_in(articles: &Names, ty: &Option<SoftType>) -> bool
+pub fn type_if_any_in(articles: &Articles, ty: &Option<SoftType>) -> bool
     ensures { result ≡ type_if_any_in articles.now ty.now }
 {
     match ty {
@@ -120,7 +101,7 @@ pub fn type_if_any_in(articles: &Names, ty: &Option<SoftType>) -> bool
     }
 }
 
-fn meaning_in(articles: &Names, m: &Meaning) -> bool
+fn meaning_in(articles: &Articles, m: &Meaning) -> bool
     ensures { result ≡ meaning_in articles.now m.now }
 {
     match m {
@@ -131,7 +112,7 @@ fn meaning_in(articles: &Names, m: &Meaning) -> bool
 }
 
 /// Whether each constructor that the notation names, in the types of its loci and in its meaning, is let in.
-pub fn notation_in(articles: &Names, x: &Notation) -> bool
+pub fn notation_in(articles: &Articles, x: &Notation) -> bool
     ensures { result ≡ notation_in articles.now x.now }
 {
     types_in(articles, &x.pattern.loci) && meaning_in(articles, &x.meaning)

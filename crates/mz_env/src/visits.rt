@@ -3,7 +3,7 @@ ghost use Rattle.std.specs.Prelude.{◌≡◌, ◌++◌, ◌∷◌, [], map, Non
 ghost use Rattle.std.specs.Arc.{arc_value};
 ghost use Rattle.mz_env.specs.Visits.{export_named, Visits};
 
-use crate::symbols::is_among;
+use crate::articles::Articles;
 use mz_axioms::exports::Exports;
 use mz_base::name::Name;
 use mz_base::names::Names;
@@ -45,12 +45,12 @@ fn visit_one(
     alloc: Global,
     exports: &Exports,
     n: &Name,
-    begun: &mut Names,
+    begun: &mut Articles,
     rest: usize,
 ) -> Result<Exports, AllocError>
     ensures { IfOk result (λ es. Visits exports.now begun.old (n.now ∷ []) begun.new es) }
 {
-    if is_among(n.number, begun) {
+    if begun.has(n.number) {
         let none = Exports::new(alloc)?;
         return Ok(none);
     }
@@ -61,7 +61,7 @@ fn visit_one(
         }
         Some(e) => {
             let inner = rest.checked_sub(1).ok_or(AllocError)?;
-            begun.push(*n)?;
+            begun.push(alloc, *n)?;
             let mut out = visit(alloc, exports, &e.dependencies, begun, inner)?;
             out.push(e.clone()?)?;
             Ok(out)
@@ -77,7 +77,7 @@ pub fn visit(
     alloc: Global,
     exports: &Exports,
     names: &Names,
-    begun: &mut Names,
+    begun: &mut Articles,
     rest: usize,
 ) -> Result<Exports, AllocError>
     ensures { IfOk result (λ es. Visits exports.now begun.old names.now begun.new es) }

@@ -3,12 +3,16 @@ mod lists;
 mod samples;
 
 use crate::tests::lists::lists_of;
-use crate::tests::samples::exports;
+use crate::tests::samples::{exports, sym};
 use mz_base::head::{DirectiveKind, Head};
 use mz_base::place::Place;
+use mz_base::text::Text;
 use mz_env::accommodate::accommodate;
 use mz_env::env_fault::EnvFault;
+use mz_environment::environment::Environment;
 use mz_lex::head::head;
+use mz_logic::kind::Kind;
+use mz_logic::sym::Sym;
 use std::alloc::Global;
 use std::process::Abort;
 
@@ -157,4 +161,60 @@ fn the_first_fault_in_the_text(rt: HostRuntime) {
     let text = "environ theorems A, NOWHERE; notations P; begin";
     let fault = fault_of(&rt, rt.alloc(), text);
     assert!(rt; matches!(fault, Some(EnvFault::NotExported { place }) if place == at(21)));
+}
+
+/// What all directives let in of A and B.
+fn whole(rt: &impl Abort, alloc: Global) -> Environment {
+    let text =
+        "environ notations A, B; constructors B; registrations A; definitions A, B; theorems A, B; schemes A; begin";
+    let head = head_of(rt, alloc, text);
+    accommodate(alloc, &head, &exports(rt, alloc, false)).expect(rt, "environment")
+}
+
+/// How many rows of functors and of modes, unfoldings, structures and registrations the symbol has.
+fn counts(env: &Environment, s: Sym) -> [usize; 5] {
+    [
+        env.functors.of(s).len(),
+        env.modes.of(s).len(),
+        env.steps.of(s).len(),
+        env.structures.of(s).len(),
+        env.registrations.of(s).len(),
+    ]
+}
+
+#[test]
+fn what_a_symbol_has(rt: HostRuntime) {
+    let env = whole(&rt, rt.alloc());
+    let functor = sym(&rt, "A", Kind::Functor, 1);
+    assert_eq!(rt; counts(&env, functor), [1, 0, 1, 0, 0]);
+    let mode = sym(&rt, "A", Kind::Mode, 1);
+    assert_eq!(rt; counts(&env, mode), [0, 1, 1, 0, 2]);
+    let other = sym(&rt, "P", Kind::Functor, 1);
+    assert_eq!(rt; counts(&env, other), [0, 0, 0, 0, 0]);
+}
+
+/// How many notations are spelled so.
+fn spelled(rt: &impl Abort, alloc: Global, env: &Environment, symbol: &str) -> usize {
+    let symbol = Text::from_slice(alloc, symbol.as_bytes()).expect(rt, "memory");
+    env.notations.of(&symbol).len()
+}
+
+#[test]
+fn what_a_spelling_and_an_article_have(rt: HostRuntime) {
+    let env = whole(&rt, rt.alloc());
+    assert_eq!(rt; spelled(&rt, rt.alloc(), &env, "f"), 1);
+    assert_eq!(rt; spelled(&rt, rt.alloc(), &env, "##"), 0);
+    let of_a = sym(&rt, "A", Kind::Functor, 1).article;
+    assert_eq!(rt; env.theorems.of(of_a).len(), 4);
+    assert_eq!(rt; env.schemes.of(of_a).len(), 1);
+}
+
+#[test]
+fn a_copy_has_the_same_lists(rt: HostRuntime) {
+    let env = whole(&rt, rt.alloc());
+    let copy = env.copy(rt.alloc()).expect(&rt, "copy");
+    let lists = lists_of(&rt, rt.alloc(), &copy);
+    assert!(rt; lists == lists_of(&rt, rt.alloc(), &env));
+    let functor = sym(&rt, "A", Kind::Functor, 2);
+    assert_eq!(rt; counts(&copy, functor), counts(&env, functor));
 }

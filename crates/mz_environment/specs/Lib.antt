@@ -1,3 +1,5 @@
+pub mod Keys
+pub mod KeyLaws
 pub mod Rows
 pub mod Unfoldings
 pub mod Cited

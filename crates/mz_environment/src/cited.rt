@@ -7,7 +7,6 @@ use crate::cited_scheme::CitedScheme;
 use crate::cited_schemes::CitedSchemes;
 use crate::cited_statement::CitedStatement;
 use crate::cited_statements::CitedStatements;
-use crate::joining::push_statements;
 use crate::numbering::Numbering;
 use mz_copies::schemes::scheme_copy;
 use mz_core::item::Item;
@@ -142,7 +141,8 @@ pub fn statements_cited(
     ensures { IfOk result (λ xs. xs ≡ statements_cited at item.now) }
 {
     let mut out = theorem_cited(alloc, at, item)?;
-    push_statements(&mut out, definition_cited(alloc, at, item)?)?;
+    let more = definition_cited(alloc, at, item)?;
+    out.append(&more)?;
     Ok(out)
 }
 

@@ -1,14 +1,20 @@
 //! Lists of statements that may be cited.
-ghost use Rattle.std.specs.Prelude.{◌≡◌, ◌++◌, ◌∷◌, [], OnOk, OnErr};
+ghost use Rattle.std.specs.Prelude.{◌≡◌, ◌++◌, ◌∷◌, [], map, OnOk};
+ghost use Rattle.std.specs.List.{filter};
+ghost use Rattle.std.specs.Arc.{arc_value};
+ghost use Rattle.mz_environment.specs.Keys.{of_article};
 
 use crate::cited_statement::CitedStatement;
+use crate::keys::ByArticle;
+use mz_table::table::Table;
 use std::alloc::{AllocError, Global};
 use std::marker::Model;
+use std::sync::Arc;
 
-/// Statements that may be cited, the latest one last.
+/// Statements that may be cited, the latest one last, with those of each article apart.
 #[derive(Drop)]
 pub struct CitedStatements {
-    pub items: Vec<CitedStatement>,
+    table: Table<u64, CitedStatement, ByArticle>,
 }
 
 impl Model for CitedStatements {
@@ -21,7 +27,7 @@ impl Model for CitedStatements {
 
     ghost coded = { coded_list the_row.coded };
 
-    ghost view = { λ a. a.items.items };
+    ghost view = { λ a. a.table };
 }
 
 impl CitedStatements {
@@ -30,16 +36,35 @@ impl CitedStatements {
         ensures { result ≡ [] }
     {
         CitedStatements {
-            items: Vec::new(alloc),
+            table: Table::new(alloc),
         }
+    }
+
+    /// All of them, in their order.
+    pub fn as_slice(&self) -> &[Arc<CitedStatement>]
+        ensures { map arc_value result.now ≡ self.now }
+    {
+        self.table.as_slice()
+    }
+
+    /// The statements of the article, in their order. The others aren't looked at.
+    pub fn of(&self, article: u64) -> &[Arc<CitedStatement>]
+        ensures { map arc_value result.now ≡ filter (of_article article) self.now }
+    {
+        self.table.of(&article)
     }
 
     /// Puts one at the end.
     pub fn push(&mut self, x: CitedStatement) -> Result<(), AllocError>
-        ensures ok { OnOk result (self.new ≡ self.old ++ x ∷ []) }
-        ensures err { OnErr result (self.new ≡ self.old) }
+        ensures { OnOk result (self.new ≡ self.old ++ x ∷ []) }
     {
-        self.items.push(x)?;
-        Ok(())
+        self.table.push(x)
+    }
+
+    /// Puts others at the end, which are shared.
+    pub fn append(&mut self, more: &CitedStatements) -> Result<(), AllocError>
+        ensures { OnOk result (self.new ≡ self.old ++ more.now) }
+    {
+        self.table.append_shared(&more.table)
     }
 }

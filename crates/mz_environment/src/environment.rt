@@ -1,5 +1,5 @@
 //! Environments.
-ghost use Rattle.std.specs.Prelude.{◌≡◌, OnOk};
+ghost use Rattle.std.specs.Prelude.{◌≡◌, IfOk, OnOk};
 ghost use Rattle.mz_environment.specs.Cited.{numbered};
 ghost use Rattle.mz_environment.specs.Environment.{no_environment, joined, of_item};
 
@@ -7,19 +7,20 @@ use crate::cited_schemes::CitedSchemes;
 use crate::cited_statements::CitedStatements;
 use crate::existentials::Existentials;
 use crate::joining::join;
+use crate::notation_table::NotationTable;
 use crate::numbering::Numbering;
 use crate::rows::Rows;
-use crate::shares::of_item;
+use crate::shares::put_item;
 use crate::structures::Structures;
 use crate::syms::Syms;
 use crate::unfoldings::Unfoldings;
 use mz_core::item::Item;
-use mz_core::notations::Notations;
 use mz_ground::clauses::Clauses;
 use std::alloc::{AllocError, Global};
 
 /// What a reading and a step may use. Each list is in its order, the latest one last: what other articles
-/// gave, and behind it what the article itself has stated.
+/// gave, and behind it what the article itself has stated. What a symbol has is found without a look at the others
+/// (`of`).
 #[derive(Drop)]
 pub struct Environment {
     /// The types of functors' applications.
@@ -29,7 +30,7 @@ pub struct Environment {
     pub structures: Structures,
     /// The modes all of whose objects are in one set.
     pub sethoods: Syms,
-    pub notations: Notations,
+    pub notations: NotationTable,
     /// The clauses by which types fit, and which `by` uses, too.
     pub typing: Clauses,
     /// Clauses that `by` uses.
@@ -58,7 +59,7 @@ impl Environment {
             modes: Rows::new(alloc),
             structures: Structures::new(alloc),
             sethoods: Syms::new(alloc),
-            notations: Notations::new(alloc),
+            notations: NotationTable::new(alloc),
             typing: Clauses::new(alloc),
             further: Clauses::new(alloc),
             equalities: Clauses::new(alloc),
@@ -70,15 +71,23 @@ impl Environment {
         }
     }
 
+    /// An equal environment, which shares all entries but clauses and symbols.
+    pub fn copy(&self, alloc: Global) -> Result<Environment, AllocError>
+        ensures { IfOk result (λ e. e ≡ self.now) }
+    {
+        let mut out = Environment::new(alloc);
+        join(alloc, &mut out, self)?;
+        Ok(out)
+    }
+
     /// Adds all that an item gives, behind what is there; `at` is where the item stands in its article, and then
     /// where the next one does.
     pub fn add(&mut self, alloc: Global, at: &mut Numbering, item: &Item) -> Result<(), AllocError>
         ensures given { OnOk result (self.new ≡ joined self.old (of_item at.old item.now)) }
         ensures next { OnOk result (at.new ≡ numbered at.old item.now) }
     {
-        let part = of_item(alloc, *at, item)?;
         let next = at.after(item)?;
-        join(self, part)?;
+        put_item(alloc, self, *at, item)?;
         *at = next;
         Ok(())
     }

@@ -10,6 +10,8 @@ pub mod environment;
 pub mod existentials;
 pub mod item_unfolding;
 pub mod joining;
+pub mod keys;
+pub mod notation_table;
 pub mod numbering;
 pub mod plain;
 pub mod row;

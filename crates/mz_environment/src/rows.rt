@@ -1,14 +1,21 @@
 //! Lists of rows.
-ghost use Rattle.std.specs.Prelude.{◌≡◌, ◌++◌, ◌∷◌, [], OnOk, OnErr};
+ghost use Rattle.std.specs.Prelude.{◌≡◌, ◌++◌, ◌∷◌, [], map, OnOk};
+ghost use Rattle.std.specs.List.{filter};
+ghost use Rattle.std.specs.Arc.{arc_value};
+ghost use Rattle.mz_environment.specs.Keys.{row_has};
 
+use crate::keys::{BySymbol, SymKey, sym_key};
 use crate::row::Row;
+use mz_logic::sym::Sym;
+use mz_table::table::Table;
 use std::alloc::{AllocError, Global};
 use std::marker::Model;
+use std::sync::Arc;
 
-/// A list of rows, the latest one last.
+/// Rows, the latest one last, with those of each symbol apart.
 #[derive(Drop)]
 pub struct Rows {
-    pub items: Vec<Row>,
+    table: Table<SymKey, Row, BySymbol>,
 }
 
 impl Model for Rows {
@@ -21,7 +28,7 @@ impl Model for Rows {
 
     ghost coded = { coded_list the_row.coded };
 
-    ghost view = { λ a. a.items.items };
+    ghost view = { λ a. a.table };
 }
 
 impl Rows {
@@ -30,16 +37,35 @@ impl Rows {
         ensures { result ≡ [] }
     {
         Rows {
-            items: Vec::new(alloc),
+            table: Table::new(alloc),
         }
+    }
+
+    /// All of them, in their order.
+    pub fn as_slice(&self) -> &[Arc<Row>]
+        ensures { map arc_value result.now ≡ self.now }
+    {
+        self.table.as_slice()
+    }
+
+    /// The rows of the symbol, in their order. The others aren't looked at.
+    pub fn of(&self, s: Sym) -> &[Arc<Row>]
+        ensures { map arc_value result.now ≡ filter (row_has s) self.now }
+    {
+        self.table.of(&sym_key(s))
     }
 
     /// Puts one at the end.
     pub fn push(&mut self, x: Row) -> Result<(), AllocError>
-        ensures ok { OnOk result (self.new ≡ self.old ++ x ∷ []) }
-        ensures err { OnErr result (self.new ≡ self.old) }
+        ensures { OnOk result (self.new ≡ self.old ++ x ∷ []) }
     {
-        self.items.push(x)?;
-        Ok(())
+        self.table.push(x)
+    }
+
+    /// Puts others at the end, which are shared.
+    pub fn append(&mut self, more: &Rows) -> Result<(), AllocError>
+        ensures { OnOk result (self.new ≡ self.old ++ more.now) }
+    {
+        self.table.append_shared(&more.table)
     }
 }

@@ -1,14 +1,21 @@
 //! Lists of unfoldings.
-ghost use Rattle.std.specs.Prelude.{◌≡◌, ◌++◌, ◌∷◌, [], OnOk, OnErr};
+ghost use Rattle.std.specs.Prelude.{◌≡◌, ◌++◌, ◌∷◌, [], map, OnOk};
+ghost use Rattle.std.specs.List.{filter};
+ghost use Rattle.std.specs.Arc.{arc_value};
+ghost use Rattle.mz_environment.specs.Keys.{has_head};
 
 use crate::item_unfolding::Unfolding;
+use crate::keys::{BySymbol, SymKey, sym_key};
+use mz_logic::sym::Sym;
+use mz_table::table::Table;
 use std::alloc::{AllocError, Global};
 use std::marker::Model;
+use std::sync::Arc;
 
-/// A list of unfoldings, the latest one last.
+/// Unfoldings, the latest one last, with those of each symbol apart.
 #[derive(Drop)]
 pub struct Unfoldings {
-    pub items: Vec<Unfolding>,
+    table: Table<Option<SymKey>, Unfolding, BySymbol>,
 }
 
 impl Model for Unfoldings {
@@ -21,7 +28,7 @@ impl Model for Unfoldings {
 
     ghost coded = { coded_list the_row.coded };
 
-    ghost view = { λ a. a.items.items };
+    ghost view = { λ a. a.table };
 }
 
 impl Unfoldings {
@@ -30,16 +37,35 @@ impl Unfoldings {
         ensures { result ≡ [] }
     {
         Unfoldings {
-            items: Vec::new(alloc),
+            table: Table::new(alloc),
         }
+    }
+
+    /// All of them, in their order.
+    pub fn as_slice(&self) -> &[Arc<Unfolding>]
+        ensures { map arc_value result.now ≡ self.now }
+    {
+        self.table.as_slice()
+    }
+
+    /// The unfoldings of applications or atoms of the symbol, in their order. The others aren't looked at.
+    pub fn of(&self, s: Sym) -> &[Arc<Unfolding>]
+        ensures { map arc_value result.now ≡ filter (has_head s) self.now }
+    {
+        self.table.of(&Some(sym_key(s)))
     }
 
     /// Puts one at the end.
     pub fn push(&mut self, x: Unfolding) -> Result<(), AllocError>
-        ensures ok { OnOk result (self.new ≡ self.old ++ x ∷ []) }
-        ensures err { OnErr result (self.new ≡ self.old) }
+        ensures { OnOk result (self.new ≡ self.old ++ x ∷ []) }
     {
-        self.items.push(x)?;
-        Ok(())
+        self.table.push(x)
+    }
+
+    /// Puts others at the end, which are shared.
+    pub fn append(&mut self, more: &Unfoldings) -> Result<(), AllocError>
+        ensures { OnOk result (self.new ≡ self.old ++ more.now) }
+    {
+        self.table.append_shared(&more.table)
     }
 }

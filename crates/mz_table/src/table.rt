@@ -107,6 +107,16 @@ impl<K: Ord + Drop, T: Drop, B: KeyOf<K, T>> Table<K, T, B> {
         Ok(())
     }
 
+    /// Puts the entries of another list at the end, which stay its own, too.
+    pub fn append_shared(&mut self, more: &Table<K, T, B>) -> Result<(), AllocError>
+        ensures { OnOk result (self.new ≡ self.old ++ more.now) }
+    {
+        for x in more.as_slice() {
+            self.push_shared(Arc::try_clone(x)?)?;
+        }
+        Ok(())
+    }
+
     /// An equal list, which shares the entries.
     pub fn copy(&self, alloc: Global) -> Result<Table<K, T, B>, AllocError>
         ensures { IfOk result (λ t. t ≡ self.now) }

@@ -1,11 +1,11 @@
 //! The lists of an environment as a text: for each list that isn't empty its word and its entries, by their symbols.
 //! Those of HIDDEN are left out.
 use mz_base::name::Name;
-use mz_core::notations::Notations;
 use mz_environment::cited_schemes::CitedSchemes;
 use mz_environment::cited_statements::CitedStatements;
 use mz_environment::environment::Environment;
 use mz_environment::existentials::Existentials;
+use mz_environment::notation_table::NotationTable;
 use mz_environment::rows::Rows;
 use mz_environment::unfoldings::Unfoldings;
 use mz_ground::clauses::Clauses;
@@ -42,11 +42,11 @@ fn head_of(r: &Trigger) -> Sym {
 }
 
 fn put_rows(rt: &impl Abort, alloc: Global, out: &mut Vec<u8>, word: &[u8], rows: &Rows) {
-    if rows.items.is_empty() {
+    if rows.as_slice().is_empty() {
         return;
     }
     put(rt, out, word);
-    for row in &rows.items {
+    for row in rows.as_slice() {
         put_sym(rt, alloc, out, row.sym);
     }
     put(rt, out, b"; ");
@@ -64,23 +64,24 @@ fn put_clauses(rt: &impl Abort, alloc: Global, out: &mut Vec<u8>, word: &[u8], c
 }
 
 fn put_unfoldings(rt: &impl Abort, alloc: Global, out: &mut Vec<u8>, word: &[u8], us: &Unfoldings) {
-    if us.items.is_empty() {
+    if us.as_slice().is_empty() {
         return;
     }
     put(rt, out, word);
-    for u in &us.items {
+    for u in us.as_slice() {
         put_sym(rt, alloc, out, head_of(&u.head));
     }
     put(rt, out, b"; ");
 }
 
 /// The notations behind HIDDEN's five.
-fn put_notations(rt: &impl Abort, out: &mut Vec<u8>, xs: &Notations) {
-    if xs.items.len() <= 5 {
+fn put_notations(rt: &impl Abort, out: &mut Vec<u8>, xs: &NotationTable) {
+    let all = xs.as_slice();
+    if all.len() <= 5 {
         return;
     }
     put(rt, out, b"notations");
-    for x in &xs.items[5..] {
+    for x in &all[5..] {
         put(rt, out, b" ");
         put(rt, out, x.pattern.symbol.as_slice());
     }
@@ -88,11 +89,11 @@ fn put_notations(rt: &impl Abort, out: &mut Vec<u8>, xs: &Notations) {
 }
 
 fn put_registrations(rt: &impl Abort, alloc: Global, out: &mut Vec<u8>, rs: &Existentials) {
-    if rs.items.is_empty() {
+    if rs.as_slice().is_empty() {
         return;
     }
     put(rt, out, b"registrations");
-    for r in &rs.items {
+    for r in rs.as_slice() {
         for a in &r.adjectives.items {
             put_sym(rt, alloc, out, a.sym);
         }
@@ -119,11 +120,11 @@ fn put_cited(
     theorems: &CitedStatements,
     schemes: &CitedSchemes,
 ) {
-    for x in &theorems.items {
+    for x in theorems.as_slice() {
         let word: &[u8] = if x.is_definition { b":def " } else { b":" };
         put_number(rt, out, x.article, word, x.number);
     }
-    for x in &schemes.items {
+    for x in schemes.as_slice() {
         put_number(rt, out, x.article, b":sch ", x.number);
     }
 }

@@ -36,7 +36,8 @@ fn name(rt: &impl Abort, word: &str) -> Name {
     Name::read(word.as_bytes()).expect(rt, "name")
 }
 
-fn sym(rt: &impl Abort, article: &str, kind: Kind, number: u32) -> Sym {
+/// The symbol of the article.
+pub fn sym(rt: &impl Abort, article: &str, kind: Kind, number: u32) -> Sym {
     Sym {
         article: name(rt, article).number(),
         kind,
