@@ -1,0 +1,5 @@
+pub mod Known
+pub mod RowTypes
+pub mod Structures
+pub mod Chain
+pub mod Laws
