@@ -47,6 +47,84 @@ fn told<T: Spell>(
     }
 }
 
+/// What is answered by the parser of a statement that introduces names, or of `set`.
+fn introduced(
+    rt: &impl Abort,
+    alloc: Global,
+    part: Part,
+    all: &[MarkedToken],
+    left: (&[MarkedToken], Place),
+    room: usize,
+) -> Answer {
+    let mut reader = Reader {
+        rest: left.0,
+        alloc,
+    };
+    match part {
+        Part::Consider => {
+            let result = consider(&mut reader, None, room);
+            told(rt, alloc, all, (reader.rest, left.1), result)
+        }
+        Part::Deffunc => {
+            let result = deffunc(&mut reader, room);
+            told(rt, alloc, all, (reader.rest, left.1), result)
+        }
+        Part::Defpred => {
+            let result = defpred(&mut reader, room);
+            told(rt, alloc, all, (reader.rest, left.1), result)
+        }
+        Part::Reconsider => {
+            let result = reconsider(&mut reader, None, room);
+            told(rt, alloc, all, (reader.rest, left.1), result)
+        }
+        _ => {
+            let result = set_statement(&mut reader, room);
+            told(rt, alloc, all, (reader.rest, left.1), result)
+        }
+    }
+}
+
+/// What is answered by the parser of a step, or of `take`.
+fn stepped(
+    rt: &impl Abort,
+    alloc: Global,
+    part: Part,
+    all: &[MarkedToken],
+    left: (&[MarkedToken], Place),
+    room: usize,
+) -> Answer {
+    let mut reader = Reader {
+        rest: left.0,
+        alloc,
+    };
+    match part {
+        Part::Assume => {
+            let result = assume(&mut reader, room);
+            told(rt, alloc, all, (reader.rest, left.1), result)
+        }
+        Part::Equality => {
+            let result = equality_step(&mut reader, room);
+            told(rt, alloc, all, (reader.rest, left.1), result)
+        }
+        Part::Given => {
+            let result = given(&mut reader, room);
+            told(rt, alloc, all, (reader.rest, left.1), result)
+        }
+        Part::Let => {
+            let result = let_step(&mut reader, room);
+            told(rt, alloc, all, (reader.rest, left.1), result)
+        }
+        Part::Split => {
+            let result = split(&mut reader, None, room);
+            told(rt, alloc, all, (reader.rest, left.1), result)
+        }
+        _ => {
+            let result = take(&mut reader, room);
+            told(rt, alloc, all, (reader.rest, left.1), result)
+        }
+    }
+}
+
 /// What is answered to this text, where so many constructs may still be opened.
 fn answered(rt: &impl Abort, alloc: Global, part: Part, text: &[u8], room: usize) -> Answer {
     let tokens = article_tokens(rt, alloc, text);
@@ -54,56 +132,12 @@ fn answered(rt: &impl Abort, alloc: Global, part: Part, text: &[u8], room: usize
     if all.len() < 5 {
         return Answer::TooFew;
     }
-    let mut reader = Reader {
-        rest: &all.as_slice()[5..],
-        alloc,
-    };
-    let end = tokens.end;
+    let left = (&all.as_slice()[5..], tokens.end);
     match part {
-        Part::Assume => {
-            let result = assume(&mut reader, room);
-            told(rt, alloc, all.as_slice(), (reader.rest, end), result)
+        Part::Consider | Part::Deffunc | Part::Defpred | Part::Reconsider | Part::Set => {
+            introduced(rt, alloc, part, all.as_slice(), left, room)
         }
-        Part::Consider => {
-            let result = consider(&mut reader, None, room);
-            told(rt, alloc, all.as_slice(), (reader.rest, end), result)
-        }
-        Part::Deffunc => {
-            let result = deffunc(&mut reader, room);
-            told(rt, alloc, all.as_slice(), (reader.rest, end), result)
-        }
-        Part::Defpred => {
-            let result = defpred(&mut reader, room);
-            told(rt, alloc, all.as_slice(), (reader.rest, end), result)
-        }
-        Part::Equality => {
-            let result = equality_step(&mut reader, room);
-            told(rt, alloc, all.as_slice(), (reader.rest, end), result)
-        }
-        Part::Given => {
-            let result = given(&mut reader, room);
-            told(rt, alloc, all.as_slice(), (reader.rest, end), result)
-        }
-        Part::Let => {
-            let result = let_step(&mut reader, room);
-            told(rt, alloc, all.as_slice(), (reader.rest, end), result)
-        }
-        Part::Reconsider => {
-            let result = reconsider(&mut reader, None, room);
-            told(rt, alloc, all.as_slice(), (reader.rest, end), result)
-        }
-        Part::Set => {
-            let result = set_statement(&mut reader, room);
-            told(rt, alloc, all.as_slice(), (reader.rest, end), result)
-        }
-        Part::Split => {
-            let result = split(&mut reader, None, room);
-            told(rt, alloc, all.as_slice(), (reader.rest, end), result)
-        }
-        Part::Take => {
-            let result = take(&mut reader, room);
-            told(rt, alloc, all.as_slice(), (reader.rest, end), result)
-        }
+        _ => stepped(rt, alloc, part, all.as_slice(), left, room),
     }
 }
 
