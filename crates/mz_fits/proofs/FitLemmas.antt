@@ -40,19 +40,22 @@ first_fits cs ks before ty tys t ts (and_locus b y ys u us f h) = f
 others_fit : (cs : List Clause) (ks : List (Option Constant)) (before : List Term) (ty : SoftType) (tys : List SoftType) (t : Term) (ts : List Term) → LociFit cs ks before (ty ∷ tys) (t ∷ ts) → LociFit cs ks (t ∷ before) tys ts
 others_fit cs ks before ty tys t ts (and_locus b y ys u us f h) = h
 
-pub told_unfit : (cs : List Clause) (ks : List (Option Constant)) (before : List Term) (ty at : SoftType) (loci tys : List SoftType) (t : Term) (values ts : List Term) (b : Bool) → loci ≡ ty ∷ tys → values ≡ t ∷ ts → at ≡ type_at before ty → IsTrue b ↔ TypeFits cs ks t at → b ≡ false → IsTrue false ↔ LociFit cs ks before loci values
-told_unfit cs ks before ty at loci tys t values ts b el ev same i h =
-    subst (λ xs. IsTrue false ↔ LociFit cs ks before xs values) (sym el) (subst (λ xs. IsTrue false ↔ LociFit cs ks before (ty ∷ tys) xs) (sym ev)
-    ((λ x. absurd (not_false x), λ f. absurd (not_both b h (i.1 (subst (TypeFits cs ks t) (sym same) (first_fits cs ks before ty tys t ts f)))))))
+pub told_value : (cs : List Clause) (ks : List (Option Constant)) (before : List Term) (ty at : SoftType) (t : Term) (b : Bool) → at ≡ type_at before ty → IsTrue b ↔ TypeFits cs ks t at → IsTrue b ↔ TypeFits cs ks t (type_at before ty)
+told_value cs ks before ty at t b same i = subst (λ x. IsTrue b ↔ TypeFits cs ks t x) same i
 
-rest : (cs : List Clause) (ks : List (Option Constant)) (before inside : List Term) (ty at : SoftType) (tys : List SoftType) (t : Term) (ts : List Term) (a b : Bool) → at ≡ type_at before ty → IsTrue a ↔ TypeFits cs ks t at → a ≡ true → inside ≡ t ∷ before → IsTrue b ↔ LociFit cs ks inside tys ts → IsTrue b ↔ LociFit cs ks before (ty ∷ tys) (t ∷ ts)
-rest cs ks before inside ty at tys t ts a b same i h same' j =
-    let j' : IsTrue b ↔ LociFit cs ks (t ∷ before) tys ts = subst (λ xs. IsTrue b ↔ LociFit cs ks xs tys ts) same' j in
-    (λ x. and_locus before ty tys t ts (subst (TypeFits cs ks t) same (i.0 h)) (j'.0 x), λ f. j'.1 (others_fit cs ks before ty tys t ts f))
+-- the loci that are left fit just where all do
+pub told_unfit : (cs : List Clause) (ks : List (Option Constant)) (before : List Term) (ty : SoftType) (loci tys more : List SoftType) (t : Term) (values ts us : List Term) (b : Bool) → tys ≡ ty ∷ more → ts ≡ t ∷ us → IsTrue b ↔ TypeFits cs ks t (type_at before ty) → b ≡ false → LociFit cs ks before tys ts ↔ LociFit cs ks [] loci values → IsTrue false ↔ LociFit cs ks [] loci values
+told_unfit cs ks before ty loci tys more t values ts us b el ev i h w =
+    (λ x. absurd (not_false x), λ f. absurd (not_both b h (i.1 (first_fits cs ks before ty more t us (subst (λ xs. LociFit cs ks before (ty ∷ more) xs) ev (subst (λ xs. LociFit cs ks before xs ts) el (w.1 f)))))))
 
-pub told_rest : (cs : List Clause) (ks : List (Option Constant)) (before inside : List Term) (ty at : SoftType) (loci tys : List SoftType) (t : Term) (values ts : List Term) (a b : Bool) → loci ≡ ty ∷ tys → values ≡ t ∷ ts → at ≡ type_at before ty → IsTrue a ↔ TypeFits cs ks t at → a ≡ true → inside ≡ t ∷ before → IsTrue b ↔ LociFit cs ks inside tys ts → IsTrue b ↔ LociFit cs ks before loci values
-told_rest cs ks before inside ty at loci tys t values ts a b el ev same i h same' j =
-    subst (λ xs. IsTrue b ↔ LociFit cs ks before xs values) (sym el) (subst (λ xs. IsTrue b ↔ LociFit cs ks before (ty ∷ tys) xs) (sym ev) (rest cs ks before inside ty at tys t ts a b same i h same' j))
+pub told_next : (cs : List Clause) (ks : List (Option Constant)) (before after : List Term) (ty : SoftType) (loci tys more : List SoftType) (t : Term) (values ts us : List Term) (b : Bool) → tys ≡ ty ∷ more → ts ≡ t ∷ us → IsTrue b ↔ TypeFits cs ks t (type_at before ty) → b ≡ true → after ≡ t ∷ before → LociFit cs ks before tys ts ↔ LociFit cs ks [] loci values → LociFit cs ks after more us ↔ LociFit cs ks [] loci values
+told_next cs ks before after ty loci tys more t values ts us b el ev i h same w = (forward, back)
+  where
+    forward : LociFit cs ks after more us → LociFit cs ks [] loci values
+    forward f = w.0 (subst (λ xs. LociFit cs ks before xs ts) (sym el) (subst (λ xs. LociFit cs ks before (ty ∷ more) xs) (sym ev) (and_locus before ty more t us (i.0 h) (subst (λ xs. LociFit cs ks xs more us) same f))))
+
+    back : LociFit cs ks [] loci values → LociFit cs ks after more us
+    back f = subst (λ xs. LociFit cs ks xs more us) (sym same) (others_fit cs ks before ty more t us (subst (λ xs. LociFit cs ks before (ty ∷ more) xs) ev (subst (λ xs. LociFit cs ks before xs ts) el (w.1 f))))
 
 no_more : (cs : List Clause) (ks : List (Option Constant)) (before : List Term) (t : Term) (ts : List Term) → LociFit cs ks before [] (t ∷ ts) → ⊥
 no_more cs ks before t ts f = elim f [ ]
@@ -64,14 +67,19 @@ at_end : (cs : List Clause) (ks : List (Option Constant)) (before values : List 
 at_end cs ks before [] = (λ x. no_loci before, λ f. refl)
 at_end cs ks before (t ∷ ts) = (λ x. let z : length (t ∷ ts) ≡ 0 = eqb-true (length (t ∷ ts)) 0 x in absurd (omega (arith, z)), λ f. absurd (no_more cs ks before t ts f))
 
-pub told_end : (cs : List Clause) (ks : List (Option Constant)) (before values : List Term) (loci : List SoftType) → length loci ≡ 0 → IsTrue (nat_eq (length values) 0) ↔ LociFit cs ks before loci values
-told_end cs ks before values loci el = subst (λ xs. IsTrue (nat_eq (length values) 0) ↔ LociFit cs ks before xs values) (sym (empty _ el)) (at_end cs ks before values)
+pub told_end : (cs : List Clause) (ks : List (Option Constant)) (before values ts : List Term) (loci tys : List SoftType) → length tys ≡ 0 → LociFit cs ks before tys ts ↔ LociFit cs ks [] loci values → IsTrue (nat_eq (length ts) 0) ↔ LociFit cs ks [] loci values
+told_end cs ks before values ts loci tys el w =
+    let e : IsTrue (nat_eq (length ts) 0) ↔ LociFit cs ks before tys ts = subst (λ xs. IsTrue (nat_eq (length ts) 0) ↔ LociFit cs ks before xs ts) (sym (empty _ el)) (at_end cs ks before ts) in
+    (λ x. w.0 (e.0 x), λ f. e.1 (w.1 f))
 
-pub told_fewer : (cs : List Clause) (ks : List (Option Constant)) (before values : List Term) (loci tys : List SoftType) (ty : SoftType) → loci ≡ ty ∷ tys → length values ≡ 0 → IsTrue false ↔ LociFit cs ks before loci values
-told_fewer cs ks before values loci tys ty el ev =
-    subst (λ xs. IsTrue false ↔ LociFit cs ks before xs values) (sym el) (subst (λ xs. IsTrue false ↔ LociFit cs ks before (ty ∷ tys) xs) (sym (empty _ ev)) ((λ x. absurd (not_false x), λ f. absurd (no_fewer cs ks before ty tys f))))
+pub told_fewer : (cs : List Clause) (ks : List (Option Constant)) (before values ts : List Term) (loci tys more : List SoftType) (ty : SoftType) → tys ≡ ty ∷ more → length ts ≡ 0 → LociFit cs ks before tys ts ↔ LociFit cs ks [] loci values → IsTrue false ↔ LociFit cs ks [] loci values
+told_fewer cs ks before values ts loci tys more ty el ev w =
+    (λ x. absurd (not_false x), λ f. absurd (no_fewer cs ks before ty more (subst (λ xs. LociFit cs ks before (ty ∷ more) xs) (empty _ ev) (subst (λ xs. LociFit cs ks before xs ts) el (w.1 f)))))
 
-pub ruleset loci_rules = (told_unfit, told_rest, told_end, told_fewer)
+pub told_first : (cs : List Clause) (ks : List (Option Constant)) (before values : List Term) (loci : List SoftType) → before ≡ [] → LociFit cs ks before loci values ↔ LociFit cs ks [] loci values
+told_first cs ks before values loci e = subst (λ xs. LociFit cs ks before loci values ↔ LociFit cs ks xs loci values) e ((λ f. f, λ f. f))
+
+pub ruleset loci_rules = (told_unfit, told_next, told_end, told_fewer, told_first)
 
 first_of : (cs : List Clause) (ks : List (Option Constant)) (l : Literal) (ls : List Literal) → AllFit cs ks (l ∷ ls) → LiteralFits cs ks l
 first_of cs ks l ls (and_fits m ms f h) = f
@@ -79,16 +87,21 @@ first_of cs ks l ls (and_fits m ms f h) = f
 others_of : (cs : List Clause) (ks : List (Option Constant)) (l : Literal) (ls : List Literal) → AllFit cs ks (l ∷ ls) → AllFit cs ks ls
 others_of cs ks l ls (and_fits m ms f h) = h
 
-pub told_all_fit : (cs : List Clause) (ks : List (Option Constant)) (ls : List Literal) → length ls ≡ 0 → IsTrue true ↔ AllFit cs ks ls
-told_all_fit cs ks ls el = subst (λ xs. IsTrue true ↔ AllFit cs ks xs) (sym (empty _ el)) ((λ x. none_left, λ h. refl))
+-- the literals that are left fit just where all do
+pub told_all_fit : (cs : List Clause) (ks : List (Option Constant)) (ls rest : List Literal) → length rest ≡ 0 → AllFit cs ks rest ↔ AllFit cs ks ls → IsTrue true ↔ AllFit cs ks ls
+told_all_fit cs ks ls rest er w = (λ x. w.0 (subst (AllFit cs ks) (sym (empty _ er)) none_left), λ h. refl)
 
-pub told_one_unfit : (cs : List Clause) (ks : List (Option Constant)) (l : Literal) (ls others : List Literal) (b : Bool) → ls ≡ l ∷ others → IsTrue b ↔ LiteralFits cs ks l → b ≡ false → IsTrue false ↔ AllFit cs ks ls
-told_one_unfit cs ks l ls others b el i h = subst (λ xs. IsTrue false ↔ AllFit cs ks xs) (sym el) ((λ x. absurd (not_false x), λ k. absurd (not_both b h (i.1 (first_of cs ks l others k)))))
+pub told_one_unfit : (cs : List Clause) (ks : List (Option Constant)) (l : Literal) (ls rest others : List Literal) (b : Bool) → rest ≡ l ∷ others → IsTrue b ↔ LiteralFits cs ks l → b ≡ false → AllFit cs ks rest ↔ AllFit cs ks ls → IsTrue false ↔ AllFit cs ks ls
+told_one_unfit cs ks l ls rest others b er i h w = (λ x. absurd (not_false x), λ k. absurd (not_both b h (i.1 (first_of cs ks l others (subst (AllFit cs ks) er (w.1 k))))))
 
-pub told_others_fit : (cs : List Clause) (ks : List (Option Constant)) (l : Literal) (ls others : List Literal) (a b : Bool) → ls ≡ l ∷ others → IsTrue a ↔ LiteralFits cs ks l → a ≡ true → IsTrue b ↔ AllFit cs ks others → IsTrue b ↔ AllFit cs ks ls
-told_others_fit cs ks l ls others a b el i h j = subst (λ xs. IsTrue b ↔ AllFit cs ks xs) (sym el) ((λ x. and_fits l others (i.0 h) (j.0 x), λ k. j.1 (others_of cs ks l others k)))
+pub told_one_fits : (cs : List Clause) (ks : List (Option Constant)) (l : Literal) (ls rest others : List Literal) (b : Bool) → rest ≡ l ∷ others → IsTrue b ↔ LiteralFits cs ks l → b ≡ true → AllFit cs ks rest ↔ AllFit cs ks ls → AllFit cs ks others ↔ AllFit cs ks ls
+told_one_fits cs ks l ls rest others b er i h w =
+    (λ k. w.0 (subst (AllFit cs ks) (sym er) (and_fits l others (i.0 h) k)), λ k. others_of cs ks l others (subst (AllFit cs ks) er (w.1 k)))
 
-pub ruleset each_rules = (told_all_fit, told_one_unfit, told_others_fit)
+pub told_none_asked : (cs : List Clause) (ks : List (Option Constant)) (ls : List Literal) → AllFit cs ks ls ↔ AllFit cs ks ls
+told_none_asked cs ks ls = (λ k. k, λ k. k)
+
+pub ruleset each_rules = (told_all_fit, told_one_unfit, told_one_fits, told_none_asked)
 
 pub told_fits : (cs : List Clause) (ks : List (Option Constant)) (t : Term) (ty : SoftType) (ls : List Literal) (b : Bool) → ls ≡ guard_literals ty t → IsTrue b ↔ AllFit cs ks ls → IsTrue b ↔ TypeFits cs ks t ty
 unfolding TypeFits

@@ -7,6 +7,7 @@ use Rattle.std.proofs.lemmas.Bool.{eqb-true}
 use Rattle.mz_logic.specs.declared.sym.Sym.{Sym}
 use Rattle.mz_logic.specs.Sym.{same_sym}
 use Rattle.mz_logic.specs.Term.{Term, Bound, Const, App, terms_of}
+use Rattle.mz_logic.specs.TermStorage.{sizes_of}
 use Rattle.mz_core.specs.declared.soft_type.SoftType.{SoftType}
 use Rattle.mz_context.specs.declared.constant.Constant.{Constant}
 use Rattle.mz_ground.specs.declared.clause.Clause.{Clause}
@@ -64,31 +65,49 @@ told_other_shape cs ks scope fs s us t h = m.other_symbol fs s us t h
 
 pub ruleset matched_rules = (told_locus, told_no_locus, told_constant, told_other_constant, told_symbol, told_other_symbol, told_other_shape)
 
-pub told_one_fails : (cs : List Clause) (ks : List (Option Constant)) (scope : ℕ) (fs : Fixed) (u t : Term) (formals us terms ts : List Term) (o : Option Fixed) → formals ≡ u ∷ us → terms ≡ t ∷ ts → Matched cs ks scope fs u t o → o ≡ None → AllMatched cs ks scope fs formals terms None
-told_one_fails cs ks scope fs u t formals us terms ts o ef et h eo =
+one_fails : (cs : List Clause) (ks : List (Option Constant)) (scope : ℕ) (fs : Fixed) (u t : Term) (formals us terms ts : List Term) (o : Option Fixed) → formals ≡ u ∷ us → terms ≡ t ∷ ts → Matched cs ks scope fs u t o → o ≡ None → AllMatched cs ks scope fs formals terms None
+one_fails cs ks scope fs u t formals us terms ts o ef et h eo =
     subst (λ xs. AllMatched cs ks scope fs xs terms None) (sym ef) (subst (λ xs. AllMatched cs ks scope fs (u ∷ us) xs None) (sym et) (m.one_fails fs u t us ts (subst (Matched cs ks scope fs u t) eo h)))
 
-pub told_one_more : (cs : List Clause) (ks : List (Option Constant)) (scope : ℕ) (fs between : Fixed) (u t : Term) (formals us terms ts : List Term) (p o : Option Fixed) → formals ≡ u ∷ us → terms ≡ t ∷ ts → Matched cs ks scope fs u t p → p ≡ Some between → AllMatched cs ks scope between us ts o → AllMatched cs ks scope fs formals terms o
-told_one_more cs ks scope fs between u t formals us terms ts p o ef et h ep a =
+one_more : (cs : List Clause) (ks : List (Option Constant)) (scope : ℕ) (fs between : Fixed) (u t : Term) (formals us terms ts : List Term) (p o : Option Fixed) → formals ≡ u ∷ us → terms ≡ t ∷ ts → Matched cs ks scope fs u t p → p ≡ Some between → AllMatched cs ks scope between us ts o → AllMatched cs ks scope fs formals terms o
+one_more cs ks scope fs between u t formals us terms ts p o ef et h ep a =
     subst (λ xs. AllMatched cs ks scope fs xs terms o) (sym ef) (subst (λ xs. AllMatched cs ks scope fs (u ∷ us) xs o) (sym et) (m.one_more fs between u t us ts o (subst (Matched cs ks scope fs u t) ep h) a))
 
-pub told_all : (cs : List Clause) (ks : List (Option Constant)) (scope : ℕ) (fs : Fixed) (formals terms : List Term) → length formals ≡ 0 → nat_eq (length terms) 0 ≡ true → AllMatched cs ks scope fs formals terms (Some fs)
-told_all cs ks scope fs formals terms ef et =
-    let e : length terms ≡ 0 = eqb-true (length terms) 0 et in
-    subst (λ xs. AllMatched cs ks scope fs xs terms (Some fs)) (sym (empty _ ef)) (subst (λ xs. AllMatched cs ks scope fs [] xs (Some fs)) (sym (empty _ e)) (m.all_matched fs))
+all_matched : (cs : List Clause) (ks : List (Option Constant)) (scope : ℕ) (fs : Fixed) (formals terms : List Term) → length formals ≡ 0 → length terms ≡ 0 → AllMatched cs ks scope fs formals terms (Some fs)
+all_matched cs ks scope fs formals terms ef et =
+    subst (λ xs. AllMatched cs ks scope fs xs terms (Some fs)) (sym (empty _ ef)) (subst (λ xs. AllMatched cs ks scope fs [] xs (Some fs)) (sym (empty _ et)) (m.all_matched fs))
 
-few : (cs : List Clause) (ks : List (Option Constant)) (scope : ℕ) (fs : Fixed) (terms : List Term) → nat_eq (length terms) 0 ≡ false → AllMatched cs ks scope fs [] terms None
-few cs ks scope fs [] h = absurd (not_both (nat_eq 0 0) h refl)
+few : (cs : List Clause) (ks : List (Option Constant)) (scope : ℕ) (fs : Fixed) (terms : List Term) → (length terms ≡ 0 → ⊥) → AllMatched cs ks scope fs [] terms None
+few cs ks scope fs [] h = absurd (h refl)
 few cs ks scope fs (t ∷ ts) h = m.too_few fs t ts
 
-pub told_few : (cs : List Clause) (ks : List (Option Constant)) (scope : ℕ) (fs : Fixed) (formals terms : List Term) → length formals ≡ 0 → nat_eq (length terms) 0 ≡ false → AllMatched cs ks scope fs formals terms None
-told_few cs ks scope fs formals terms ef et = subst (λ xs. AllMatched cs ks scope fs xs terms None) (sym (empty _ ef)) (few cs ks scope fs terms et)
+too_few : (cs : List Clause) (ks : List (Option Constant)) (scope : ℕ) (fs : Fixed) (formals terms : List Term) → length formals ≡ 0 → (length terms ≡ 0 → ⊥) → AllMatched cs ks scope fs formals terms None
+too_few cs ks scope fs formals terms ef et = subst (λ xs. AllMatched cs ks scope fs xs terms None) (sym (empty _ ef)) (few cs ks scope fs terms et)
 
-pub told_many : (cs : List Clause) (ks : List (Option Constant)) (scope : ℕ) (fs : Fixed) (u : Term) (formals us terms : List Term) → formals ≡ u ∷ us → length terms ≡ 0 → AllMatched cs ks scope fs formals terms None
-told_many cs ks scope fs u formals us terms ef et =
+too_many : (cs : List Clause) (ks : List (Option Constant)) (scope : ℕ) (fs : Fixed) (u : Term) (formals us terms : List Term) → formals ≡ u ∷ us → length terms ≡ 0 → AllMatched cs ks scope fs formals terms None
+too_many cs ks scope fs u formals us terms ef et =
     subst (λ xs. AllMatched cs ks scope fs xs terms None) (sym ef) (subst (λ xs. AllMatched cs ks scope fs (u ∷ us) xs None) (sym (empty _ et)) (m.too_many fs u us))
 
-pub ruleset all_rules = (told_one_fails, told_one_more, told_all, told_few, told_many)
+-- what the pairs that are left give, all give
+pub told_one_fails : (cs : List Clause) (ks : List (Option Constant)) (scope : ℕ) (fs between : Fixed) (u t : Term) (formals terms us more ts rest : List Term) (o : Option Fixed) → us ≡ u ∷ more → ts ≡ t ∷ rest → Matched cs ks scope between u t o → o ≡ None → ((p : Option Fixed) → AllMatched cs ks scope between us ts p → AllMatched cs ks scope fs formals terms p) → AllMatched cs ks scope fs formals terms None
+told_one_fails cs ks scope fs between u t formals terms us more ts rest o eu et h eo w = w None (one_fails cs ks scope between u t us more ts rest o eu et h eo)
+
+pub told_one_more : (cs : List Clause) (ks : List (Option Constant)) (scope : ℕ) (fs between behind : Fixed) (u t : Term) (formals terms us more ts rest : List Term) (o : Option Fixed) → us ≡ u ∷ more → ts ≡ t ∷ rest → Matched cs ks scope between u t o → o ≡ Some behind → ((p : Option Fixed) → AllMatched cs ks scope between us ts p → AllMatched cs ks scope fs formals terms p) → (p : Option Fixed) → AllMatched cs ks scope behind more rest p → AllMatched cs ks scope fs formals terms p
+told_one_more cs ks scope fs between behind u t formals terms us more ts rest o eu et h eo w p a = w p (one_more cs ks scope between behind u t us more ts rest o p eu et h eo a)
+
+pub told_all : (cs : List Clause) (ks : List (Option Constant)) (scope : ℕ) (fs between : Fixed) (formals terms us ts : List Term) → length us ≡ 0 → length ts ≡ 0 → ((p : Option Fixed) → AllMatched cs ks scope between us ts p → AllMatched cs ks scope fs formals terms p) → AllMatched cs ks scope fs formals terms (Some between)
+told_all cs ks scope fs between formals terms us ts eu et w = w (Some between) (all_matched cs ks scope between us ts eu et)
+
+pub told_few : (cs : List Clause) (ks : List (Option Constant)) (scope : ℕ) (fs between : Fixed) (formals terms us ts : List Term) → length us ≡ 0 → (length ts ≡ 0 → ⊥) → ((p : Option Fixed) → AllMatched cs ks scope between us ts p → AllMatched cs ks scope fs formals terms p) → AllMatched cs ks scope fs formals terms None
+told_few cs ks scope fs between formals terms us ts eu et w = w None (too_few cs ks scope between us ts eu et)
+
+pub told_many : (cs : List Clause) (ks : List (Option Constant)) (scope : ℕ) (fs between : Fixed) (u : Term) (formals terms us more ts : List Term) → us ≡ u ∷ more → length ts ≡ 0 → ((p : Option Fixed) → AllMatched cs ks scope between us ts p → AllMatched cs ks scope fs formals terms p) → AllMatched cs ks scope fs formals terms None
+told_many cs ks scope fs between u formals terms us more ts eu et w = w None (too_many cs ks scope between u us more ts eu et)
+
+pub fewer_sizes : (u : Term) (us more all : List Term) → us ≡ u ∷ more → sizes_of us ≤ sizes_of all → sizes_of more ≤ sizes_of all
+fewer_sizes u us more all e h =
+    let same : sizes_of us ≡ sizes_of (u ∷ more) = ap sizes_of e in
+    omega (arith, same, h)
 
 pub further_value : (ts : List Term) (t : Term) (o : Option (List Term)) → with_values ts (with_value t o) ≡ with_values (ts ++ t ∷ []) o
 further_value ts t None = refl

@@ -204,9 +204,17 @@ length_unfixed (suc n) =
     let b : length (unfixed n) ≡ n = length_unfixed n in
     omega (arith, a, b)
 
+-- closed values
+values_closed : (fs : Fixed) (vs : List Term) → values_of fs ≡ Some vs → AreClosed fs → list_all closed vs ≡ true
+values_closed [] vs h a = subst (λ (us : List Term). list_all closed us ≡ true) (some-inj [] vs h) refl
+values_closed (None ∷ fs) vs h a = absurd (none_some vs h)
+values_closed (Some t ∷ fs) vs h a =
+    let i : (ws : List Term) × (values_of fs ≡ Some ws) × (t ∷ ws ≡ vs) = inverted t (values_of fs) vs h in
+    subst (λ (us : List Term). list_all closed us ≡ true) i.2 (and_from (closed t) (list_all closed i.0) (a 0 t refl) (values_closed fs i.0 i.1 (λ p u k. a (suc p) u k)))
+
 pub match_law : MatchLaw
 match_law ax g cs ks grants scope fs us ts vs ct h hv =
     let a : AreClosed (unfixed scope) = λ p u k. absurd (none_fixed scope p u k) in
     let x : Extends (unfixed scope) fs × AreClosed fs × (length fs ≡ length (unfixed scope)) = all_extends cs ks scope (unfixed scope) us ts (Some fs) h ct a fs refl in
     let el : length fs ≡ scope = x.2 ∙ length_unfixed scope in
-    (all_equal ax g cs ks grants scope fs (value_at (reverse vs)) (agrees_at scope fs vs hv el) (unfixed scope) us ts (Some fs) h ct a fs refl (λ p u k. k)).0
+    ((all_equal ax g cs ks grants scope fs (value_at (reverse vs)) (agrees_at scope fs vs hv el) (unfixed scope) us ts (Some fs) h ct a fs refl (λ p u k. k)).0, values_closed fs vs hv x.1)

@@ -53,10 +53,11 @@ OneAcceptedLaw =
     (cs : List Clause) (ks : List (Option Constant)) (loci : List SoftType) (fs : Fixed) (o p : Option (List Term)) →
     Accepted cs ks loci fs o → Accepted cs ks loci fs p → o ≡ p
 
--- where formal terms over loci match closed terms, they derive equal to these, with what the loci are fixed to
+-- where formal terms over loci match closed terms, they derive equal to these, with what the loci are fixed to, and this
+-- is closed
 abbrev pub MatchLaw : Type 0
 MatchLaw =
     (axioms premises : List Formula) (cs : List Clause) (ks : List (Option Constant)) → AreGranted axioms premises cs ks →
     (scope : ℕ) (fs : Fixed) (us ts values : List Term) → list_all closed ts ≡ true →
     AllMatched cs ks scope (unfixed scope) us ts (Some fs) → values_of fs ≡ Some values →
-    AreEqual axioms premises (map (substitute 0 (value_at (reverse values))) us) ts
+    AreEqual axioms premises (map (substitute 0 (value_at (reverse values))) us) ts × (list_all closed values ≡ true)

@@ -96,16 +96,14 @@ pub fn all_fit(
 ) -> Result<bool, AllocError>
     ensures { IfOk result (λ b. IsTrue b ↔ AllFit clauses.now constants.now ls.now) }
 {
-    match ls.split_first() {
-        None => Ok(true),
-        Some((l, others)) => {
-            if !literal_fits(alloc, clauses, constants, l)? {
-                return Ok(false);
-            }
-            let fit = all_fit(alloc, clauses, constants, others)?;
-            Ok(fit)
+    let mut rest = ls;
+    while let Some((l, others)) = rest.split_first() {
+        if !literal_fits(alloc, clauses, constants, l)? {
+            return Ok(false);
         }
+        rest = others;
     }
+    Ok(true)
 }
 
 /// Whether each literal of the type's guard at the term fits.
@@ -165,36 +163,25 @@ fn with_first(alloc: Global, t: &Term, ts: Terms) -> Result<Terms, AllocError>
     Ok(out)
 }
 
-/// Whether the values fit the types of these loci. `before` has the values of the loci before them, innermost first.
-#[tactic(auto, using(crate::proofs::FitLemmas::loci_rules))]
-fn rest_fit(
+/// Whether the value fits the type of a locus at the values of the loci before it, the innermost first.
+#[tactic(auto, using(crate::proofs::FitLemmas::told_value))]
+fn value_fits(
     alloc: Global,
     clauses: &[Clause],
     constants: &Constants,
-    before: Terms,
-    loci: &[SoftType],
-    values: &[Term],
+    before: &Terms,
+    ty: &SoftType,
+    value: &Term,
 ) -> Result<bool, AllocError>
-    ensures { IfOk result (λ b. IsTrue b ↔ LociFit clauses.now constants.now before loci.now values.now) }
+    ensures { IfOk result (λ b. IsTrue b ↔ TypeFits clauses.now constants.now value.now (type_at before.now ty.now)) }
 {
-    match loci.split_first() {
-        None => Ok(values.len() == 0),
-        Some((ty, other_loci)) => match values.split_first() {
-            None => Ok(false),
-            Some((value, other_values)) => {
-                let at = type_at(alloc, &before, ty)?;
-                if !type_fits(alloc, clauses, constants, value, &at)? {
-                    return Ok(false);
-                }
-                let inside = with_first(alloc, value, before)?;
-                let fit = rest_fit(alloc, clauses, constants, inside, other_loci, other_values)?;
-                Ok(fit)
-            }
-        },
-    }
+    let at = type_at(alloc, before, ty)?;
+    let fits = type_fits(alloc, clauses, constants, value, &at)?;
+    Ok(fits)
 }
 
 /// Whether the values, in the order of the loci, fit the types of these, each at the values before it.
+#[tactic(auto, using(crate::proofs::FitLemmas::loci_rules))]
 pub fn loci_fit(
     alloc: Global,
     clauses: &[Clause],
@@ -204,6 +191,19 @@ pub fn loci_fit(
 ) -> Result<bool, AllocError>
     ensures { IfOk result (λ b. IsTrue b ↔ LociFit clauses.now constants.now [] loci.now values.now) }
 {
-    let fit = rest_fit(alloc, clauses, constants, Terms::new(alloc), loci, values)?;
-    Ok(fit)
+    let mut before = Terms::new(alloc);
+    let mut tys = loci;
+    let mut ts = values;
+    while let Some((ty, other_tys)) = tys.split_first() {
+        let Some((t, other_ts)) = ts.split_first() else {
+            return Ok(false);
+        };
+        if !value_fits(alloc, clauses, constants, &before, ty, t)? {
+            return Ok(false);
+        }
+        before = with_first(alloc, t, before)?;
+        tys = other_tys;
+        ts = other_ts;
+    }
+    Ok(ts.len() == 0)
 }

@@ -26,7 +26,8 @@ pub fn one_accepted_law()
     ensures { OneAcceptedLaw }
 {}
 
-/// Where formal terms over loci match closed terms, they derive equal to these, with what the loci are fixed to.
+/// Where formal terms over loci match closed terms, they derive equal to these, with what the loci are fixed to, and this
+/// is closed.
 pub fn match_law()
     ensures { MatchLaw }
 {}

@@ -92,7 +92,6 @@ pub fn matches(
 
 /// Matches formal terms with as many terms, in turn.
 #[cycle(matching)]
-#[tactic(auto, using(crate::proofs::MatchLemmas::all_rules))]
 pub fn all_match(
     alloc: Global,
     clauses: &[Clause],
@@ -104,34 +103,24 @@ pub fn all_match(
 ) -> Result<Option<Fixed>, AllocError>
     ensures { IfOk result (λ o. AllMatched clauses.now constants.now scope fixed formals.now terms.now o) }
 {
-    match formals.split_first() {
-        None => {
-            if terms.len() == 0 {
-                Ok(Some(fixed))
-            } else {
-                Ok(None)
-            }
+    let mut between = fixed;
+    let mut us = formals;
+    let mut ts = terms;
+    while let Some((u, other_us)) = us.split_first() {
+        let Some((t, other_ts)) = ts.split_first() else {
+            return Ok(None);
+        };
+        match matches(alloc, clauses, constants, scope, between, u, t)? {
+            Some(behind) => between = behind,
+            None => return Ok(None),
         }
-        Some((u, other_formals)) => match terms.split_first() {
-            None => Ok(None),
-            Some((t, other_terms)) => {
-                match matches(alloc, clauses, constants, scope, fixed, u, t)? {
-                    None => Ok(None),
-                    Some(between) => {
-                        let matched = all_match(
-                            alloc,
-                            clauses,
-                            constants,
-                            scope,
-                            between,
-                            other_formals,
-                            other_terms,
-                        )?;
-                        Ok(matched)
-                    }
-                }
-            }
-        },
+        us = other_us;
+        ts = other_ts;
+    }
+    if ts.len() == 0 {
+        Ok(Some(between))
+    } else {
+        Ok(None)
     }
 }
 

@@ -16,18 +16,19 @@ find_own p (x ∷ xs) = among_own p x xs (p x) refl (find_own p xs)
 pub told_own : {X : Type 0} (p : X → Bool) (own all : List X) (o : Option X) → own ≡ filter p all → o ≡ find p own → o ≡ find p all
 told_own p own all o h e = e ∙ (ap (find p) h ∙ find_own p all)
 
-pub told_none : {A X : Type 0} (value : A → X) (p : X → Bool) (all : List A) → length all ≡ 0 → None ≡ find p (map value all)
-told_none value p all e = ap (λ qs. find p (map value qs)) (sym (empty all e))
+-- what is found among those that are left is what is found among all
+pub told_none : {A X : Type 0} (value : A → X) (p : X → Bool) (all rest : List A) → length rest ≡ 0 → find p (map value rest) ≡ find p (map value all) → None ≡ find p (map value all)
+told_none value p all rest e w = ap (λ qs. find p (map value qs)) (sym (empty rest e)) ∙ w
 
-pub told_here : {A X : Type 0} (value : A → X) (p : X → Bool) (all others : List A) (q : A) (x : X) (b : Bool) → all ≡ q ∷ others → x ≡ value q → b ≡ p x → b ≡ true → Some x ≡ find p (map value all)
-told_here value p all others q x b ea ex eb h =
-    let e : p (value q) ≡ true = ap p (sym ex) ∙ (sym eb ∙ h) in
-    ap Some ex ∙ (ap (λ c. if c then Some (value q) else find p (map value others)) (sym e) ∙ ap (λ qs. find p (map value qs)) (sym ea))
+first_of : {A X : Type 0} (value : A → X) (p : X → Bool) (rest others : List A) (q : A) (x : X) (b c : Bool) → rest ≡ q ∷ others → x ≡ value q → b ≡ p x → b ≡ c → find p (map value rest) ≡ (if c then Some (value q) else find p (map value others))
+first_of value p rest others q x b c er ex eb h =
+    ap (λ qs. find p (map value qs)) er ∙ ap (λ d. if d then Some (value q) else find p (map value others)) (ap p (sym ex) ∙ (sym eb ∙ h))
 
-pub told_later : {A X : Type 0} (value : A → X) (p : X → Bool) (all others : List A) (q : A) (x : X) (b : Bool) (o : Option X) → all ≡ q ∷ others → x ≡ value q → b ≡ p x → b ≡ false → o ≡ find p (map value others) → o ≡ find p (map value all)
-told_later value p all others q x b o ea ex eb h eo =
-    let e : p (value q) ≡ false = ap p (sym ex) ∙ (sym eb ∙ h) in
-    eo ∙ (ap (λ c. if c then Some (value q) else find p (map value others)) (sym e) ∙ ap (λ qs. find p (map value qs)) (sym ea))
+pub told_here : {A X : Type 0} (value : A → X) (p : X → Bool) (all rest others : List A) (q : A) (x : X) (b : Bool) → rest ≡ q ∷ others → x ≡ value q → b ≡ p x → b ≡ true → find p (map value rest) ≡ find p (map value all) → Some x ≡ find p (map value all)
+told_here value p all rest others q x b er ex eb h w = ap Some ex ∙ (sym (first_of value p rest others q x b true er ex eb h) ∙ w)
+
+pub told_later : {A X : Type 0} (value : A → X) (p : X → Bool) (all rest others : List A) (q : A) (x : X) (b : Bool) → rest ≡ q ∷ others → x ≡ value q → b ≡ p x → b ≡ false → find p (map value rest) ≡ find p (map value all) → find p (map value others) ≡ find p (map value all)
+told_later value p all rest others q x b er ex eb h w = sym (first_of value p rest others q x b false er ex eb h) ∙ w
 
 pub ruleset first_rules = (told_none, told_here, told_later)
 

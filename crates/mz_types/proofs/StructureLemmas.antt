@@ -71,24 +71,34 @@ at_end : (cs : List Clause) (ks : List (Option Constant)) (values zs : List Term
 at_end cs ks values [] = (λ x. no_fields, λ f. refl)
 at_end cs ks values (z ∷ zs) = (λ x. let e : length (z ∷ zs) ≡ 0 = eqb-true (length (z ∷ zs)) 0 x in absurd (omega (arith, e)), λ f. absurd (no_more cs ks values z zs f))
 
-pub told_end : (cs : List Clause) (ks : List (Option Constant)) (values zs : List Term) (fields : List Field) → length fields ≡ 0 → IsTrue (nat_eq (length zs) 0) ↔ FieldsFit cs ks values fields zs
-told_end cs ks values zs fields e = subst (λ fs. IsTrue (nat_eq (length zs) 0) ↔ FieldsFit cs ks values fs zs) (sym (empty _ e)) (at_end cs ks values zs)
+-- the fields that are left fit just where all do
+pub told_end : (cs : List Clause) (ks : List (Option Constant)) (values zs ts : List Term) (fields fs : List Field) → length fs ≡ 0 → FieldsFit cs ks values fs ts ↔ FieldsFit cs ks values fields zs → IsTrue (nat_eq (length ts) 0) ↔ FieldsFit cs ks values fields zs
+told_end cs ks values zs ts fields fs e w =
+    let i : IsTrue (nat_eq (length ts) 0) ↔ FieldsFit cs ks values fs ts = subst (λ gs. IsTrue (nat_eq (length ts) 0) ↔ FieldsFit cs ks values gs ts) (sym (empty _ e)) (at_end cs ks values ts) in
+    (λ x. w.0 (i.0 x), λ h. i.1 (w.1 h))
 
-pub told_fewer : (cs : List Clause) (ks : List (Option Constant)) (values zs : List Term) (fields fs : List Field) (f : Field) → fields ≡ f ∷ fs → length zs ≡ 0 → IsTrue false ↔ FieldsFit cs ks values fields zs
-told_fewer cs ks values zs fields fs f ef ez =
-    subst (λ gs. IsTrue false ↔ FieldsFit cs ks values gs zs) (sym ef) (subst (λ us. IsTrue false ↔ FieldsFit cs ks values (f ∷ fs) us) (sym (empty _ ez)) ((λ x. absurd (not_false x), λ h. absurd (no_fewer cs ks values f fs h))))
+pub told_fewer : (cs : List Clause) (ks : List (Option Constant)) (values zs ts : List Term) (fields fs more : List Field) (f : Field) → fs ≡ f ∷ more → length ts ≡ 0 → FieldsFit cs ks values fs ts ↔ FieldsFit cs ks values fields zs → IsTrue false ↔ FieldsFit cs ks values fields zs
+told_fewer cs ks values zs ts fields fs more f ef et w =
+    (λ x. absurd (not_false x), λ h. absurd (no_fewer cs ks values f more (subst (λ us. FieldsFit cs ks values (f ∷ more) us) (empty _ et) (subst (λ gs. FieldsFit cs ks values gs ts) ef (w.1 h)))))
 
-pub told_field_unfit : (cs : List Clause) (ks : List (Option Constant)) (values zs us : List Term) (fields fs : List Field) (f : Field) (z : Term) (at : SoftType) (b : Bool) → fields ≡ f ∷ fs → zs ≡ z ∷ us → at ≡ type_at values f.ty → IsTrue b ↔ TypeFits cs ks z at → b ≡ false → IsTrue false ↔ FieldsFit cs ks values fields zs
-told_field_unfit cs ks values zs us fields fs f z at b ef ez ea i eb =
-    subst (λ gs. IsTrue false ↔ FieldsFit cs ks values gs zs) (sym ef) (subst (λ vs. IsTrue false ↔ FieldsFit cs ks values (f ∷ fs) vs) (sym ez)
-    ((λ x. absurd (not_false x), λ h. absurd (not_both b eb (i.1 (subst (TypeFits cs ks z) (sym ea) (first_fits cs ks values f fs z us h)))))))
+at_first : (cs : List Clause) (ks : List (Option Constant)) (values zs ts us : List Term) (fields fs more : List Field) (f : Field) (z : Term) → fs ≡ f ∷ more → ts ≡ z ∷ us → FieldsFit cs ks values fs ts ↔ FieldsFit cs ks values fields zs → FieldsFit cs ks values (f ∷ more) (z ∷ us) ↔ FieldsFit cs ks values fields zs
+at_first cs ks values zs ts us fields fs more f z ef et w =
+    subst (λ vs. FieldsFit cs ks values (f ∷ more) vs ↔ FieldsFit cs ks values fields zs) et (subst (λ gs. FieldsFit cs ks values gs ts ↔ FieldsFit cs ks values fields zs) ef w)
 
-pub told_fields : (cs : List Clause) (ks : List (Option Constant)) (values zs us : List Term) (fields fs : List Field) (f : Field) (z : Term) (at : SoftType) (a b : Bool) → fields ≡ f ∷ fs → zs ≡ z ∷ us → at ≡ type_at values f.ty → IsTrue a ↔ TypeFits cs ks z at → a ≡ true → IsTrue b ↔ FieldsFit cs ks values fs us → IsTrue b ↔ FieldsFit cs ks values fields zs
-told_fields cs ks values zs us fields fs f z at a b ef ez ea i eb j =
-    subst (λ gs. IsTrue b ↔ FieldsFit cs ks values gs zs) (sym ef) (subst (λ vs. IsTrue b ↔ FieldsFit cs ks values (f ∷ fs) vs) (sym ez)
-    ((λ x. and_field f fs z us (subst (TypeFits cs ks z) ea (i.0 eb)) (j.0 x), λ h. j.1 (others_fit cs ks values f fs z us h))))
+pub told_field_unfit : (cs : List Clause) (ks : List (Option Constant)) (values zs ts us : List Term) (fields fs more : List Field) (f : Field) (z : Term) (at : SoftType) (b : Bool) → fs ≡ f ∷ more → ts ≡ z ∷ us → at ≡ type_at values f.ty → IsTrue b ↔ TypeFits cs ks z at → b ≡ false → FieldsFit cs ks values fs ts ↔ FieldsFit cs ks values fields zs → IsTrue false ↔ FieldsFit cs ks values fields zs
+told_field_unfit cs ks values zs ts us fields fs more f z at b ef et ea i eb w =
+    let v : FieldsFit cs ks values (f ∷ more) (z ∷ us) ↔ FieldsFit cs ks values fields zs = at_first cs ks values zs ts us fields fs more f z ef et w in
+    (λ x. absurd (not_false x), λ h. absurd (not_both b eb (i.1 (subst (TypeFits cs ks z) (sym ea) (first_fits cs ks values f more z us (v.1 h))))))
 
-pub ruleset fields_rules = (told_end, told_fewer, told_field_unfit, told_fields)
+pub told_field_fits : (cs : List Clause) (ks : List (Option Constant)) (values zs ts us : List Term) (fields fs more : List Field) (f : Field) (z : Term) (at : SoftType) (b : Bool) → fs ≡ f ∷ more → ts ≡ z ∷ us → at ≡ type_at values f.ty → IsTrue b ↔ TypeFits cs ks z at → b ≡ true → FieldsFit cs ks values fs ts ↔ FieldsFit cs ks values fields zs → FieldsFit cs ks values more us ↔ FieldsFit cs ks values fields zs
+told_field_fits cs ks values zs ts us fields fs more f z at b ef et ea i eb w =
+    let v : FieldsFit cs ks values (f ∷ more) (z ∷ us) ↔ FieldsFit cs ks values fields zs = at_first cs ks values zs ts us fields fs more f z ef et w in
+    (λ h. v.0 (and_field f more z us (subst (TypeFits cs ks z) ea (i.0 eb)) h), λ h. others_fit cs ks values f more z us (v.1 h))
+
+pub told_no_field_asked : (cs : List Clause) (ks : List (Option Constant)) (values zs : List Term) (fields : List Field) → FieldsFit cs ks values fields zs ↔ FieldsFit cs ks values fields zs
+told_no_field_asked cs ks values zs fields = (λ h. h, λ h. h)
+
+pub ruleset fields_rules = (told_end, told_fewer, told_field_unfit, told_field_fits, told_no_field_asked)
 
 pub told_args_unfit : (cs : List Clause) (ks : List (Option Constant)) (x : Structure) (args ls : List Term) (tys : List SoftType) (n : ℕ) (b : Bool) → n ≡ length x.loci → ls ≡ take n args → tys ≡ x.loci → IsTrue b ↔ LociFit cs ks [] tys ls → b ≡ false → IsTrue false ↔ AggregateFits cs ks x args
 told_args_unfit cs ks x args ls tys n b en el et i eb =

@@ -10,7 +10,7 @@ ghost use Rattle.mz_types.specs.Structures.{AggregateGives};
 ghost use Rattle.mz_ground.specs.Instance.{term_nodes, args_nodes};
 ghost use Rattle.mz_types.specs.Chain.{left_of, radix_nodes, most_nodes, IsLeftOut, is_structure_kind, has_no_radix, rows_of_letters, radix_if_any, plain, chain_end, Parents, Visited, Walks, Begins, IsChain};
 
-use crate::radices::Radices;
+use crate::radices::Radixes;
 use crate::row_types::rows_give;
 use crate::structure_types::{aggregate_gives, ancestors_give, first_gives};
 use mz_context::context::Context;
@@ -115,7 +115,7 @@ fn parents(
     env: &Environment,
     ctx: &Context,
     r: &Radix,
-) -> Result<Radices, AllocError>
+) -> Result<Radixes, AllocError>
     ensures { IfOk result (λ xs. Parents clauses.now env.now ctx.now r.now (reverse xs)) }
 {
     if is_mode(r.sym.kind) {
@@ -127,7 +127,7 @@ fn parents(
         let xs = ancestors_give(alloc, clauses, &ctx.constants, &env.structures, r)?;
         return Ok(xs.reversed());
     }
-    Ok(Radices::new(alloc))
+    Ok(Radixes::new(alloc))
 }
 
 /// A radix in its turn: puts it into the chain, unless it is left out, and gives its parents, the one that is taken first
@@ -139,12 +139,12 @@ fn visit(
     env: &Environment,
     ctx: &Context,
     r: Radix,
-    out: &mut Radices,
-) -> Result<Radices, AllocError>
+    out: &mut Radixes,
+) -> Result<Radixes, AllocError>
     ensures { IfOk result (λ xs. Visited clauses.now env.now ctx.now out.old r (reverse xs) out.new) }
 {
     if is_left_out(out.items.as_slice(), &r) {
-        return Ok(Radices::new(alloc));
+        return Ok(Radixes::new(alloc));
     }
     let xs = parents(alloc, clauses, env, ctx, &r)?;
     out.push(r)?;
@@ -158,12 +158,12 @@ fn walk(
     clauses: &[Clause],
     env: &Environment,
     ctx: &Context,
-    first: Radices,
-) -> Result<Radices, AllocError>
+    first: Radixes,
+) -> Result<Radixes, AllocError>
     ensures { IfOk result (λ out. Walks clauses.now env.now ctx.now (reverse first) [] out) }
 {
     let mut stack = first;
-    let mut out = Radices::new(alloc);
+    let mut out = Radixes::new(alloc);
     while let Some(r) = stack.pop() {
         let xs = visit(alloc, clauses, env, ctx, r, &mut out)?;
         stack.append(xs)?;
@@ -182,10 +182,10 @@ fn rows_of_letters(alloc: Global, letters: &NamedLetters) -> Result<Rows, AllocE
     Ok(out)
 }
 
-fn one_if_any(alloc: Global, o: Option<Radix>) -> Result<Radices, AllocError>
+fn one_if_any(alloc: Global, o: Option<Radix>) -> Result<Radixes, AllocError>
     ensures { IfOk result (λ rs. rs ≡ radix_if_any o) }
 {
-    let mut out = Radices::new(alloc);
+    let mut out = Radixes::new(alloc);
     match o {
         Some(radix) => {
             out.push(radix)?;
@@ -197,10 +197,10 @@ fn one_if_any(alloc: Global, o: Option<Radix>) -> Result<Radices, AllocError>
 
 /// The declared radix of a constant that is in force.
 #[tactic(auto, using(crate::proofs::ChainLemmas::declared_rules))]
-fn declared_radix(alloc: Global, ctx: &Context, n: u32) -> Result<Radices, AllocError>
+fn declared_radix(alloc: Global, ctx: &Context, n: u32) -> Result<Radixes, AllocError>
     ensures { IfOk result (λ xs. (cs : List Clause) (e : Environment) → Begins cs e ctx.now (Const n) (reverse xs)) }
 {
-    let mut out = Radices::new(alloc);
+    let mut out = Radixes::new(alloc);
     match ctx.constants.get(n) {
         Some(k) => {
             out.push(k.ty.radix.copy(alloc)?)?;
@@ -217,7 +217,7 @@ fn by_letters(
     ctx: &Context,
     s: Sym,
     args: &[Term],
-) -> Result<Radices, AllocError>
+) -> Result<Radixes, AllocError>
     ensures { IfOk result (λ xs. RowsAdd clauses.now ctx.now.constants s args.now (rows_of_letters ctx.now.letters) xs) }
 {
     let rows = rows_of_letters(alloc, &ctx.letters)?;
@@ -233,7 +233,7 @@ fn by_aggregate(
     ctx: &Context,
     s: Sym,
     ts: &Terms,
-) -> Result<Radices, AllocError>
+) -> Result<Radixes, AllocError>
     ensures { IfOk result (λ xs. (o : Option Radix) × AggregateGives clauses.now ctx.now.constants env.now.structures s ts.now o × (xs ≡ radix_if_any o)) }
 {
     let o = aggregate_gives(alloc, clauses, &ctx.constants, &env.structures, s, ts)?;
@@ -251,7 +251,7 @@ fn application(
     ctx: &Context,
     s: Sym,
     ts: &Terms,
-) -> Result<Radices, AllocError>
+) -> Result<Radixes, AllocError>
     ensures { IfOk result (λ xs. Begins clauses.now env.now ctx.now (App s (terms_of ts.now)) (reverse xs)) }
 {
     let args = ts.items.as_slice();
@@ -272,7 +272,7 @@ fn application(
             let xs = selection(alloc, clauses, env, ctx, s, args)?;
             Ok(xs)
         }
-        _ => Ok(Radices::new(alloc)),
+        _ => Ok(Radixes::new(alloc)),
     }
 }
 
@@ -286,14 +286,14 @@ fn selection(
     ctx: &Context,
     s: Sym,
     args: &[Term],
-) -> Result<Radices, AllocError>
+) -> Result<Radixes, AllocError>
     ensures { IfOk result (λ xs. s.kind ≡ Selector → Begins clauses.now env.now ctx.now (App s (terms_of args.now)) (reverse xs)) }
 {
     match args.split_first() {
-        None => Ok(Radices::new(alloc)),
+        None => Ok(Radixes::new(alloc)),
         Some((t, others)) => {
             if others.len() > 0 {
-                return Ok(Radices::new(alloc));
+                return Ok(Radixes::new(alloc));
             }
             let members = chain_by(alloc, clauses, env, ctx, t)?;
             let members = members.items.as_slice();
@@ -321,7 +321,7 @@ pub fn chain_by(
     env: &Environment,
     ctx: &Context,
     t: &Term,
-) -> Result<Radices, AllocError>
+) -> Result<Radixes, AllocError>
     ensures { IfOk result (λ rs. IsChain clauses.now env.now ctx.now t.now rs) }
 {
     let first = begin(alloc, clauses, env, ctx, t)?;
@@ -340,11 +340,11 @@ fn begin(
     env: &Environment,
     ctx: &Context,
     t: &Term,
-) -> Result<Radices, AllocError>
+) -> Result<Radixes, AllocError>
     ensures { IfOk result (λ xs. Begins clauses.now env.now ctx.now t.now (reverse xs)) }
 {
     match &t.node {
-        TermNode::Bound(_) => Ok(Radices::new(alloc)),
+        TermNode::Bound(_) => Ok(Radixes::new(alloc)),
         TermNode::Const(n) => {
             let xs = declared_radix(alloc, ctx, *n)?;
             Ok(xs)
@@ -356,7 +356,7 @@ fn begin(
     }
 }
 
-fn push_plain(alloc: Global, s: Sym, out: &mut Radices) -> Result<(), AllocError>
+fn push_plain(alloc: Global, s: Sym, out: &mut Radixes) -> Result<(), AllocError>
     ensures { OnOk result (out.new ≡ out.old ++ plain s ∷ []) }
 {
     out.push(Radix {

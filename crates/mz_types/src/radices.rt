@@ -5,13 +5,13 @@ use mz_core::radix::Radix;
 use std::alloc::{AllocError, Global};
 use std::marker::Model;
 
-/// Radices, in order.
+/// Radixes, in order.
 #[derive(Drop)]
-pub struct Radices {
+pub struct Radixes {
     pub items: Vec<Radix>,
 }
 
-impl Model for Radices {
+impl Model for Radixes {
     ghost use Rattle.std.specs.Prelude.{List};
     ghost use Rattle.std.specs.Coded.{coded_list};
     ghost use Rattle.mz_core.specs.declared.radix.Radix.{Radix};
@@ -24,12 +24,12 @@ impl Model for Radices {
     ghost view = { λ a. a.items.items };
 }
 
-impl Radices {
+impl Radixes {
     /// No radices.
-    pub fn new(alloc: Global) -> Radices
+    pub fn new(alloc: Global) -> Radixes
         ensures { result ≡ [] }
     {
-        Radices {
+        Radixes {
             items: Vec::new(alloc),
         }
     }
@@ -53,7 +53,7 @@ impl Radices {
     }
 
     /// The same in the other order.
-    pub fn reversed(self) -> Radices
+    pub fn reversed(self) -> Radixes
         ensures { result ≡ reverse self }
     {
         let mut out = self;
@@ -62,7 +62,7 @@ impl Radices {
     }
 
     /// Puts these at the end.
-    pub fn append(&mut self, others: Radices) -> Result<(), AllocError>
+    pub fn append(&mut self, others: Radixes) -> Result<(), AllocError>
         ensures { OnOk result (self.new ≡ self.old ++ others) }
     {
         let mut rest = others;

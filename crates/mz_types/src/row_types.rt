@@ -3,7 +3,7 @@ ghost use Rattle.std.specs.Prelude.{◌≡◌, length, map, reverse, IfOk};
 ghost use Rattle.std.specs.Arc.{arc_value};
 ghost use Rattle.mz_types.specs.RowTypes.{radix_at, RowGives, RowAdds, RowsAdd};
 
-use crate::radices::Radices;
+use crate::radices::Radixes;
 use mz_context::constants::Constants;
 use mz_core::radix::Radix;
 use mz_core::soft_type::SoftType;
@@ -84,10 +84,10 @@ fn row_adds(
     s: Sym,
     args: &[Term],
     row: &Row,
-) -> Result<Radices, AllocError>
+) -> Result<Radixes, AllocError>
     ensures { IfOk result (λ xs. RowAdds clauses.now constants.now s args.now row.now xs) }
 {
-    let mut out = Radices::new(alloc);
+    let mut out = Radixes::new(alloc);
     if !row.sym.is(s) {
         return Ok(out);
     }
@@ -108,10 +108,10 @@ fn rows_add(
     s: Sym,
     args: &[Term],
     rows: &[Arc<Row>],
-) -> Result<Radices, AllocError>
+) -> Result<Radixes, AllocError>
     ensures { IfOk result (λ xs. RowsAdd clauses.now constants.now s args.now (map arc_value rows.now) xs) }
 {
-    let mut out = Radices::new(alloc);
+    let mut out = Radixes::new(alloc);
     for row in rows {
         let xs = row_adds(alloc, clauses, constants, s, args, row)?;
         out.append(xs)?;
@@ -128,7 +128,7 @@ pub fn rows_give(
     s: Sym,
     args: &[Term],
     rows: &Rows,
-) -> Result<Radices, AllocError>
+) -> Result<Radixes, AllocError>
     ensures { IfOk result (λ xs. RowsAdd clauses.now constants.now s args.now rows.now xs) }
 {
     let own = rows.of(s);

@@ -4,7 +4,7 @@ ghost use Rattle.std.specs.Arc.{arc_value};
 ghost use Rattle.mz_items.specs.StructureRows.{selected, field_values};
 ghost use Rattle.mz_types.specs.Structures.{is_structure, has_aggregate, has_selector, structure_of, made_by, field_radix, MemberGives, FirstGives, FieldsFit, given_values, AggregateFits, made_radix, AggregateGives, ancestors_at, AncestorsGive};
 
-use crate::radices::Radices;
+use crate::radices::Radixes;
 use crate::row_types::{radix_at, reversed};
 use mz_context::constants::Constants;
 use mz_core::field::Field;
@@ -29,17 +29,15 @@ fn is_structure(s: Sym, x: &Structure) -> bool
 fn named_in(all: &[Arc<Structure>], s: Sym) -> Option<&Structure>
     ensures { option_copied result ≡ structure_of (map arc_value all.now) s }
 {
-    match all.split_first() {
-        None => None,
-        Some((x, others)) => {
-            let first: &Structure = x;
-            if is_structure(s, first) {
-                return Some(first);
-            }
-            let found = named_in(others, s);
-            found
+    let mut rest = all;
+    while let Some((x, others)) = rest.split_first() {
+        let first: &Structure = x;
+        if is_structure(s, first) {
+            return Some(first);
         }
+        rest = others;
     }
+    None
 }
 
 #[tactic(auto, using(crate::proofs::FindLemmas::told_own))]
@@ -61,17 +59,15 @@ fn has_aggregate(s: Sym, x: &Structure) -> bool
 fn made_in(all: &[Arc<Structure>], s: Sym) -> Option<&Structure>
     ensures { option_copied result ≡ made_by (map arc_value all.now) s }
 {
-    match all.split_first() {
-        None => None,
-        Some((x, others)) => {
-            let first: &Structure = x;
-            if has_aggregate(s, first) {
-                return Some(first);
-            }
-            let found = made_in(others, s);
-            found
+    let mut rest = all;
+    while let Some((x, others)) = rest.split_first() {
+        let first: &Structure = x;
+        if has_aggregate(s, first) {
+            return Some(first);
         }
+        rest = others;
     }
+    None
 }
 
 fn made_by(all: &Structures, s: Sym) -> Option<&Structure>
@@ -217,20 +213,20 @@ fn fields_fit(
 ) -> Result<bool, AllocError>
     ensures { IfOk result (λ b. IsTrue b ↔ FieldsFit clauses.now constants.now values.now fields.now zs.now) }
 {
-    match fields.split_first() {
-        None => Ok(zs.len() == 0),
-        Some((f, other_fields)) => match zs.split_first() {
-            None => Ok(false),
-            Some((z, other_zs)) => {
-                let at = type_at(alloc, values, &f.ty)?;
-                if !type_fits(alloc, clauses, constants, z, &at)? {
-                    return Ok(false);
-                }
-                let fit = fields_fit(alloc, clauses, constants, values, other_fields, other_zs)?;
-                Ok(fit)
-            }
-        },
+    let mut fs = fields;
+    let mut ts = zs;
+    while let Some((f, other_fs)) = fs.split_first() {
+        let Some((z, other_ts)) = ts.split_first() else {
+            return Ok(false);
+        };
+        let at = type_at(alloc, values, &f.ty)?;
+        if !type_fits(alloc, clauses, constants, z, &at)? {
+            return Ok(false);
+        }
+        fs = other_fs;
+        ts = other_ts;
     }
+    Ok(ts.len() == 0)
 }
 
 /// The first `count` terms.
@@ -317,10 +313,10 @@ pub fn aggregate_gives(
     }
 }
 
-fn ancestors_at(alloc: Global, x: &Structure, args: &Terms) -> Result<Radices, AllocError>
+fn ancestors_at(alloc: Global, x: &Structure, args: &Terms) -> Result<Radixes, AllocError>
     ensures { IfOk result (λ rs. rs ≡ ancestors_at x.now args.now) }
 {
-    let mut out = Radices::new(alloc);
+    let mut out = Radixes::new(alloc);
     for ty in &x.ancestors.items {
         let values = args.copy(alloc)?;
         out.push(radix_at(alloc, values, ty)?)?;
@@ -336,15 +332,15 @@ pub fn ancestors_give(
     constants: &Constants,
     all: &Structures,
     r: &Radix,
-) -> Result<Radices, AllocError>
+) -> Result<Radixes, AllocError>
     ensures { IfOk result (λ rs. AncestorsGive clauses.now constants.now all.now r.now rs) }
 {
     match structure_of(all, r.sym) {
-        None => Ok(Radices::new(alloc)),
+        None => Ok(Radixes::new(alloc)),
         Some(x) => {
             let args = r.args.items.as_slice();
             if !loci_fit(alloc, clauses, constants, x.loci.items.as_slice(), args)? {
-                return Ok(Radices::new(alloc));
+                return Ok(Radixes::new(alloc));
             }
             let rs = ancestors_at(alloc, x, &r.args)?;
             Ok(rs)

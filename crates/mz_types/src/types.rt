@@ -6,7 +6,7 @@ ghost use Rattle.mz_types.specs.Chain.{IsChain};
 
 use crate::chain::chain_by;
 use crate::known::typing;
-use crate::radices::Radices;
+use crate::radices::Radixes;
 use mz_context::context::Context;
 use mz_core::soft_type::SoftType;
 use mz_environment::environment::Environment;
@@ -42,7 +42,7 @@ pub fn chain(
     env: &Environment,
     ctx: &Context,
     t: &Term,
-) -> Result<Radices, AllocError>
+) -> Result<Radixes, AllocError>
     ensures { IfOk result (λ rs. IsChain (typing env.now ctx.now) env.now ctx.now t.now rs) }
 {
     match typing(alloc, env, ctx)? {

@@ -1,0 +1,10 @@
+use Rattle.std.proofs.Common.{length}
+use Rattle.std.specs.Prelude.{◌↔◌}
+use Rattle.mz_fits.specs.Fits.{AllFit}
+use Rattle.mz_fits.proofs.fits.all_fit.Given as goal
+
+abbrev pub invariant-loop-l : goal.invariant-loop-l
+invariant-loop-l l = AllFit l.clauses l.constants l.rest ↔ AllFit l.clauses l.constants l.ls
+
+abbrev pub decreases-loop-l : goal.decreases-loop-l
+decreases-loop-l l = length l.rest
