@@ -1,0 +1,5 @@
+pub mod Fresh
+pub mod Choice
+pub mod Resolution
+pub mod Cover
+pub mod Laws

@@ -1,0 +1,5 @@
+pub mod Unfolding
+pub mod Rows
+pub mod Applied
+pub mod Cases
+pub mod Laws

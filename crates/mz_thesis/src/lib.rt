@@ -1,0 +1,13 @@
+//! The thesis of a proof after a step: unfoldings, the table of steps, what cases owe.
+#![tactic(auto)]
+
+pub mod apply;
+pub mod cases;
+pub mod fresh;
+pub mod laws;
+pub mod rows;
+pub mod same_parts;
+pub mod sought;
+pub mod step;
+pub mod thesis_fault;
+pub mod unfolds;
