@@ -51,14 +51,13 @@ split : {X : Type 0} (xs : List X) (i : ℕ) (x : X) → i < length xs → x ≡
 split xs i x lt at = rw (add-one, drop-cons xs i x) (ap (λ y. y ∷ drop (suc i) xs) (sym at))
 
 -- a turn of the loop over items, and its end
-pub told_share : (articles : List Name) (kind : DirectiveKind) (xs : List Item) (i : ℕ) (x : Item) (out part now whole : Environment) (at next : Numbering) → i < length xs → x ≡ get_or xs i x → part ≡ share articles kind at x → now ≡ joined out part → next ≡ numbered at x → joined out (shares articles kind at (drop i xs)) ≡ whole → joined now (shares articles kind next (drop (i + 1) xs)) ≡ whole
-told_share articles kind xs i x out part now whole at next lt is part_is now_is next_is goes =
+pub told_share : (articles : List Name) (kind : DirectiveKind) (xs : List Item) (i : ℕ) (x : Item) (out now whole : Environment) (at next : Numbering) → i < length xs → x ≡ get_or xs i x → now ≡ joined out (share articles kind at x) → next ≡ numbered at x → joined out (shares articles kind at (drop i xs)) ≡ whole → joined now (shares articles kind next (drop (i + 1) xs)) ≡ whole
+told_share articles kind xs i x out now whole at next lt is now_is next_is goes =
     let rest : Environment = shares articles kind (numbered at x) (drop (i + 1) xs) in
     let cut : drop i xs ≡ x ∷ drop (i + 1) xs = split xs i x lt is in
     (λ j. joined (now_is j) (shares articles kind (next_is j) (drop (i + 1) xs))) ∙
-    (joined_assoc out part rest ∙
-    ((λ j. joined out (joined (part_is j) rest)) ∙
-    (sym (λ j. joined out (shares articles kind at (cut j))) ∙ goes)))
+    (joined_assoc out (share articles kind at x) rest ∙
+    (sym (λ j. joined out (shares articles kind at (cut j))) ∙ goes))
 
 pub told_shared : (articles : List Name) (kind : DirectiveKind) (xs : List Item) (i : ℕ) (out whole : Environment) (at : Numbering) → length xs ≤ i → joined out (shares articles kind at (drop i xs)) ≡ whole → out ≡ whole
 told_shared articles kind xs i out whole at past goes =

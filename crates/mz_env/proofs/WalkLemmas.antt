@@ -17,23 +17,20 @@ use Rattle.mz_env.specs.declared.env_fault.EnvFault.TheVariants.{MissingConstruc
 use Rattle.mz_env.specs.Shares.{shares_of, wholes, whole_of}
 use Rattle.mz_env.specs.Visits.{export_named, Visits}
 use Rattle.mz_env.specs.LetIn.{alone, behind, directed_names, constructor_names, fault_of, Reaches, Gives, nothing, refused, let_in, LetIn, Answers}
-use Rattle.mz_env.specs.Walking.{GivesBehind}
+use Rattle.mz_env.specs.Walking.{GivesBehind, told}
 use Rattle.mz_env.proofs.ShareLemmas.{joined_none, joined_assoc}
 
 -- HIDDEN
 pub told_only_hidden : (ns : List Name) (h : Name) → text_of h.number ≡ codes "HIDDEN" → ns ≡ h ∷ [] → ns ≡ hidden_name ∷ []
 told_only_hidden ns h is all = all ∙ ap (λ k. k ∷ []) (name-hidden h is)
 
-no_environment_before : (e : Environment) → joined no_environment e ≡ e
-no_environment_before e = refl
+pub told_no_hidden : (exports : List Export) (h : Name) (e : Environment) → text_of h.number ≡ codes "HIDDEN" → export_named exports h.number ≡ None → e ≡ joined e (whole_of (export_named exports hidden_name.number))
+told_no_hidden exports h e is none =
+    sym (joined_none e) ∙ (ap (λ o. joined e (whole_of o)) (sym none) ∙ ap (λ (k : Name). joined e (whole_of (export_named exports k.number))) (name-hidden h is))
 
-pub told_no_hidden : (exports : List Export) (h : Name) (env : Environment) → text_of h.number ≡ codes "HIDDEN" → export_named exports h.number ≡ None → env ≡ no_environment → env ≡ whole_of (export_named exports hidden_name.number)
-told_no_hidden exports h env is none empty =
-    empty ∙ (ap whole_of (sym none) ∙ ap (λ (k : Name). whole_of (export_named exports k.number)) (name-hidden h is))
-
-pub told_hidden_whole : (exports : List Export) (h : Name) (e : Export) (start env : Environment) → text_of h.number ≡ codes "HIDDEN" → export_named exports h.number ≡ Some e → start ≡ no_environment → env ≡ joined start (wholes (at_start e.name.number) e.items) → env ≡ whole_of (export_named exports hidden_name.number)
-told_hidden_whole exports h e start env is some empty whole =
-    whole ∙ (ap (λ s. joined s (wholes (at_start e.name.number) e.items)) empty ∙ (ap whole_of (sym some) ∙ ap (λ (k : Name). whole_of (export_named exports k.number)) (name-hidden h is)))
+pub told_hidden_whole : (exports : List Export) (h : Name) (e : Export) (start env : Environment) → text_of h.number ≡ codes "HIDDEN" → export_named exports h.number ≡ Some e → env ≡ joined start (wholes (at_start e.name.number) e.items) → env ≡ joined start (whole_of (export_named exports hidden_name.number))
+told_hidden_whole exports h e start env is some whole =
+    whole ∙ (ap (λ o. joined start (whole_of o)) (sym some) ∙ ap (λ (k : Name). joined start (whole_of (export_named exports k.number))) (name-hidden h is))
 
 pub ruleset hidden_rules = (told_only_hidden, told_no_hidden, told_hidden_whole)
 
@@ -80,15 +77,35 @@ told_end exports articles start begun ds i first env past goes =
 
 pub ruleset walk_rules = (told_first, told_refused, told_turn, told_end)
 
+-- behind HIDDEN
+pub told_fill : (exports : List Export) (articles begun : List Name) (ds : List Directed) (start env : Environment) (o : Result Environment EnvFault) → begun ≡ hidden_name ∷ [] → env ≡ joined start (whole_of (export_named exports hidden_name.number)) → GivesBehind exports articles begun ds env o → GivesBehind exports articles (hidden_name ∷ []) ds (joined start (whole_of (export_named exports hidden_name.number))) o
+told_fill exports articles begun ds start env o begun_is env_is gives =
+    subst (λ e. GivesBehind exports articles (hidden_name ∷ []) ds e o) env_is (subst (λ b. GivesBehind exports articles b ds env o) begun_is gives)
+
+pub ruleset fill_rules = (told_fill)
+
+from_nothing : (exports : List Export) (articles : List Name) (ds : List Directed) (start : Environment) (o : Result Environment EnvFault) → start ≡ no_environment → GivesBehind exports articles (hidden_name ∷ []) ds (joined start (whole_of (export_named exports hidden_name.number))) o → GivesBehind exports articles (hidden_name ∷ []) ds (whole_of (export_named exports hidden_name.number)) o
+from_nothing exports articles ds start o empty gives = subst (λ s. GivesBehind exports articles (hidden_name ∷ []) ds (joined s (whole_of (export_named exports hidden_name.number))) o) empty gives
+
+pub told_filled : (exports : List Export) (articles : List Name) (ds : List Directed) (start env : Environment) (f : Option EnvFault) → start ≡ no_environment → f ≡ None → GivesBehind exports articles (hidden_name ∷ []) ds (joined start (whole_of (export_named exports hidden_name.number))) (told f env) → GivesBehind exports articles (hidden_name ∷ []) ds (whole_of (export_named exports hidden_name.number)) (Ok env)
+told_filled exports articles ds start env f empty none gives =
+    from_nothing exports articles ds start (Ok env) empty (subst (λ k. GivesBehind exports articles (hidden_name ∷ []) ds (joined start (whole_of (export_named exports hidden_name.number))) (told k env)) none gives)
+
+pub told_fault : (exports : List Export) (articles : List Name) (ds : List Directed) (start env : Environment) (f : Option EnvFault) (g : EnvFault) → start ≡ no_environment → f ≡ Some g → GivesBehind exports articles (hidden_name ∷ []) ds (joined start (whole_of (export_named exports hidden_name.number))) (told f env) → GivesBehind exports articles (hidden_name ∷ []) ds (whole_of (export_named exports hidden_name.number)) (Err g)
+told_fault exports articles ds start env f g empty some gives =
+    from_nothing exports articles ds start (Err g) empty (subst (λ k. GivesBehind exports articles (hidden_name ∷ []) ds (joined start (whole_of (export_named exports hidden_name.number))) (told k env)) some gives)
+
+pub ruleset filled_rules = (told_filled, told_fault)
+
 -- the outcome
-pub told_outcome : (head : List Directive) (exports : List Export) (ds : List Directed) (names start articles begun : List Name) (es : List Export) (env : Environment) (o : Result Environment EnvFault) → ds ≡ directed_names head → names ≡ constructor_names ds → start ≡ hidden_name ∷ [] → Visits exports start names articles es → begun ≡ hidden_name ∷ [] → env ≡ whole_of (export_named exports hidden_name.number) → GivesBehind exports articles begun ds env o → LetIn head exports o
-told_outcome head exports ds names start articles begun es env o ds_is names_is start_is visits begun_is env_is gives = record {
+pub told_outcome : (head : List Directive) (exports : List Export) (ds : List Directed) (names start articles : List Name) (es : List Export) (o : Result Environment EnvFault) → ds ≡ directed_names head → names ≡ constructor_names ds → start ≡ hidden_name ∷ [] → Visits exports start names articles es → GivesBehind exports articles (hidden_name ∷ []) ds (whole_of (export_named exports hidden_name.number)) o → LetIn head exports o
+told_outcome head exports ds names start articles es o ds_is names_is start_is visits gives = record {
   articles = articles;
   visited = es;
   told = gives.0;
   visits = subst (λ ns. Visits exports (hidden_name ∷ []) ns articles es) (names_is ∙ ap constructor_names ds_is) (subst (λ b. Visits exports b names articles es) start_is visits);
-  gives = subst (λ ks. Gives exports articles (hidden_name ∷ []) ks gives.0) ds_is (subst (λ b. Gives exports articles b ds gives.0) begun_is gives.1);
-  with_hidden = gives.2 ∙ ap (λ e. behind e gives.0) env_is;
+  gives = subst (λ ks. Gives exports articles (hidden_name ∷ []) ks gives.0) ds_is gives.1;
+  with_hidden = gives.2;
 }
 
 pub ruleset outcome_rules = (told_outcome)

@@ -98,7 +98,7 @@ registrations_share x = record {
   schemes = [];
 }
 
--- its unfolding, for steps
+-- its unfolding, for steps and for `by`, and its equality clauses
 abbrev pub definitions_share : Item → Environment
 definitions_share x = record {
   functors = [];
@@ -108,9 +108,9 @@ definitions_share x = record {
   notations = [];
   typing = [];
   further = [];
-  equalities = [];
+  equalities = equality_clauses x;
   steps = unfoldings_of x;
-  expansions = [];
+  expansions = unfoldings_of x;
   registrations = [];
   theorems = [];
   schemes = [];

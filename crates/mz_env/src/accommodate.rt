@@ -1,10 +1,11 @@
 //! What an environment part lets in.
-ghost use Rattle.std.specs.Prelude.{◌≡◌, ◌∷◌, [], IfOk, MatchOption, map, None};
+ghost use Rattle.std.specs.Prelude.{◌≡◌, ◌∷◌, [], IfOk, OnOk, MatchOption, map, None};
+ghost use Rattle.mz_environment.specs.Environment.{joined};
 ghost use Rattle.mz_axioms.specs.Names.{hidden_name};
 ghost use Rattle.mz_env.specs.LetIn.{alone, Reaches, LetIn, Answers};
 ghost use Rattle.mz_env.specs.Shares.{whole_of};
 ghost use Rattle.mz_env.specs.Visits.{export_named};
-ghost use Rattle.mz_env.specs.Walking.{GivesBehind};
+ghost use Rattle.mz_env.specs.Walking.{GivesBehind, told};
 
 use crate::articles::Articles;
 use crate::directed::Directed;
@@ -93,7 +94,7 @@ fn reached(
     }
 }
 
-/// Lets in what the names let in, in their order, behind what is there, up to the first fault.
+/// Lets in what the names let in, in their order, behind what is there, up to the first fault, which is the answer.
 #[tactic(auto, using(crate::proofs::WalkLemmas::walk_rules))]
 fn walk(
     alloc: Global,
@@ -101,36 +102,65 @@ fn walk(
     articles: &Articles,
     ds: &DirectedNames,
     begun: &mut Articles,
-    start: Environment,
-) -> Result<Result<Environment, EnvFault>, AllocError>
-    ensures { IfOk result (λ o. GivesBehind exports.now articles.now begun.old ds.now start o) }
+    env: &mut Environment,
+) -> Result<Option<EnvFault>, AllocError>
+    ensures { IfOk result (λ f. GivesBehind exports.now articles.now begun.old ds.now env.old (told f env.new)) }
 {
-    let mut env = start;
     for d in &ds.items {
         let fault = fault_of(alloc, exports, articles, d)?;
         match fault {
-            Some(f) => return Ok(Err(f)),
+            Some(f) => return Ok(Some(f)),
             None => {}
         }
         let es = reached(alloc, exports, d, begun)?;
-        add_exports(alloc, &mut env, articles, d.kind, &es)?;
+        add_exports(alloc, env, articles, d.kind, &es)?;
     }
-    Ok(Ok(env))
+    Ok(None)
 }
 
-/// All that HIDDEN gives.
+/// Adds all that HIDDEN gives.
 #[tactic(auto, using(crate::proofs::WalkLemmas::hidden_rules))]
-fn hidden_environment(alloc: Global, exports: &Exports) -> Result<Environment, AllocError>
-    ensures { IfOk result (λ e. e ≡ whole_of (export_named exports.now hidden_name.number)) }
+fn add_hidden(alloc: Global, exports: &Exports, env: &mut Environment) -> Result<(), AllocError>
+    ensures { OnOk result (env.new ≡ joined env.old (whole_of (export_named exports.now hidden_name.number))) }
 {
     let hidden = Name::hidden();
-    let mut env = Environment::new(alloc);
     match export_named(exports.as_slice(), hidden.number) {
-        None => Ok(env),
-        Some(e) => {
-            add_whole(alloc, &mut env, e)?;
-            Ok(env)
-        }
+        None => Ok(()),
+        Some(e) => add_whole(alloc, env, e),
+    }
+}
+
+/// Lets in HIDDEN's items and what the names let in, up to the first fault.
+#[tactic(auto, using(crate::proofs::WalkLemmas::fill_rules))]
+fn fill(
+    alloc: Global,
+    exports: &Exports,
+    articles: &Articles,
+    ds: &DirectedNames,
+    env: &mut Environment,
+) -> Result<Option<EnvFault>, AllocError>
+    ensures { IfOk result (λ f. GivesBehind exports.now articles.now (hidden_name ∷ []) ds.now (joined env.old (whole_of (export_named exports.now hidden_name.number))) (told f env.new)) }
+{
+    add_hidden(alloc, exports, env)?;
+    let mut begun = only_hidden(alloc)?;
+    walk(alloc, exports, articles, ds, &mut begun, env)
+}
+
+/// HIDDEN's items and what the names let in, or the first fault.
+#[tactic(auto, using(crate::proofs::WalkLemmas::filled_rules))]
+fn filled(
+    alloc: Global,
+    exports: &Exports,
+    articles: &Articles,
+    ds: &DirectedNames,
+) -> Result<Result<Environment, EnvFault>, AllocError>
+    ensures { IfOk result (λ o. GivesBehind exports.now articles.now (hidden_name ∷ []) ds.now (whole_of (export_named exports.now hidden_name.number)) o) }
+{
+    let mut env = Environment::new(alloc);
+    match fill(alloc, exports, articles, ds, &mut env) {
+        Err(e) => Err(e),
+        Ok(None) => Ok(Ok(env)),
+        Ok(Some(f)) => Ok(Err(f)),
     }
 }
 
@@ -147,10 +177,7 @@ fn outcome(
     let names = constructor_names(alloc, &ds)?;
     let mut articles = only_hidden(alloc)?;
     let visited = visit(alloc, exports, &names, &mut articles, exports.len())?;
-    let mut begun = only_hidden(alloc)?;
-    let env = hidden_environment(alloc, exports)?;
-    let told = walk(alloc, exports, &articles, &ds, &mut begun, env)?;
-    Ok(told)
+    filled(alloc, exports, &articles, &ds)
 }
 
 /// The environment that the environment part of an article lets in, from the exports of the articles on which it

@@ -27,8 +27,9 @@ use std::alloc::{AllocError, Global};
 fn notations_share(alloc: Global, item: &Item) -> Result<Environment, AllocError>
     ensures { IfOk result (λ e. e ≡ notations_share item.now) }
 {
+    let notations = notation_table(alloc, notations_of(alloc, item)?)?;
     let mut out = Environment::new(alloc);
-    out.notations = notation_table(alloc, notations_of(alloc, item)?)?;
+    out.notations = notations;
     Ok(out)
 }
 
@@ -36,13 +37,19 @@ fn notations_share(alloc: Global, item: &Item) -> Result<Environment, AllocError
 fn constructors_share(alloc: Global, item: &Item) -> Result<Environment, AllocError>
     ensures { IfOk result (λ e. e ≡ constructors_share item.now) }
 {
+    let functors = functor_rows(alloc, item)?;
+    let modes = mode_rows(alloc, item)?;
+    let structures = structures_of(alloc, item)?;
+    let sethoods = sethoods_of(alloc, item)?;
+    let typing = typing_clauses(alloc, item)?;
+    let further = further_clauses(alloc, item)?;
     let mut out = Environment::new(alloc);
-    out.functors = functor_rows(alloc, item)?;
-    out.modes = mode_rows(alloc, item)?;
-    out.structures = structures_of(alloc, item)?;
-    out.sethoods = sethoods_of(alloc, item)?;
-    out.typing = typing_clauses(alloc, item)?;
-    out.further = further_clauses(alloc, item)?;
+    out.functors = functors;
+    out.modes = modes;
+    out.structures = structures;
+    out.sethoods = sethoods;
+    out.typing = typing;
+    out.further = further;
     Ok(out)
 }
 
@@ -50,19 +57,27 @@ fn constructors_share(alloc: Global, item: &Item) -> Result<Environment, AllocEr
 fn registrations_share(alloc: Global, item: &Item) -> Result<Environment, AllocError>
     ensures { IfOk result (λ e. e ≡ registrations_share item.now) }
 {
+    let typing = typing_clauses(alloc, item)?;
+    let further = further_clauses(alloc, item)?;
+    let registrations = existentials_of(alloc, item)?;
     let mut out = Environment::new(alloc);
-    out.typing = typing_clauses(alloc, item)?;
-    out.further = further_clauses(alloc, item)?;
-    out.registrations = existentials_of(alloc, item)?;
+    out.typing = typing;
+    out.further = further;
+    out.registrations = registrations;
     Ok(out)
 }
 
-/// The unfolding of an item, for steps.
+/// The unfolding of an item, for steps and for `by`, and its equality clauses.
 fn definitions_share(alloc: Global, item: &Item) -> Result<Environment, AllocError>
     ensures { IfOk result (λ e. e ≡ definitions_share item.now) }
 {
+    let equalities = equality_clauses(alloc, item)?;
+    let steps = unfoldings_of(alloc, item)?;
+    let expansions = unfoldings_of(alloc, item)?;
     let mut out = Environment::new(alloc);
-    out.steps = unfoldings_of(alloc, item)?;
+    out.equalities = equalities;
+    out.steps = steps;
+    out.expansions = expansions;
     Ok(out)
 }
 
@@ -70,8 +85,9 @@ fn definitions_share(alloc: Global, item: &Item) -> Result<Environment, AllocErr
 fn expansions_share(alloc: Global, item: &Item) -> Result<Environment, AllocError>
     ensures { IfOk result (λ e. e ≡ expansions_share item.now) }
 {
+    let expansions = unfoldings_of(alloc, item)?;
     let mut out = Environment::new(alloc);
-    out.expansions = unfoldings_of(alloc, item)?;
+    out.expansions = expansions;
     Ok(out)
 }
 
@@ -79,8 +95,9 @@ fn expansions_share(alloc: Global, item: &Item) -> Result<Environment, AllocErro
 fn equalities_share(alloc: Global, item: &Item) -> Result<Environment, AllocError>
     ensures { IfOk result (λ e. e ≡ equalities_share item.now) }
 {
+    let equalities = equality_clauses(alloc, item)?;
     let mut out = Environment::new(alloc);
-    out.equalities = equality_clauses(alloc, item)?;
+    out.equalities = equalities;
     Ok(out)
 }
 
@@ -88,8 +105,9 @@ fn equalities_share(alloc: Global, item: &Item) -> Result<Environment, AllocErro
 fn theorems_share(alloc: Global, at: Numbering, item: &Item) -> Result<Environment, AllocError>
     ensures { IfOk result (λ e. e ≡ theorems_share at item.now) }
 {
+    let theorems = statements_cited(alloc, at, item)?;
     let mut out = Environment::new(alloc);
-    out.theorems = statements_cited(alloc, at, item)?;
+    out.theorems = theorems;
     Ok(out)
 }
 
@@ -97,8 +115,9 @@ fn theorems_share(alloc: Global, at: Numbering, item: &Item) -> Result<Environme
 fn schemes_share(alloc: Global, at: Numbering, item: &Item) -> Result<Environment, AllocError>
     ensures { IfOk result (λ e. e ≡ schemes_share at item.now) }
 {
+    let schemes = schemes_cited(alloc, at, item)?;
     let mut out = Environment::new(alloc);
-    out.schemes = schemes_cited(alloc, at, item)?;
+    out.schemes = schemes;
     Ok(out)
 }
 
@@ -143,6 +162,21 @@ fn share(
     }
 }
 
+/// Adds what a directive lets in of an item.
+fn add_share(
+    alloc: Global,
+    out: &mut Environment,
+    articles: &Articles,
+    kind: DirectiveKind,
+    at: Numbering,
+    item: &Item,
+) -> Result<(), AllocError>
+    ensures { OnOk result (out.new ≡ joined out.old (share articles.now kind at item.now)) }
+{
+    let part = share(alloc, articles, kind, at, item)?;
+    join(alloc, out, &part)
+}
+
 /// Adds what a directive lets in of items, in their order.
 #[tactic(auto, using(crate::proofs::ShareLemmas::share_rules))]
 fn add_shares(
@@ -157,8 +191,7 @@ fn add_shares(
 {
     let mut at = start;
     for item in &items.items {
-        let part = share(alloc, articles, kind, at, item)?;
-        join(alloc, out, &part)?;
+        add_share(alloc, out, articles, kind, at, item)?;
         at = at.after(item)?;
     }
     Ok(())

@@ -1,2 +1,6 @@
 pub mod Along
-pub mod LetInProofs
+pub mod ClosedProofs
+pub mod EntryProofs
+pub mod ClauseProofs
+pub mod DerivedProofs
+pub mod StatementProofs

@@ -3,13 +3,15 @@ mod lists;
 mod samples;
 
 use crate::tests::lists::lists_of;
-use crate::tests::samples::{exports, sym};
+use crate::tests::samples::{exports, items_of_t, name, nested, sym};
 use mz_base::head::{DirectiveKind, Head};
 use mz_base::place::Place;
 use mz_base::text::Text;
+use mz_core::items::Items;
 use mz_env::accommodate::accommodate;
 use mz_env::env_fault::EnvFault;
 use mz_environment::environment::Environment;
+use mz_environment::numbering::Numbering;
 use mz_lex::head::head;
 use mz_logic::kind::Kind;
 use mz_logic::sym::Sym;
@@ -89,6 +91,44 @@ fn a_circle_of_dependencies_ends(rt: HostRuntime) {
     );
 }
 
+/// Whether the text lets in just these lists of articles that depend on others: C on none, B on C, A on B, and D on B
+/// and C.
+fn lets_in_nested(rt: &impl Abort, alloc: Global, text: &str, wanted: &str) -> bool {
+    let head = head_of(rt, alloc, text);
+    let env = accommodate(alloc, &head, &nested(rt, alloc)).expect(rt, "environment");
+    lists_of(rt, alloc, &env).as_slice() == wanted.as_bytes()
+}
+
+#[test]
+fn dependencies_of_dependencies(rt: HostRuntime) {
+    let text = "environ constructors A, D; begin";
+    let wanted = "modes C.M1 B.M1 A.M1 D.M1; ";
+    assert!(rt; lets_in_nested(&rt, rt.alloc(), text, wanted));
+    let text = "environ constructors D, A; begin";
+    let wanted = "modes C.M1 B.M1 D.M1 A.M1; ";
+    assert!(rt; lets_in_nested(&rt, rt.alloc(), text, wanted));
+}
+
+/// Puts an article's own items behind what is there.
+fn with_own(rt: &impl Abort, alloc: Global, env: Environment, items: Items) -> Environment {
+    let mut env = env;
+    let mut at = Numbering::of_article(name(rt, "T").number());
+    for item in &items.items {
+        env.add(alloc, &mut at, item).expect(rt, "memory");
+    }
+    env
+}
+
+#[test]
+fn own_items_behind_what_is_let_in(rt: HostRuntime) {
+    let head = head_of(&rt, rt.alloc(), "environ constructors A; begin");
+    let env = accommodate(rt.alloc(), &head, &exports(&rt, rt.alloc(), false)).expect(&rt, "one");
+    let env = with_own(&rt, rt.alloc(), env, items_of_t(&rt, rt.alloc()));
+    let wanted =
+        "functors A.O1 A.O2; modes A.M1 T.M1; notations m; typing A.O1 A.O2; steps T.M1; expansions T.M1;  T:def 1 T:1";
+    assert!(rt; lists_of(&rt, rt.alloc(), &env).as_slice() == wanted.as_bytes());
+}
+
 #[test]
 fn notations_in_their_order(rt: HostRuntime) {
     let text = "environ notations B, A, B; constructors B; begin";
@@ -111,7 +151,8 @@ fn registrations_whose_constructors_are_let_in(rt: HostRuntime) {
 #[test]
 fn definitions(rt: HostRuntime) {
     let text = "environ definitions B, A; begin";
-    assert!(rt; lets_in(&rt, rt.alloc(), text, false, "steps B.V1 A.M1 A.O1; "));
+    let wanted = "equalities A.O2; steps B.V1 A.M1 A.O1; expansions B.V1 A.M1 A.O1; ";
+    assert!(rt; lets_in(&rt, rt.alloc(), text, false, wanted));
     let kind = DirectiveKind::Expansions;
     assert!(rt; lets_in_as(&rt, rt.alloc(), kind, text, "expansions B.V1 A.M1 A.O1; "));
     let kind = DirectiveKind::Equalities;

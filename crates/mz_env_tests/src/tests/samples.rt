@@ -32,7 +32,8 @@ use std::alloc::Global;
 use std::process::Abort;
 use std::sync::Arc;
 
-fn name(rt: &impl Abort, word: &str) -> Name {
+/// The name of an article.
+pub fn name(rt: &impl Abort, word: &str) -> Name {
     Name::read(word.as_bytes()).expect(rt, "name")
 }
 
@@ -85,11 +86,11 @@ fn plain() -> FormulaDefiniens {
     FormulaDefiniens::Plain(Statement::truth())
 }
 
-/// `mode M1 -> set means ..`.
-fn mode(rt: &impl Abort, alloc: Global) -> Item {
+/// `mode M1 -> set means ..` of the article.
+fn mode(rt: &impl Abort, alloc: Global, article: &str) -> Item {
     Item::ModeMeans(MeansDefinition {
         pattern: pattern(rt, alloc, "m", Kind::Mode, 0),
-        sym: sym(rt, "A", Kind::Mode, 1),
+        sym: sym(rt, article, Kind::Mode, 1),
         ty: set_type(alloc),
         definiens: plain(),
     })
@@ -176,7 +177,7 @@ fn predicate(rt: &impl Abort, alloc: Global) -> Item {
 fn items_of_a(rt: &impl Abort, alloc: Global) -> Items {
     let mut out = Items::new(alloc);
     for item in [
-        mode(rt, alloc),
+        mode(rt, alloc, "A"),
         functor(rt, alloc),
         Item::Theorem(Statement::truth()),
         equal_functor(rt, alloc),
@@ -201,6 +202,15 @@ fn items_of_b(rt: &impl Abort, alloc: Global) -> Items {
 fn items_of_p(rt: &impl Abort, alloc: Global) -> Items {
     let mut out = Items::new(alloc);
     out.push(predicate(rt, alloc)).expect(rt, "memory");
+    out
+}
+
+/// The mode M1 of T, and a theorem.
+pub fn items_of_t(rt: &impl Abort, alloc: Global) -> Items {
+    let mut out = Items::new(alloc);
+    out.push(mode(rt, alloc, "T")).expect(rt, "memory");
+    out.push(Item::Theorem(Statement::truth()))
+        .expect(rt, "memory");
     out
 }
 
@@ -244,5 +254,22 @@ pub fn exports(rt: &impl Abort, alloc: Global, circle: bool) -> Exports {
         &["NOWHERE"],
         items_of_p(rt, alloc),
     );
+    out
+}
+
+/// Adds an article with a mode alone.
+fn add_mode(rt: &impl Abort, alloc: Global, out: &mut Exports, word: &str, needs: &[&str]) {
+    let mut items = Items::new(alloc);
+    items.push(mode(rt, alloc, word)).expect(rt, "memory");
+    add(rt, alloc, out, word, needs, items);
+}
+
+/// The built-in exports, C, which depends on none, B, which depends on C, A on B, and D on B and C.
+pub fn nested(rt: &impl Abort, alloc: Global) -> Exports {
+    let mut out = built_in(alloc).expect(rt, "memory");
+    add_mode(rt, alloc, &mut out, "A", &["B"]);
+    add_mode(rt, alloc, &mut out, "B", &["C"]);
+    add_mode(rt, alloc, &mut out, "C", &[]);
+    add_mode(rt, alloc, &mut out, "D", &["B", "C"]);
     out
 }

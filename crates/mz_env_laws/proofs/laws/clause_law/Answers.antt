@@ -1,4 +1,4 @@
-use Rattle.mz_env_laws.proofs.LetInProofs.{clause_law}
+use Rattle.mz_env_laws.proofs.ClauseProofs.{clause_law}
 use Rattle.mz_env_laws.proofs.laws.clause_law.Goals as goal
 
 pub returns : goal.returns
