@@ -1,0 +1,9 @@
+pub mod ChosenWords
+pub mod DirectiveSteps
+pub mod FieldSteps
+pub mod ListedSteps
+pub mod NotationSteps
+pub mod PartSequences
+pub mod ReserveSteps
+pub mod StructureSequences
+pub mod Unique
