@@ -10,10 +10,8 @@ mod lists;
 mod member_lists;
 mod number_lists;
 pub mod numbers;
-mod propagate;
-mod roots;
+pub mod propagate;
+pub mod roots;
 mod signed_lists;
 mod sym_lists;
-#[cfg(test)]
-mod tests;
 mod work;

@@ -56,6 +56,23 @@ fn statements(rt: HostRuntime) {
     }
 }
 
+const PROPOSITIONS: [(&[u8], Answer); 6] = [
+    (b"x = y;", Answer::Until(3)),
+    (b"A: x = y;", Answer::Until(5)),
+    (b"x in y by A", Answer::Until(3)),
+    (b"A ;", Answer::Unexpected(33)),
+    (b"A:y", Answer::EndsEarly(34)),
+    (b"A: now", Answer::Unexpected(34)),
+];
+
+#[test]
+fn propositions(rt: HostRuntime) {
+    let alloc = rt.alloc();
+    for (text, answer) in &PROPOSITIONS {
+        assert_eq!(rt; answered(&rt, alloc, ProofForm::Proposition, text), *answer);
+    }
+}
+
 const JUSTIFICATIONS: [(&[u8], Answer); 6] = [
     (b"proof end", Answer::Until(2)),
     (b"proof thus thesis; end", Answer::Until(5)),

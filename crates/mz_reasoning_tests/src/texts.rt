@@ -8,7 +8,7 @@ use mz_lex::table::table;
 use mz_lex::tokens::tokens;
 use mz_marks::marks::Marks;
 use mz_pproof::forms::{ProofForm, ProofTree};
-use mz_pproof::parse::read;
+use mz_pproof::parse::proof;
 use mz_pterm::parse::ParseFault;
 use mz_tree::tree::Spell;
 use std::alloc::Global;
@@ -134,11 +134,11 @@ fn of_tree(
 /// What the parser answers to this text.
 pub fn answered(rt: &impl Abort, alloc: Global, form: ProofForm, text: &[u8]) -> Answer {
     let tokens = article_tokens(rt, alloc, text);
-    let all = marked(rt, alloc, &tokens);
-    if all.len() < 5 {
+    if tokens.items.len() < 5 {
         return Answer::TooFew;
     }
-    match read(alloc, all.as_slice(), tokens.end, 5, form) {
+    let all = marked(rt, alloc, &tokens);
+    match proof(alloc, &tokens, 5, form) {
         Ok(answer) => {
             let (tree, until) = answer;
             of_tree(rt, alloc, &tree, all.as_slice(), until)

@@ -1,9 +1,9 @@
 //! Problems with their facts, classes and signed atoms, worked out by hand from the rules.
-use crate::classes::Classes;
-use crate::close_classes::close_classes;
-use crate::numbers::Numbers;
-use crate::propagate::propagated_labels;
-use crate::roots::roots_of;
+use mz_classes::classes::Classes;
+use mz_classes::close_classes::close_classes;
+use mz_classes::numbers::Numbers;
+use mz_classes::propagate::propagated_labels;
+use mz_classes::roots::roots_of;
 use mz_congruence::ground_graph::graph_of;
 use mz_congruence::settle::settle;
 use mz_ground::clause::Clause;
@@ -370,7 +370,7 @@ fn facts_of_problems(rt: HostRuntime) {
 }
 
 // Whether the passes find nothing that the work list left.
-#[tactic(auto, using(crate::proofs::CloseLemmas::close_rules))]
+#[tactic(auto, using(mz_classes::proofs::CloseLemmas::close_rules))]
 fn is_complete(rt: &impl Abort, alloc: Global, d: &Disjunct, clauses: &Clauses) -> bool {
     let g = ground(alloc, d, clauses.as_slice()).expect(rt, "a ground part");
     let graph = graph_of(alloc, &g, d, clauses.as_slice()).expect(rt, "memory");

@@ -1,0 +1,5 @@
+//! Tests of `mz_classes` on small disjuncts.
+#![tactic(auto)]
+
+#[cfg(test)]
+mod tests;

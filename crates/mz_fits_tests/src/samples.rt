@@ -1,0 +1,110 @@
+//! Types, constants and clauses, read from their texts.
+use mz_base::text::Text;
+use mz_context::constant::Constant;
+use mz_context::constants::Constants;
+use mz_core::adjective::Adjective;
+use mz_core::adjectives::Adjectives;
+use mz_core::radix::Radix;
+use mz_core::soft_type::SoftType;
+use mz_core::soft_types::SoftTypes;
+use mz_ground::clause::Clause;
+use mz_ground::clauses::Clauses;
+use mz_ground::trigger::Trigger;
+use mz_logic::literal::Literal;
+use mz_samples::fault::SampleFault;
+use mz_samples::forms::term;
+use mz_samples::parts::{literal, literals};
+use std::alloc::Global;
+
+/// A type: its radix and its adjectives, as atoms without their last argument.
+pub type T = (&'static str, &'static str);
+
+/// A constant: its type, and its equal term, or nothing.
+pub type K = (T, &'static str);
+
+/// A clause: its variables, trigger, premises and conclusion.
+pub type C = (u32, &'static str, &'static str, &'static str);
+
+fn radix(alloc: Global, text: &str) -> Result<Radix, SampleFault> {
+    match literal(alloc, text)? {
+        Literal::Atom { sym, args, .. } => Ok(Radix { sym, args }),
+        Literal::Eq { .. } => Err(SampleFault::Text),
+    }
+}
+
+fn adjectives(alloc: Global, text: &str) -> Result<Adjectives, SampleFault> {
+    let mut out = Adjectives::new(alloc);
+    for l in literals(alloc, text)?.items {
+        match l {
+            Literal::Atom {
+                positive,
+                sym,
+                args,
+            } => out.push(Adjective {
+                positive,
+                sym,
+                args,
+            })?,
+            Literal::Eq { .. } => return Err(SampleFault::Text),
+        }
+    }
+    Ok(out)
+}
+
+/// The type of the texts.
+pub fn ty(alloc: Global, t: T) -> Result<SoftType, SampleFault> {
+    let adjectives = adjectives(alloc, t.1)?;
+    let radix = radix(alloc, t.0)?;
+    Ok(SoftType { adjectives, radix })
+}
+
+/// The types, each under those before it.
+pub fn types(alloc: Global, ts: &[T]) -> Result<SoftTypes, SampleFault> {
+    let mut out = SoftTypes::new(alloc);
+    for t in ts {
+        out.push(ty(alloc, *t)?)?;
+    }
+    Ok(out)
+}
+
+/// The constants with the numbers from 1 on.
+pub fn constants(alloc: Global, ks: &[K]) -> Result<Constants, SampleFault> {
+    let mut out = Constants::new(alloc);
+    for (t, equal) in ks {
+        let equal = if equal.is_empty() {
+            None
+        } else {
+            Some(term(alloc, equal)?)
+        };
+        let ty = ty(alloc, *t)?;
+        out.push(Constant {
+            name: Text::new(alloc),
+            ty,
+            equal,
+        })?;
+    }
+    Ok(out)
+}
+
+fn trigger(alloc: Global, text: &str) -> Result<Trigger, SampleFault> {
+    match term(alloc, text) {
+        Ok(t) => Ok(Trigger::Term(t)),
+        Err(_) => match literal(alloc, text)? {
+            Literal::Atom { sym, args, .. } => Ok(Trigger::Atom(sym, args)),
+            Literal::Eq { .. } => Err(SampleFault::Text),
+        },
+    }
+}
+
+/// The clauses of the texts.
+pub fn clauses(alloc: Global, cs: &[C]) -> Result<Clauses, SampleFault> {
+    let mut out = Clauses::new(alloc);
+    for (variables, trigger_text, premises, conclusion) in cs {
+        let head = trigger(alloc, trigger_text)?;
+        let premises = literals(alloc, premises)?;
+        let conclusion = literal(alloc, conclusion)?;
+        let clause = Clause::new(*variables, head, premises, conclusion).ok_or(SampleFault::Text)?;
+        out.push(clause)?;
+    }
+    Ok(out)
+}

@@ -1,0 +1,118 @@
+//! What names stand for, worked out by hand.
+use crate::samples::{define, element_of, empty, put, reserve, stands_for, two_variables};
+use mz_core::hidden::{object_type, set_type};
+use mz_core::statement::Statement;
+use mz_logic::term::Term;
+use mz_names::closing::{for_all, put_variables, there_are};
+use mz_names::names::{
+    argument, functor_letter, is_only_reserved, labelled_as, private_functor, reserved_type,
+};
+use std::alloc::Global;
+use std::process::Abort;
+use std::test::Fail;
+
+#[test]
+fn the_latest_constant_in_force_counts(rt: HostRuntime) -> Result<(), Fail> {
+    let alloc = rt.alloc();
+    let mut ctx = empty(alloc);
+    put(&rt, alloc, &mut ctx, b"x");
+    put(&rt, alloc, &mut ctx, b"y");
+    put(&rt, alloc, &mut ctx, b"x");
+    assert!(rt; stands_for(&rt, 0, &ctx, b"x", 3));
+    assert!(rt; stands_for(&rt, 0, &ctx, b"y", 2));
+    assert!(rt; stands_for(&rt, 0, &ctx, b"z", 0));
+    assert!(rt; stands_for(&rt, 0, &ctx, b"", 0));
+    if ctx.constants.items.len() == 3 {
+        ctx.release(3);
+    }
+    assert!(rt; stands_for(&rt, 0, &ctx, b"x", 1));
+    Ok(())
+}
+
+#[test]
+fn a_constant_below_the_least_number_is_found_and_not_used(rt: HostRuntime) -> Result<(), Fail> {
+    let alloc = rt.alloc();
+    let mut ctx = empty(alloc);
+    put(&rt, alloc, &mut ctx, b"x");
+    put(&rt, alloc, &mut ctx, b"y");
+    reserve(&rt, alloc, &mut ctx, b"x", set_type(alloc));
+    assert!(rt; stands_for(&rt, 2, &ctx, b"x", 0));
+    assert!(rt; stands_for(&rt, 2, &ctx, b"y", 2));
+    assert!(rt; !is_only_reserved(2, &ctx, b"x"));
+    Ok(())
+}
+
+#[test]
+fn the_latest_reserved_type_counts(rt: HostRuntime) -> Result<(), Fail> {
+    let alloc = rt.alloc();
+    let mut ctx = empty(alloc);
+    put(&rt, alloc, &mut ctx, b"a");
+    reserve(&rt, alloc, &mut ctx, b"x", set_type(alloc));
+    reserve(&rt, alloc, &mut ctx, b"x", object_type(alloc));
+    assert!(rt; reserved_type(0, &ctx, b"x").is_some_and(|ty| ty.equals(&object_type(alloc))));
+    assert!(rt; is_only_reserved(0, &ctx, b"x"));
+    assert!(rt; reserved_type(0, &ctx, b"a").is_none());
+    reserve(
+        &rt,
+        alloc,
+        &mut ctx,
+        b"x",
+        element_of(&rt, alloc, Term::constant(1)),
+    );
+    assert!(rt; reserved_type(0, &ctx, b"x").is_some());
+    assert!(rt; reserved_type(2, &ctx, b"x").is_none());
+    assert!(rt; !is_only_reserved(2, &ctx, b"x"));
+    Ok(())
+}
+
+#[test]
+fn other_names_are_found(rt: HostRuntime) -> Result<(), Fail> {
+    let alloc = rt.alloc();
+    let mut ctx = empty(alloc);
+    define(&rt, alloc, &mut ctx, b"F", Term::constant(1));
+    define(&rt, alloc, &mut ctx, b"F", Term::constant(2));
+    assert!(rt; private_functor(&ctx, b"F").is_some_and(|f| f.body.is_const(2)));
+    assert!(rt; private_functor(&ctx, b"G").is_none());
+    assert!(rt; functor_letter(&ctx, b"F").is_none());
+    ctx.arguments.push(Term::constant(7)).expect(&rt, "memory");
+    assert!(rt; argument(&ctx, 0).is_none());
+    assert!(rt; argument(&ctx, 1).is_some_and(|t| t.is_const(7)));
+    assert!(rt; argument(&ctx, 2).is_none());
+    assert!(rt; labelled_as(&ctx, b"A").is_none());
+    Ok(())
+}
+
+#[test]
+fn variables_are_put_into_force(rt: HostRuntime) -> Result<(), Fail> {
+    let alloc = rt.alloc();
+    let mut ctx = empty(alloc);
+    put(&rt, alloc, &mut ctx, b"a");
+    let vs = two_variables(&rt, alloc, 2);
+    put_variables(alloc, &mut ctx, vs.items.as_slice()).expect(&rt, "memory");
+    assert!(rt; stands_for(&rt, 0, &ctx, b"y", 3));
+    Ok(())
+}
+
+/// For all x being set and y being `Elm of x` x = y.
+fn closed(rt: &impl Abort, alloc: Global) -> Statement {
+    let body = Statement::equation(Term::bound(1), Term::bound(0));
+    let inner = Statement::each(alloc, element_of(rt, alloc, Term::bound(0)), body);
+    Statement::each(alloc, set_type(alloc), inner.expect(rt, "memory")).expect(rt, "memory")
+}
+
+fn opened() -> Statement {
+    Statement::equation(Term::constant(2), Term::constant(3))
+}
+
+#[test]
+fn variables_become_indices(rt: HostRuntime) -> Result<(), Fail> {
+    let alloc = rt.alloc();
+    let vs = two_variables(&rt, alloc, 2);
+    let all = for_all(alloc, 2, vs.items.as_slice(), opened()).expect(&rt, "memory");
+    assert!(rt; all.equals(&closed(&rt, alloc)));
+    let denied = Statement::not(alloc, opened()).expect(&rt, "memory");
+    let some = there_are(alloc, 2, &vs, denied).expect(&rt, "memory");
+    let expected = Statement::not(alloc, closed(&rt, alloc)).expect(&rt, "memory");
+    assert!(rt; some.equals(&expected));
+    Ok(())
+}
