@@ -34,7 +34,7 @@ use Rattle.mz_ground.specs.declared.ground_fault.GroundFault.{GroundFault}
 use Rattle.mz_ground.specs.declared.ground_fault.GroundFault.TheVariants.{TooManyTerms, TooManyAtoms, Memory}
 use Rattle.mz_ground.proofs.ListLemmas.{contains_none, contains_first, contains_one, contains_get, contains_map, get_left, get_map}
 use Rattle.mz_ground.proofs.TableLemmas.{entry_terms-length, get-term_at}
-use Rattle.mz_ground.proofs.GrowthLemmas.{grows_both, member_grown}
+use Rattle.mz_ground.proofs.GrowthLemmas.{grows_nothing, grows_both, member_grown}
 use Rattle.mz_logic.proofs.ValueLaws.{substitute-no_values}
 use Rattle.mz_ground.proofs.ExpressionLemmas.{all-no_values}
 use Rattle.mz_ground.proofs.InstanceLemmas.{instance_as, before_kept, before_back, end_kept, contains_take, take_contains, atom_there}
@@ -241,13 +241,23 @@ told_layer g h cs s e x q p a =
     let to_start : Grows g (IsAddedBy cs (IsNew g s x.end)) h = subst (λ (z : LayerEnd). Grows g (IsAddedBy cs (IsNew g z x.end)) h) p.0 a in
     subst (λ (z : LayerEnd). Grows g (IsAddedBy cs (IsNew g s z)) h) (p.1 ∙ q) to_start
 
+-- where no term and no atom stands behind the start of the layer, no instance is new
+none_between : (s e : LayerEnd) → s.terms ≡ e.terms → s.atoms ≡ e.atoms → (k : ExpressionPlace) → IsBetween s e k → ⊥
+none_between s e t a (place.Term k) b = omega (arith, t, b.0, b.1)
+none_between s e t a (place.Atom k) b = omega (arith, a, b.0, b.1)
+
+pub told_no_layer : (g : Ground) (cs : List Clause) (s e : LayerEnd) → IsNumbered g → e ≡ whole_end g → s.terms ≡ e.terms → s.atoms ≡ e.atoms → Grows g (IsAddedBy cs (IsNew g s (whole_end g))) g
+told_no_layer g cs s e n q t a =
+    let none : (p : GroundExpression) → IsNew g s e p → ⊥ = λ p r. none_between s e t a r.place r.between in
+    subst (λ (z : LayerEnd). Grows g (IsAddedBy cs (IsNew g s z)) g) q (grows_nothing g (IsAddedBy cs (IsNew g s e)) n (λ p r. none (trigger_at r.instance.terms r.clause.trigger) r.instance.trigger))
+
 pub span_as_read : (g : Ground) (s e : LayerEnd) → e ≡ whole_end g → IsSpan g s (whole_end g) → IsSpan g s e
 span_as_read g s e q w = subst (λ (z : LayerEnd). IsSpan g s z) (inverse q) w
 
 pub end_as_read : (g : Ground) (s e last : LayerEnd) → last ≡ e → IsSpan g s e → IsEndIn g last
 end_as_read g s e last q w = subst (λ (z : LayerEnd). IsEndIn g z) (inverse q) w.end
 
-pub ruleset add_layer_rules = (span_as_read, end_as_read, told_layer)
+pub ruleset add_layer_rules = (span_as_read, end_as_read, told_layer, told_no_layer)
 
 -- closing a layer
 stored_member : (g : Ground) (p : GroundExpression) → length g.atoms ≤ most_atoms → IsStored g p → IsMember g p

@@ -100,6 +100,9 @@ impl Ground {
         ensures { IfOk result (λ end. (end ≡ whole_end self.old) × Grows self.old (IsAddedBy clauses.now (IsNew self.old start (whole_end self.old))) self.new) }
     {
         let end = self.end();
+        if start.terms == end.terms && start.atoms == end.atoms {
+            return Ok(end);
+        }
         let places = TriggerPlaces::of(alloc, self, start, end)?;
         self.add_clauses(alloc, clauses, &places)?;
         Ok(end)

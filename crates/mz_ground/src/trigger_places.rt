@@ -99,7 +99,7 @@ fn term_places(
     requires end { end ≤ length terms.now }
     ensures { IfOk result (λ x. AreByHash head_hash terms.now start end x) }
 {
-    let mut places = HeadPlaces::new(alloc, end.saturating_sub(start))?;
+    let mut places = HeadPlaces::new(alloc, end.saturating_sub(start).saturating_mul(4))?;
     for k in start..end {
         places.push(head_hash(terms.get(k)), k)?;
     }
@@ -117,7 +117,7 @@ fn atom_places(
     requires end { end ≤ length atoms.now }
     ensures { IfOk result (λ x. AreByHash symbol_hash atoms.now start end x) }
 {
-    let mut places = HeadPlaces::new(alloc, end.saturating_sub(start))?;
+    let mut places = HeadPlaces::new(alloc, end.saturating_sub(start).saturating_mul(4))?;
     for k in start..end {
         places.push(hash_with_symbol(0, atoms.get(k).sym), k)?;
     }
