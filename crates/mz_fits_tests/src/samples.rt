@@ -11,6 +11,7 @@ use mz_ground::clause::Clause;
 use mz_ground::clauses::Clauses;
 use mz_ground::trigger::Trigger;
 use mz_logic::literal::Literal;
+use mz_logic::term::Term;
 use mz_samples::fault::SampleFault;
 use mz_samples::forms::term;
 use mz_samples::parts::{literal, literals};
@@ -32,21 +33,26 @@ fn radix(alloc: Global, text: &str) -> Result<Radix, SampleFault> {
     }
 }
 
+fn adjective(l: Literal) -> Result<Adjective, SampleFault> {
+    match l {
+        Literal::Atom {
+            positive,
+            sym,
+            args,
+        } => Ok(Adjective {
+            positive,
+            sym,
+            args,
+        }),
+        Literal::Eq { .. } => Err(SampleFault::Text),
+    }
+}
+
 fn adjectives(alloc: Global, text: &str) -> Result<Adjectives, SampleFault> {
     let mut out = Adjectives::new(alloc);
     for l in literals(alloc, text)?.items {
-        match l {
-            Literal::Atom {
-                positive,
-                sym,
-                args,
-            } => out.push(Adjective {
-                positive,
-                sym,
-                args,
-            })?,
-            Literal::Eq { .. } => return Err(SampleFault::Text),
-        }
+        let adjective = adjective(l)?;
+        out.push(adjective)?;
     }
     Ok(out)
 }
@@ -67,21 +73,30 @@ pub fn types(alloc: Global, ts: &[T]) -> Result<SoftTypes, SampleFault> {
     Ok(out)
 }
 
+fn equal_term(alloc: Global, text: &str) -> Result<Option<Term>, SampleFault> {
+    if text.is_empty() {
+        return Ok(None);
+    }
+    let t = term(alloc, text)?;
+    Ok(Some(t))
+}
+
+fn constant(alloc: Global, k: K) -> Result<Constant, SampleFault> {
+    let equal = equal_term(alloc, k.1)?;
+    let ty = ty(alloc, k.0)?;
+    Ok(Constant {
+        name: Text::new(alloc),
+        ty,
+        equal,
+    })
+}
+
 /// The constants with the numbers from 1 on.
 pub fn constants(alloc: Global, ks: &[K]) -> Result<Constants, SampleFault> {
     let mut out = Constants::new(alloc);
-    for (t, equal) in ks {
-        let equal = if equal.is_empty() {
-            None
-        } else {
-            Some(term(alloc, equal)?)
-        };
-        let ty = ty(alloc, *t)?;
-        out.push(Constant {
-            name: Text::new(alloc),
-            ty,
-            equal,
-        })?;
+    for k in ks {
+        let k = constant(alloc, *k)?;
+        out.push(k)?;
     }
     Ok(out)
 }
@@ -96,15 +111,19 @@ fn trigger(alloc: Global, text: &str) -> Result<Trigger, SampleFault> {
     }
 }
 
+fn clause(alloc: Global, c: C) -> Result<Clause, SampleFault> {
+    let head = trigger(alloc, c.1)?;
+    let premises = literals(alloc, c.2)?;
+    let conclusion = literal(alloc, c.3)?;
+    Clause::new(c.0, head, premises, conclusion).ok_or(SampleFault::Text)
+}
+
 /// The clauses of the texts.
 pub fn clauses(alloc: Global, cs: &[C]) -> Result<Clauses, SampleFault> {
     let mut out = Clauses::new(alloc);
-    for (variables, trigger_text, premises, conclusion) in cs {
-        let head = trigger(alloc, trigger_text)?;
-        let premises = literals(alloc, premises)?;
-        let conclusion = literal(alloc, conclusion)?;
-        let clause = Clause::new(*variables, head, premises, conclusion).ok_or(SampleFault::Text)?;
-        out.push(clause)?;
+    for c in cs {
+        let c = clause(alloc, *c)?;
+        out.push(c)?;
     }
     Ok(out)
 }
