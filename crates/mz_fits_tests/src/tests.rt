@@ -1,6 +1,8 @@
 //! Questions with their answers, worked out by hand from the rules. What a question is done with is forgotten, not
 //! dropped.
 use crate::samples::{C, K, T, clauses, constants, ty, types};
+use mz_answers::answers::Answers;
+use mz_answers::kept::type_fits_kept;
 use mz_context::constants::Constants;
 use mz_context::gather::gathered;
 use mz_core::soft_type::SoftType;
@@ -208,6 +210,28 @@ const TYPES: [(&str, T, bool); 7] = [
 fn types_fit(rt: HostRuntime) {
     for (t, at, wanted) in &TYPES {
         check_type(&rt, rt.alloc(), t, *at, *wanted);
+    }
+}
+
+/// The same answer with answers kept, before it stands there and after.
+fn check_kept(rt: &impl Abort, alloc: Global, t: &str, at: T, wanted: bool) {
+    let ks = in_force(rt, alloc, &FOUR);
+    let u = term_of(rt, alloc, t);
+    let at = type_of(rt, alloc, at);
+    let mut answers = Answers::new(alloc);
+    let once = type_fits_kept(alloc, &[], &ks, &mut answers, &u, &at).expect(rt, "memory");
+    let again = type_fits_kept(alloc, &[], &ks, &mut answers, &u, &at).expect(rt, "memory");
+    forget(ks);
+    forget(u);
+    forget(at);
+    forget(answers);
+    assert!(rt; once == wanted && again == wanted, "{t}");
+}
+
+#[test]
+fn kept_answers_are_the_same(rt: HostRuntime) {
+    for (t, at, wanted) in &TYPES {
+        check_kept(&rt, rt.alloc(), t, *at, *wanted);
     }
 }
 
