@@ -1,0 +1,105 @@
+//! Types whose adjectives are covered, worked out by hand from the rules.
+use crate::items::{Made, P, SET, attribute, conditional, existential, in_force, mode, type_of};
+use mz_choice::cover::is_covered_by;
+use mz_choice::resolve::is_covered;
+use mz_context::context::Context;
+use mz_fits_tests::samples::{K, T};
+use std::alloc::Global;
+use std::mem::forget;
+use std::process::Abort;
+
+/// Whether the type is covered, by both calls, which leave the context with so many constants.
+fn check_covered(rt: &impl Abort, alloc: Global, made: &Made, ks: &[K], t: T, wanted: bool) {
+    let mut ctx = in_force(rt, alloc, ks);
+    let at = type_of(rt, alloc, t);
+    let clauses = made.env.typing.as_slice();
+    let found = is_covered(alloc, &made.env, &mut ctx, &at).expect(rt, "memory");
+    let again = is_covered_by(alloc, clauses, &made.env, &mut ctx, &at).expect(rt, "memory");
+    let count = ctx.constants.items.len();
+    forget(ctx);
+    forget(at);
+    let (radix, adjectives) = t;
+    assert!(rt;
+        found == wanted && again == wanted && count == ks.len(),
+        "{radix} {adjectives}"
+    );
+}
+
+/// The attribute `empty` of sets.
+fn with_empty(rt: &impl Abort, alloc: Global) -> Made {
+    let empty: P = ("empty", &[SET], &[], &[0]);
+    Made::new(alloc).with(rt, alloc, attribute(rt, alloc, "A.V1", empty, 0))
+}
+
+const NON_EMPTY: T = ("HIDDEN.M2", "(not A.V1)");
+
+/// `non empty set` without and with a registration.
+#[test]
+fn adjectives_are_covered_by_a_registration(rt: HostRuntime) {
+    let alloc = rt.alloc();
+    let made = with_empty(&rt, alloc);
+    check_covered(&rt, alloc, &made, &[], NON_EMPTY, false);
+    let made = made.with(&rt, alloc, existential(&rt, alloc, &[], "(not A.V1)", SET));
+    check_covered(&rt, alloc, &made, &[], NON_EMPTY, true);
+    check_covered(&rt, alloc, &made, &[], SET, true);
+    check_covered(&rt, alloc, &made, &[], ("HIDDEN.M2", "A.V1"), false);
+    forget(made);
+}
+
+const OF_SET: P = ("M", &[SET], &[], &[0]);
+
+/// The modes M of X, N of X, which is an M of X, and K.
+fn modes(rt: &impl Abort, alloc: Global) -> Made {
+    let below: P = ("N", &[SET], &[], &[0]);
+    let below = mode(rt, alloc, "A.M2", below, ("(A.M1 b0)", ""));
+    Made::new(alloc)
+        .with(rt, alloc, mode(rt, alloc, "A.M1", OF_SET, SET))
+        .with(rt, alloc, below)
+        .with(
+            rt,
+            alloc,
+            mode(rt, alloc, "A.M3", ("K", &[], &[], &[]), SET),
+        )
+}
+
+/// Registrations under loci, one of which stands in the adjectives alone, and a conditional one of what is K.
+fn registrations(rt: &impl Abort, alloc: Global) -> Made {
+    let one = ("HIDDEN.M2", "A.V1");
+    let guarded = existential(rt, alloc, &[one], "A.V2", ("(A.M1 b0)", ""));
+    let of_parent = existential(rt, alloc, &[SET], "A.V3", ("(A.M2 b0)", ""));
+    let alone = existential(rt, alloc, &[SET], "(A.V4 b0)", ("A.M3", ""));
+    modes(rt, alloc)
+        .with(rt, alloc, guarded)
+        .with(rt, alloc, of_parent)
+        .with(rt, alloc, alone)
+        .with(rt, alloc, conditional(rt, alloc, "", "A.V5", ("A.M3", "")))
+}
+
+const COVERED: [(T, bool); 9] = [
+    (("(A.M1 c1)", ""), true),
+    (("(A.M1 c2)", "A.V2"), true),
+    (("(A.M1 c1)", "A.V2"), false),
+    (("(A.M1 c1)", "A.V3"), true),
+    (("(A.M2 c1)", "A.V3"), true),
+    (("(A.M2 c2)", "A.V2"), false),
+    (("A.M3", "(A.V4 c1)"), false),
+    (("A.M3", "A.V5"), true),
+    (("A.M3", "A.V5, A.V3"), false),
+];
+
+const TWO: [K; 2] = [(SET, ""), (("HIDDEN.M2", "A.V1"), "")];
+
+fn check_all(rt: &impl Abort, alloc: Global, made: Made) {
+    for (t, wanted) in &COVERED {
+        check_covered(rt, alloc, &made, &TWO, *t, *wanted);
+    }
+    forget(made);
+}
+
+/// The loci are fixed by a member of the chain of the registered type, and their guards have to fit; a locus that stands
+/// in the adjectives alone is fixed by none; what fits from the guard of the radix needs no registration.
+#[test]
+fn covered_types(rt: HostRuntime) {
+    let made = registrations(&rt, rt.alloc());
+    check_all(&rt, rt.alloc(), made);
+}
