@@ -1,0 +1,3 @@
+pub mod OpenedLemmas
+pub mod AddedLemmas
+pub mod AskedLemmas
