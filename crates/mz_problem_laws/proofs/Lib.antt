@@ -1,0 +1,2 @@
+pub mod ProblemProofs
+pub mod OneProblemProofs

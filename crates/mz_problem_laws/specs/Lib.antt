@@ -1,0 +1,2 @@
+pub mod ProblemLaw
+pub mod OneProblem
