@@ -327,7 +327,7 @@ mod tests {
         for _ in 53..4096 {
             text.push(b'\n')?;
         }
-        assert_eq!(rt; text.len(), 4096);
+        assert!(rt; text.len() == 4096);
         let first = first_article(rt.alloc(), text.as_slice())?;
         assert!(rt; has_outcome(&first, &[], 1));
         text.push(b'\n')?;

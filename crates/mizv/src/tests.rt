@@ -78,8 +78,8 @@ fn check_row<R: Abort + Threads + Wait + Sync>(
         Numbers::from_slice(alloc, &[row.failing_write])?,
     )?;
     let status = run(rt, alloc, words, &mut shelf, &mut out, &OpenGate);
-    assert_eq!(rt; status, row.status, "at {}", row.text);
-    assert_eq!(rt; out.bytes(), row.report.as_bytes(), "at {}", row.text);
+    assert!(rt; status == row.status, "at {}", row.text);
+    assert!(rt; out.bytes() == row.report.as_bytes(), "at {}", row.text);
     Ok(())
 }
 
@@ -143,7 +143,7 @@ fn long_texts_are_refused(rt: HostRuntime) -> Result<(), Fail> {
         let mut shelf = MemoryShelf::new(files, Numbers::new(alloc));
         let mut out = MemorySink::new(alloc, 64, Numbers::new(alloc))?;
         let answer = run(&rt, alloc, words, &mut shelf, &mut out, &OpenGate);
-        assert_eq!(rt; answer, status);
+        assert!(rt; answer == status);
     }
     Ok(())
 }

@@ -212,10 +212,10 @@ mod tests {
             let name = Name::read(word).expect(&rt, "a name");
             let spelled = name.text(rt.alloc()).expect(&rt, "memory");
             let file = name.lowered(rt.alloc()).expect(&rt, "memory");
-            assert_eq!(rt; name.number(), number);
-            assert_eq!(rt; spelled.as_slice(), text);
-            assert_eq!(rt; file.as_slice(), lowered);
-            assert_eq!(rt; name.is_built_in(), built_in);
+            assert!(rt; name.number() == number);
+            assert!(rt; spelled.as_slice() == text);
+            assert!(rt; file.as_slice() == lowered);
+            assert!(rt; name.is_built_in() == built_in);
         }
         let words: [&[u8]; 6] = [b"1A", b"ABCDEFGHI", b"", b"_A", b"A-B", b"\xc3\xa9"];
         for word in words {

@@ -93,7 +93,7 @@ mod tests {
         let mut names = Names::new(rt.alloc());
         names.push(Name::hidden()).expect(&rt, "memory");
         let copy = names.copy(rt.alloc()).expect(&rt, "memory");
-        assert_eq!(rt; copy.len(), 1);
+        assert!(rt; copy.len() == 1);
         assert!(rt; copy.contains(&Name::hidden()));
         assert!(rt; !copy.contains(&Name::tarski_0()));
     }

@@ -210,16 +210,18 @@ const OPEN: [(&str, u32); 15] = [
 #[test]
 fn problems_that_are_closed(rt: HostRuntime) {
     for text in CLOSED {
-        assert_eq!(&rt; verdict(&rt, rt.alloc(), text), ByVerdict::Closed, "{text}");
+        assert!(&rt;
+            verdict(&rt, rt.alloc(), text) == ByVerdict::Closed,
+            "{text}"
+        );
     }
 }
 
 #[test]
 fn problems_with_an_open_disjunct(rt: HostRuntime) {
     for (text, disjunct) in OPEN {
-        assert_eq!(&rt;
-            verdict(&rt, rt.alloc(), text),
-            ByVerdict::Open { disjunct },
+        assert!(&rt;
+            verdict(&rt, rt.alloc(), text) == ByVerdict::Open { disjunct },
             "{text}"
         );
     }
@@ -240,7 +242,7 @@ fn problems_with_many_disjuncts(rt: HostRuntime) {
         ("1P2P| T! T!", ByVerdict::Closed),
     ] {
         let text = format!(in rt.alloc(); "{ten}{rest}").expect(&rt, "memory");
-        assert_eq!(&rt; verdict(&rt, rt.alloc(), &text), wanted, "{rest}");
+        assert!(&rt; verdict(&rt, rt.alloc(), &text) == wanted, "{rest}");
     }
 }
 
@@ -259,7 +261,7 @@ fn work_of_a_universal(rt: HostRuntime) {
     ] {
         let p = pairs(&rt, rt.alloc(), n);
         let found = by(rt.alloc(), &p, &Clauses::new(rt.alloc())).expect(&rt, "memory");
-        assert_eq!(&rt; found, wanted, "{n}");
+        assert!(&rt; found == wanted, "{n}");
     }
 }
 

@@ -181,10 +181,10 @@ fn classes_of_a_chain(rt: HostRuntime) {
         &[],
     );
     let count = f.ground().terms.len();
-    assert_eq!(&rt; count, 5);
+    assert!(&rt; count == 5);
     for (number, class) in [(0u32, 0), (1, 1), (2, 1), (3, 1), (4, 4)] {
         if (number as usize) < f.ground().terms.len() {
-            assert_eq!(&rt; f.class_of(number), class, "{number}");
+            assert!(&rt; f.class_of(number) == class, "{number}");
         }
     }
     let classes: [&[u32]; 6] = [&[0], &[1, 2, 3], &[], &[], &[4], &[]];
@@ -365,7 +365,7 @@ fn facts_of_problems(rt: HostRuntime) {
             let found = f.holds(&literal(&rt, rt.alloc(), *l));
             assert!(&rt; !found, "{number}");
         }
-        assert_eq!(&rt; f.contradictory(), contradictory, "{number}");
+        assert!(&rt; f.contradictory() == contradictory, "{number}");
     }
 }
 

@@ -153,7 +153,7 @@ fn vocabularies_come_before_the_next_article(rt: HostRuntime) {
         match gathered(&rt, rt.alloc(), files, fail, "A") {
             Err(GatherFault::TooLong { name }) => {
                 assert!(rt; !read);
-                assert_eq!(rt; name, name_of(&rt, "V"));
+                assert!(rt; name == name_of(&rt, "V"));
             }
             Err(GatherFault::Read) => assert!(rt; read),
             _ => panic!(rt; "another answer"),

@@ -95,11 +95,11 @@ fn orders_many_articles(rt: HostRuntime) {
     }
     let corpus = made(&rt, rt.alloc(), &sources).expect(&rt, "a corpus");
     let ordering = corpus.order(rt.alloc()).expect(&rt, "memory");
-    assert_eq!(rt; ordering.order.len(), 64);
+    assert!(rt; ordering.order.len() == 64);
     assert!(rt; ordering.rest.is_empty());
     for (i, name) in ordering.order.items.iter().enumerate() {
         assert!(rt; i < 64);
-        assert_eq!(rt; *name, numbered_name(&rt, rt.alloc(), 63 - i as u32));
+        assert!(rt; *name == numbered_name(&rt, rt.alloc(), 63 - i as u32));
     }
 }
 
@@ -132,6 +132,6 @@ fn reaches_all_dependencies(rt: HostRuntime) {
         assert!(rt; row < corpus.len());
         let article = corpus.get(row);
         assert!(rt; is_line(&rt, rt.alloc(), article.reach.as_slice(), reach));
-        assert_eq!(rt; article.is_cyclic(), cyclic);
+        assert!(rt; article.is_cyclic() == cyclic);
     }
 }

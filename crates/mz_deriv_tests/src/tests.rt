@@ -43,7 +43,7 @@ fn hypotheses_and_weakening(rt: HostRuntime) {
         ("truth: |- (not true)", (false, false)),
     ];
     for (text, wanted) in rows {
-        assert_eq!(rt; verdicts(&rt, rt.alloc(), text), wanted, "{text}");
+        assert!(rt; verdicts(&rt, rt.alloc(), text) == wanted, "{text}");
     }
 }
 
@@ -84,7 +84,7 @@ fn derivations_with_conjunctions(rt: HostRuntime) {
         ),
     ];
     for (text, wanted) in rows {
-        assert_eq!(rt; verdicts(&rt, rt.alloc(), text), wanted, "{text}");
+        assert!(rt; verdicts(&rt, rt.alloc(), text) == wanted, "{text}");
     }
 }
 
@@ -125,7 +125,7 @@ fn derivations_with_negations(rt: HostRuntime) {
         ),
     ];
     for (text, wanted) in rows {
-        assert_eq!(rt; verdicts(&rt, rt.alloc(), text), wanted, "{text}");
+        assert!(rt; verdicts(&rt, rt.alloc(), text) == wanted, "{text}");
     }
 }
 
@@ -146,7 +146,7 @@ fn derivations_with_a_cut(rt: HostRuntime) {
         ),
     ];
     for (text, wanted) in rows {
-        assert_eq!(rt; verdicts(&rt, rt.alloc(), text), wanted, "{text}");
+        assert!(rt; verdicts(&rt, rt.alloc(), text) == wanted, "{text}");
     }
 }
 
@@ -180,7 +180,7 @@ fn derivations_with_quantifiers(rt: HostRuntime) {
         ),
     ];
     for (text, wanted) in rows {
-        assert_eq!(rt; verdicts(&rt, rt.alloc(), text), wanted, "{text}");
+        assert!(rt; verdicts(&rt, rt.alloc(), text) == wanted, "{text}");
     }
 }
 
@@ -204,7 +204,7 @@ fn derivations_with_equations(rt: HostRuntime) {
         ),
     ];
     for (text, wanted) in rows {
-        assert_eq!(rt; verdicts(&rt, rt.alloc(), text), wanted, "{text}");
+        assert!(rt; verdicts(&rt, rt.alloc(), text) == wanted, "{text}");
     }
 }
 
@@ -236,7 +236,7 @@ fn axioms_and_instances(rt: HostRuntime) {
         ),
     ];
     for (text, wanted) in rows {
-        assert_eq!(rt; verdicts(&rt, rt.alloc(), text), wanted, "{text}");
+        assert!(rt; verdicts(&rt, rt.alloc(), text) == wanted, "{text}");
     }
 }
 
@@ -263,6 +263,6 @@ fn derivations_with_a_wrong_node_within(rt: HostRuntime) {
         ),
     ];
     for (text, wanted) in rows {
-        assert_eq!(rt; verdicts(&rt, rt.alloc(), text), wanted, "{text}");
+        assert!(rt; verdicts(&rt, rt.alloc(), text) == wanted, "{text}");
     }
 }

@@ -140,17 +140,17 @@ fn is_finished<R: Abort>(rt: &R, alloc: Global, desk: &mut Desk<Plain>) -> bool 
 fn a_desk_over_one_article(rt: HostRuntime) {
     let alloc: Global = rt.alloc();
     let mut desk = over_one(&rt, alloc, "a");
-    assert_eq!(&rt; told(&rt, &desk, "DA"), b'.');
-    assert_eq!(&rt; told(&rt, &desk, "DB"), b'?');
-    assert_eq!(&rt; told(&rt, &desk, "TARSKI_0"), b'a');
+    assert!(&rt; told(&rt, &desk, "DA") == b'.');
+    assert!(&rt; told(&rt, &desk, "DB") == b'?');
+    assert!(&rt; told(&rt, &desk, "TARSKI_0") == b'a');
     let done = next_done(&rt, alloc, &mut desk, 0);
     assert!(&rt; is_claimed(&rt, alloc, &mut desk, 0));
-    assert_eq!(&rt; told(&rt, &desk, "DA"), b'.');
+    assert!(&rt; told(&rt, &desk, "DA") == b'.');
     assert!(&rt; is_published(&mut desk, done));
-    assert_eq!(&rt; told(&rt, &desk, "DA"), b'a');
+    assert!(&rt; told(&rt, &desk, "DA") == b'a');
     assert!(&rt; is_finished(&rt, alloc, &mut desk));
-    assert_eq!(&rt; desk.library().len(), 4);
-    assert_eq!(&rt; desk.corpus().len(), 1);
+    assert!(&rt; desk.library().len() == 4);
+    assert!(&rt; desk.corpus().len() == 1);
 }
 
 /// Whether the refusal gives the result back: that of an accepted article with this text, by this worker.
@@ -197,11 +197,11 @@ fn a_result_of_another_worker(rt: HostRuntime) {
     let refused = refusal(&rt, &mut desk, foreign);
     assert!(&rt; refused.why == Why::NotClaimed(Some(RowState::Claimed(0))));
     assert!(&rt; gives_back(&refused, b"another", 1));
-    assert_eq!(&rt; told(&rt, &desk, "DA"), b'.');
+    assert!(&rt; told(&rt, &desk, "DA") == b'.');
     assert!(&rt; is_published(&mut desk, done));
     let found = why(&rt, &mut desk, refused.done);
     assert!(&rt; found == Why::NotClaimed(Some(RowState::Accepted)));
-    assert_eq!(&rt; told(&rt, &desk, "DA"), b'a');
+    assert!(&rt; told(&rt, &desk, "DA") == b'a');
 }
 
 /// Whether the result is of this article, over so many exports and no vocabulary.
@@ -219,7 +219,7 @@ fn a_claim_taken_away(rt: HostRuntime) {
     let mut desk = desk_over(&rt, alloc, &WHOLE, &[]);
     let done = done_after(&rt, alloc, &mut desk, 1);
     assert!(&rt; is_of(&rt, &done, "DB", 4));
-    assert_eq!(&rt; done.job().row(), 1);
+    assert!(&rt; done.job().row() == 1);
     desk.reclaim();
     let found = why(&rt, &mut desk, done);
     assert!(&rt; found == Why::NotClaimed(Some(RowState::Waiting)));

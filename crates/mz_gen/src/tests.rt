@@ -24,9 +24,9 @@ fn makes_two_hundred_articles(rt: HostRuntime) {
             b"environ\n theorems G0099, G0196;\nbegin\ntheorem for x being object holds x = x;\ntheorem for x,y being object st x = y holds y = x by G0099:1;\n",
         ),
     ];
-    assert_eq!(rt; names.len(), 200);
+    assert!(rt; names.len() == 200);
     for (i, text) in rows {
         let bytes = shelf.files.lookup(FileKind::Article, &names.items[i]);
-        assert_eq!(rt; bytes, Some(text));
+        assert!(rt; bytes == Some(text));
     }
 }

@@ -155,7 +155,7 @@ mod tests {
         let folder = Text::from_slice(rt.alloc(), b".")?;
         let mut shelf = FolderShelf::new(&rt, folder);
         match shelf.fetch(rt.alloc(), FileKind::Article, &first) {
-            Ok(Some(text)) => assert_eq!(rt; text.as_slice(), b"environ begin".as_slice()),
+            Ok(Some(text)) => assert!(rt; text.as_slice() == b"environ begin".as_slice()),
             _ => panic!(rt; "another answer"),
         }
         assert!(rt;
@@ -166,13 +166,13 @@ mod tests {
         );
         let answer = shelf.fetch(rt.alloc(), FileKind::Vocabulary, &second);
         assert!(rt; matches!(answer, Err(FetchFault::TooLong)));
-        assert_eq!(rt; shelf.faults, 0);
-        assert_eq!(rt; shelf.amount, 1_048_590);
+        assert!(rt; shelf.faults == 0);
+        assert!(rt; shelf.amount == 1_048_590);
         let folder = Text::from_slice(rt.alloc(), b"shelf1.miz")?;
         let mut shelf = FolderShelf::new(&rt, folder);
         let answer = shelf.fetch(rt.alloc(), FileKind::Article, &first);
         assert!(rt; matches!(answer, Err(FetchFault::Failed)));
-        assert_eq!(rt; shelf.faults, 1);
+        assert!(rt; shelf.faults == 1);
         fs::remove_file(&rt, "shelf1.miz")?;
         fs::remove_file(&rt, "shelf2.voc")?;
         Ok(())

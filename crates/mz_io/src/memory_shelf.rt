@@ -132,13 +132,13 @@ mod tests {
         for (kind, name, expected, faults, amount) in rows {
             let name = Name::read(name).map_err(|_| "no name")?;
             match (shelf.fetch(rt.alloc(), kind, &name), expected) {
-                (Ok(Some(text)), Ok(Some(bytes))) => assert_eq!(rt; text.as_slice(), bytes),
+                (Ok(Some(text)), Ok(Some(bytes))) => assert!(rt; text.as_slice() == bytes),
                 (Ok(None), Ok(None)) => {}
-                (Err(fault), Err(other)) => assert_eq!(rt; fault, other),
+                (Err(fault), Err(other)) => assert!(rt; fault == other),
                 _ => panic!(rt; "another answer"),
             }
-            assert_eq!(rt; shelf.faults, faults);
-            assert_eq!(rt; shelf.amount, amount);
+            assert!(rt; shelf.faults == faults);
+            assert!(rt; shelf.amount == amount);
         }
         Ok(())
     }
@@ -153,13 +153,13 @@ mod tests {
             let mut shelf = MemoryShelf::new(files, Numbers::new(rt.alloc()));
             match shelf.fetch(rt.alloc(), FileKind::Article, &name) {
                 Ok(Some(text)) => {
-                    assert_eq!(rt; text.len(), 1_048_576);
-                    assert_eq!(rt; len, 1_048_576);
+                    assert!(rt; text.len() == 1_048_576);
+                    assert!(rt; len == 1_048_576);
                 }
-                Err(FetchFault::TooLong) => assert_eq!(rt; len, 1_048_577),
+                Err(FetchFault::TooLong) => assert!(rt; len == 1_048_577),
                 _ => panic!(rt; "another answer"),
             }
-            assert_eq!(rt; shelf.amount, amount);
+            assert!(rt; shelf.amount == amount);
         }
         Ok(())
     }

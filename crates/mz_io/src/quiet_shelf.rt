@@ -102,14 +102,14 @@ mod tests {
             .expect(&rt, "memory");
         let mut shelf = QuietShelf::new(files);
         match shelf.fetch(rt.alloc(), FileKind::Article, &name) {
-            Ok(Some(text)) => assert_eq!(rt; text.as_slice(), b"environ begin".as_slice()),
+            Ok(Some(text)) => assert!(rt; text.as_slice() == b"environ begin".as_slice()),
             _ => panic!(rt; "another answer"),
         }
-        assert_eq!(rt; shelf.amount, 13);
+        assert!(rt; shelf.amount == 13);
         let other = shelf.fetch(rt.alloc(), FileKind::Article, &Name::tarski_0());
         assert!(rt; matches!(other, Ok(None)));
         let other = shelf.fetch(rt.alloc(), FileKind::Vocabulary, &name);
         assert!(rt; matches!(other, Err(FetchFault::TooLong)));
-        assert_eq!(rt; shelf.amount, 1_048_590);
+        assert!(rt; shelf.amount == 1_048_590);
     }
 }

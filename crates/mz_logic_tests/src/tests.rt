@@ -82,10 +82,7 @@ fn texts_of_symbols(rt: HostRuntime) {
     ];
     for (kind, text) in rows {
         let t = Term::apply(sym(kind, 1), Terms::new(alloc));
-        assert_eq!(rt;
-            term_text(alloc, &t).expect(&rt, "memory").as_slice(),
-            text.as_bytes()
-        );
+        assert!(rt; term_text(alloc, &t).expect(&rt, "memory").as_slice() == text.as_bytes());
     }
     let hidden = Sym {
         article: 0x4849_4444_454e_0000,
@@ -252,7 +249,7 @@ fn terms_in_order(rt: HostRuntime) {
     assert!(rt; ascending.len() == 9);
     for (i, t) in ascending.items.iter().enumerate() {
         for (j, u) in ascending.items.iter().enumerate() {
-            assert_eq!(rt; compare_terms(t, u), i.cmp(&j));
+            assert!(rt; compare_terms(t, u) == i.cmp(&j));
         }
     }
 }
@@ -265,7 +262,7 @@ fn literals_in_order(rt: HostRuntime) {
     assert!(rt; ascending.len() == 4);
     for (i, l) in ascending.items.iter().enumerate() {
         for (j, m) in ascending.items.iter().enumerate() {
-            assert_eq!(rt; compare_literals(l, m), i.cmp(&j));
+            assert!(rt; compare_literals(l, m) == i.cmp(&j));
         }
     }
 }
@@ -280,7 +277,7 @@ fn capped_counts(rt: HostRuntime) {
         (u64::MAX, u64::MAX, most, most),
     ];
     for (m, n, sum, product) in rows {
-        assert_eq!(rt; (capped_sum(m, n), capped_product(m, n)), (sum, product));
+        assert!(rt; (capped_sum(m, n), capped_product(m, n)) == (sum, product));
     }
 }
 

@@ -119,7 +119,7 @@ fn small_problems(rt: HostRuntime) {
         ),
     ] {
         let found = found(&rt, rt.alloc(), text);
-        assert_eq!(rt; found.as_slice(), want.as_bytes(), "at {text}");
+        assert!(rt; found.as_slice() == want.as_bytes(), "at {text}");
     }
 }
 
@@ -138,7 +138,7 @@ fn existence_of_a_pair(rt: HostRuntime) {
         ),
     ] {
         let found = found(&rt, rt.alloc(), text);
-        assert_eq!(rt; found.as_slice(), want.as_bytes(), "at {text}");
+        assert!(rt; found.as_slice() == want.as_bytes(), "at {text}");
     }
 }
 
@@ -189,7 +189,7 @@ fn too_many(rt: HostRuntime) {
     ] {
         let text = repeated(&rt, alloc, times);
         match disjuncts(alloc, &problem(&rt, alloc, &text)) {
-            Err(NfFault::TooManyDisjuncts { count }) => assert_eq!(rt; count, want),
+            Err(NfFault::TooManyDisjuncts { count }) => assert!(rt; count == want),
             _ => assert!(rt; false, "at {times}"),
         }
     }

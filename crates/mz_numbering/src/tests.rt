@@ -68,6 +68,6 @@ fn places_by_numbers(rt: HostRuntime) {
     clauses.push(clause).expect(&rt, "memory");
     let g = ground(alloc, &d, clauses.as_slice()).expect(&rt, "a ground part");
     let numbers = numbering_of(alloc, &g).expect(&rt, "memory");
-    assert_eq!(&rt; numbers.terms.as_slice(), [0usize, 3, 4, 1, 2].as_slice());
-    assert_eq!(&rt; numbers.atoms.as_slice(), [2usize, 1, 0, 4, 3].as_slice());
+    assert!(&rt; numbers.terms.as_slice() == [0usize, 3, 4, 1, 2].as_slice());
+    assert!(&rt; numbers.atoms.as_slice() == [2usize, 1, 0, 4, 3].as_slice());
 }

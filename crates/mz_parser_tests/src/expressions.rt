@@ -69,7 +69,7 @@ fn forms(rt: HostRuntime) {
     for (form, text, number, answer) in &ROWS {
         let tokens = tokens_behind_begin(&rt, alloc, &[(*text, 1)]);
         let found = parsed(&rt, alloc, *form, &tokens, number.saturating_add(5));
-        assert_eq!(rt; found, *answer);
+        assert!(rt; found == *answer);
     }
 }
 
@@ -95,7 +95,7 @@ fn articles(rt: HostRuntime) {
     for (article, number, answer) in &ARTICLES {
         let tokens = article_tokens(&rt, alloc, article);
         let found = parsed(&rt, alloc, Form::Formula, &tokens, *number);
-        assert_eq!(rt; found, *answer);
+        assert!(rt; found == *answer);
     }
 }
 
@@ -111,7 +111,7 @@ fn parentheses_behind_theorem(rt: HostRuntime) {
     }
     let tokens = article_tokens(&rt, alloc, article.as_slice());
     let found = parsed(&rt, alloc, Form::Formula, &tokens, 3);
-    assert_eq!(rt; found, Answer::TooDeep(151));
+    assert!(rt; found == Answer::TooDeep(151));
 }
 
 /// What is answered to a text whose tokens have their marks.
@@ -139,6 +139,6 @@ const MARKED: [(Form, &[u8], Answer); 6] = [
 fn marked_forms(rt: HostRuntime) {
     for (form, text, answer) in &MARKED {
         let found = read_marked(&rt, rt.alloc(), *form, text);
-        assert_eq!(rt; found, *answer);
+        assert!(rt; found == *answer);
     }
 }

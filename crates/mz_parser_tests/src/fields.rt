@@ -88,6 +88,6 @@ const ROWS: [(Form, &[u8], Answer); 13] = [
 fn in_fields(rt: HostRuntime) {
     for (form, text, answer) in &ROWS {
         let found = answered_in_field(&rt, rt.alloc(), *form, text);
-        assert_eq!(rt; found, *answer);
+        assert!(rt; found == *answer);
     }
 }

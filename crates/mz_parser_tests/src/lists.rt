@@ -72,13 +72,10 @@ fn strange_tokens(rt: HostRuntime) {
     for word in STRANGE {
         for form in FORMS {
             let tokens = tokens_of(&rt, alloc, &[word]);
-            assert_eq!(rt; parsed(&rt, alloc, form, &tokens, 0), Answer::Unexpected(1));
+            assert!(rt; parsed(&rt, alloc, form, &tokens, 0) == Answer::Unexpected(1));
             let tokens = tokens_of(&rt, alloc, &[OPEN, IDENTIFIER, word]);
             let column = if form == Form::Declarations { 1 } else { 3 };
-            assert_eq!(rt;
-                parsed(&rt, alloc, form, &tokens, 0),
-                Answer::Unexpected(column)
-            );
+            assert!(rt; parsed(&rt, alloc, form, &tokens, 0) == Answer::Unexpected(column));
         }
     }
 }
@@ -123,6 +120,6 @@ fn kinds_decide(rt: HostRuntime) {
     let alloc = rt.alloc();
     for (words, answer) in ROWS {
         let tokens = tokens_of(&rt, alloc, words.as_slice());
-        assert_eq!(rt; parsed(&rt, alloc, Form::Terms, &tokens, 0), answer);
+        assert!(rt; parsed(&rt, alloc, Form::Terms, &tokens, 0) == answer);
     }
 }

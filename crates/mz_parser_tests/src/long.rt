@@ -10,7 +10,7 @@ fn functors(rt: HostRuntime) {
         Form::Formula,
         &[(b"+ ", 190_000), (b"x = x", 1)],
     );
-    assert_eq!(rt; found, Answer::Until(190_003));
+    assert!(rt; found == Answer::Until(190_003));
 }
 
 #[test]
@@ -21,7 +21,7 @@ fn selectors(rt: HostRuntime) {
         Form::Formula,
         &[(b"the car of ", 60_000), (b"x = x", 1)],
     );
-    assert_eq!(rt; found, Answer::Until(180_003));
+    assert!(rt; found == Answer::Until(180_003));
 }
 
 #[test]
@@ -32,5 +32,5 @@ fn lists(rt: HostRuntime) {
         Form::Formula,
         &[(b"x , ", 90_000), (b"x = x", 1)],
     );
-    assert_eq!(rt; found, Answer::Until(180_003));
+    assert!(rt; found == Answer::Until(180_003));
 }

@@ -78,5 +78,5 @@ fn patterns(rt: HostRuntime) {
             wrong.push(number).expect(&rt, "memory");
         }
     }
-    assert_eq!(rt; wrong.as_slice(), [0; 0].as_slice());
+    assert!(rt; wrong.as_slice() == [0; 0].as_slice());
 }

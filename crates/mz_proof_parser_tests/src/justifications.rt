@@ -41,6 +41,6 @@ const ROWS: [(&[u8], Answer); 31] = [
 fn justifications_without_a_proof(rt: HostRuntime) {
     let alloc = rt.alloc();
     for (text, answer) in &ROWS {
-        assert_eq!(rt; answered(&rt, alloc, Part::Simple, text), *answer);
+        assert!(rt; answered(&rt, alloc, Part::Simple, text) == *answer);
     }
 }

@@ -26,6 +26,6 @@ const ROWS: [(&[u8], Answer); 17] = [
 fn propositions(rt: HostRuntime) {
     let alloc = rt.alloc();
     for (text, answer) in &ROWS {
-        assert_eq!(rt; answered(&rt, alloc, Part::Proposition, text), *answer);
+        assert!(rt; answered(&rt, alloc, Part::Proposition, text) == *answer);
     }
 }

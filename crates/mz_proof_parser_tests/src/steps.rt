@@ -257,6 +257,6 @@ const ROWS: [(Part, &[u8], usize, Answer); 34] = [
 fn parts_of_reasonings(rt: HostRuntime) {
     let alloc = rt.alloc();
     for (part, text, room, answer) in &ROWS {
-        assert_eq!(rt; answered(&rt, alloc, *part, text, *room), *answer);
+        assert!(rt; answered(&rt, alloc, *part, text, *room) == *answer);
     }
 }

@@ -39,10 +39,7 @@ fn steps_of(rt: &impl Abort, alloc: Global, parts: &[Part]) -> Vec<Step> {
 fn equal_priorities_group_to_the_left(rt: HostRuntime) -> Result<(), Fail> {
     let alloc = rt.alloc();
     let parts = [OPERAND, AFTER_64, OPERAND, AFTER_64, OPERAND];
-    assert_eq!(rt;
-        order(&rt, alloc, parts.as_slice()).as_slice(),
-        [1, 3].as_slice()
-    );
+    assert!(rt; order(&rt, alloc, parts.as_slice()).as_slice() == [1, 3].as_slice());
     Ok(())
 }
 
@@ -50,15 +47,9 @@ fn equal_priorities_group_to_the_left(rt: HostRuntime) -> Result<(), Fail> {
 fn the_least_priority_is_applied_last(rt: HostRuntime) -> Result<(), Fail> {
     let alloc = rt.alloc();
     let parts = [OPERAND, AFTER_64, OPERAND, AFTER_66, OPERAND];
-    assert_eq!(rt;
-        order(&rt, alloc, parts.as_slice()).as_slice(),
-        [3, 1].as_slice()
-    );
+    assert!(rt; order(&rt, alloc, parts.as_slice()).as_slice() == [3, 1].as_slice());
     let parts = [OPERAND, AFTER_66, OPERAND, AFTER_64, OPERAND];
-    assert_eq!(rt;
-        order(&rt, alloc, parts.as_slice()).as_slice(),
-        [1, 3].as_slice()
-    );
+    assert!(rt; order(&rt, alloc, parts.as_slice()).as_slice() == [1, 3].as_slice());
     Ok(())
 }
 
@@ -67,18 +58,12 @@ fn symbols_in_a_row(rt: HostRuntime) -> Result<(), Fail> {
     let alloc = rt.alloc();
     // Of postfix symbols in a row only the first stands directly after an operand.
     let parts = [OPERAND, AFTER_64, ALONE_64];
-    assert_eq!(rt;
-        order(&rt, alloc, parts.as_slice()).as_slice(),
-        [2, 1].as_slice()
-    );
+    assert!(rt; order(&rt, alloc, parts.as_slice()).as_slice() == [2, 1].as_slice());
     // Of prefix symbols none does: the first is the head.
     let parts = [ALONE_64, ALONE_64, OPERAND];
-    assert_eq!(rt;
-        order(&rt, alloc, parts.as_slice()).as_slice(),
-        [1, 0].as_slice()
-    );
+    assert!(rt; order(&rt, alloc, parts.as_slice()).as_slice() == [1, 0].as_slice());
     let parts = [OPERAND, OPERAND, AFTER_64];
-    assert_eq!(rt; order(&rt, alloc, parts.as_slice()).len(), 0);
+    assert!(rt; order(&rt, alloc, parts.as_slice()).len() == 0);
     Ok(())
 }
 
@@ -104,6 +89,6 @@ fn a_long_run_is_grouped(rt: HostRuntime) -> Result<(), Fail> {
             .expect(&rt, "memory");
     }
     let count = order(&rt, alloc, parts.as_slice()).len();
-    assert_eq!(rt; count, 190000);
+    assert!(rt; count == 190000);
     Ok(())
 }

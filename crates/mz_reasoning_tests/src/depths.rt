@@ -37,8 +37,8 @@ fn proofs_in_proofs(rt: HostRuntime) {
         b"".as_slice(),
         b"end ; ".as_slice(),
     );
-    assert_eq!(rt; statement(&rt, alloc, words, 128), Answer::Until(512));
-    assert_eq!(rt; statement(&rt, alloc, words, 129), Answer::TooDeep(1702));
+    assert!(rt; statement(&rt, alloc, words, 128) == Answer::Until(512));
+    assert!(rt; statement(&rt, alloc, words, 129) == Answer::TooDeep(1702));
 }
 
 #[test]
@@ -49,8 +49,8 @@ fn cases_in_cases(rt: HostRuntime) {
         b"".as_slice(),
         b"end ; ".as_slice(),
     );
-    assert_eq!(rt; reasoning(&rt, alloc, words, 128), Answer::Until(1024));
-    assert_eq!(rt; reasoning(&rt, alloc, words, 129), Answer::TooDeep(3498));
+    assert!(rt; reasoning(&rt, alloc, words, 128) == Answer::Until(1024));
+    assert!(rt; reasoning(&rt, alloc, words, 129) == Answer::TooDeep(3498));
 }
 
 #[test]
@@ -61,8 +61,8 @@ fn premises_in_reasonings(rt: HostRuntime) {
         b"thesis from S(A); ".as_slice(),
         b"end ; ".as_slice(),
     );
-    assert_eq!(rt; statement(&rt, alloc, words, 127), Answer::Until(388));
-    assert_eq!(rt; statement(&rt, alloc, words, 128), Answer::TooDeep(556));
+    assert!(rt; statement(&rt, alloc, words, 127) == Answer::Until(388));
+    assert!(rt; statement(&rt, alloc, words, 128) == Answer::TooDeep(556));
 }
 
 /// A formula in so many parentheses in each of a hundred reasonings.
@@ -85,8 +85,8 @@ fn formula_inside(rt: &impl Abort, alloc: Global, times: usize) -> Answer {
 #[test]
 fn formulas_in_reasonings(rt: HostRuntime) {
     let alloc = rt.alloc();
-    assert_eq!(rt; formula_inside(&rt, alloc, 28), Answer::Until(360));
-    assert_eq!(rt; formula_inside(&rt, alloc, 29), Answer::TooDeep(459));
+    assert!(rt; formula_inside(&rt, alloc, 28) == Answer::Until(360));
+    assert!(rt; formula_inside(&rt, alloc, 29) == Answer::TooDeep(459));
 }
 
 /// A formula in so many parentheses behind a proof.
@@ -102,6 +102,6 @@ fn formula_behind(rt: &impl Abort, alloc: Global, times: usize) -> Answer {
 #[test]
 fn formulas_behind_proofs(rt: HostRuntime) {
     let alloc = rt.alloc();
-    assert_eq!(rt; formula_behind(&rt, alloc, 128), Answer::Until(268));
-    assert_eq!(rt; formula_behind(&rt, alloc, 129), Answer::TooDeep(184));
+    assert!(rt; formula_behind(&rt, alloc, 128) == Answer::Until(268));
+    assert!(rt; formula_behind(&rt, alloc, 129) == Answer::TooDeep(184));
 }

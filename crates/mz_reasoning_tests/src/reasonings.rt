@@ -40,6 +40,6 @@ const REASONINGS: [(&[u8], Answer); 16] = [
 fn reasonings(rt: HostRuntime) {
     let alloc = rt.alloc();
     for (text, answer) in &REASONINGS {
-        assert_eq!(rt; answered(&rt, alloc, ProofForm::Reasoning, text), *answer);
+        assert!(rt; answered(&rt, alloc, ProofForm::Reasoning, text) == *answer);
     }
 }

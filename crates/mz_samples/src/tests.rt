@@ -66,9 +66,9 @@ fn other_texts_are_refused(rt: HostRuntime) {
 fn parts_of_a_text(rt: HostRuntime) {
     let alloc = rt.alloc();
     let d = disjunct(alloc, "A.R1 (not (= c1 c2)) (all (A.R1 b0)) (A.R2 c1)").expect(&rt, "");
-    assert_eq!(rt; (d.literals.len(), d.universals.len()), (3, 1));
+    assert!(rt; (d.literals.len(), d.universals.len()) == (3, 1));
     let s = sequent(alloc, "A.R1, (A.R2 c1) |- (= c1 c1)").expect(&rt, "a sequent");
-    assert_eq!(rt; s.premises.len(), 2);
+    assert!(rt; s.premises.len() == 2);
     let ls = letters(alloc, "A.P1 (all (A.R1 b0 b1))\nA.F1 c2").expect(&rt, "letters");
-    assert_eq!(rt; ls.items.len(), 2);
+    assert!(rt; ls.items.len() == 2);
 }

@@ -188,6 +188,6 @@ fn spellings_of_headings(rt: HostRuntime) {
     ];
     for (row, text) in rows.iter().enumerate() {
         let found = words(&rt, rt.alloc(), &heading(&rt, rt.alloc(), row));
-        assert_eq!(rt; found.as_slice(), *text);
+        assert!(rt; found.as_slice() == *text);
     }
 }

@@ -151,6 +151,6 @@ fn spellings_of_items(rt: HostRuntime) {
     ];
     for (row, text) in rows.iter().enumerate() {
         let found = row_words(&rt, rt.alloc(), row);
-        assert_eq!(rt; found.as_slice(), *text);
+        assert!(rt; found.as_slice() == *text);
     }
 }

@@ -86,7 +86,7 @@ fn spellings_of_registrations(rt: HostRuntime) {
     ];
     for (row, text) in rows.iter().enumerate() {
         let found = words(&rt, rt.alloc(), &cluster(&rt, rt.alloc(), row));
-        assert_eq!(rt; found.as_slice(), *text);
+        assert!(rt; found.as_slice() == *text);
     }
 }
 

@@ -112,6 +112,6 @@ fn spellings_of_patterns(rt: HostRuntime) {
     ];
     for (row, text) in rows.iter().enumerate() {
         let found = words(&rt, rt.alloc(), &pattern(&rt, rt.alloc(), row));
-        assert_eq!(rt; found.as_slice(), *text);
+        assert!(rt; found.as_slice() == *text);
     }
 }

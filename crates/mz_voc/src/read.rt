@@ -125,7 +125,7 @@ mod tests {
             (b"Rx\nOx 999\nRx", Answer::BadPriority(2)),
         ];
         for (bytes, want) in rows {
-            assert_eq!(rt; told(rt.alloc(), bytes), want, "at {bytes:?}");
+            assert!(rt; told(rt.alloc(), bytes) == want, "at {bytes:?}");
         }
         Ok(())
     }
@@ -138,11 +138,11 @@ mod tests {
             (SymbolKind::Functor, b"/\\", 66),
             (SymbolKind::Predicate, b"c=", 64),
         ];
-        assert_eq!(rt; vocabulary.items.len(), 3);
+        assert!(rt; vocabulary.items.len() == 3);
         for (entry, (kind, spelling, priority)) in vocabulary.items.iter().zip(rows) {
-            assert_eq!(rt; entry.kind, kind);
-            assert_eq!(rt; entry.spelling.as_slice(), spelling);
-            assert_eq!(rt; entry.priority, priority);
+            assert!(rt; entry.kind == kind);
+            assert!(rt; entry.spelling.as_slice() == spelling);
+            assert!(rt; entry.priority == priority);
         }
         Ok(())
     }

@@ -48,9 +48,9 @@ fn reads<R: Abort>(rt: &R, alloc: Global, rows: &[Row]) {
         let words = words_of(rt, alloc, line);
         match read_words(alloc, words.as_slice()) {
             Ok(order) => {
-                assert_eq!(rt; order.workers, *workers);
-                assert_eq!(rt; order.list, *list);
-                assert_eq!(rt; order.generate, *generate);
+                assert!(rt; order.workers == *workers);
+                assert!(rt; order.list == *list);
+                assert!(rt; order.generate == *generate);
                 let numbers = numbers_of(rt, alloc, names);
                 assert!(rt; has_names(&order, numbers.as_slice()));
             }

@@ -97,7 +97,7 @@ fn the_chain_is_closed_where_no_cluster_lacks(rt: HostRuntime) {
     for (lefts, wanted) in rows {
         let clauses = registrations(&rt, alloc, lefts);
         let found = by(alloc, &problem(&rt, alloc), &clauses).expect(&rt, "memory");
-        assert_eq!(&rt; found, wanted, "{lefts:?}");
+        assert!(&rt; found == wanted, "{lefts:?}");
     }
 }
 
@@ -121,7 +121,7 @@ fn the_first_clauses_count(rt: HostRuntime) {
         (usize::MAX, ByVerdict::Closed),
     ] {
         let found = by_first(alloc, &problem(&rt, alloc), &clauses, count).expect(&rt, "memory");
-        assert_eq!(&rt; found, wanted, "{count}");
+        assert!(&rt; found == wanted, "{count}");
     }
 }
 
@@ -134,13 +134,13 @@ fn one_attribute_a_layer(rt: HostRuntime) {
     let clauses = registrations(&rt, alloc, &[1, 2, 3]);
     let d = split.items.first().expect(&rt, "a disjunct");
     let g = ground(alloc, d, clauses.as_slice()).expect(&rt, "a ground part");
-    assert_eq!(&rt; g.ends.items.len(), 5);
+    assert!(&rt; g.ends.items.len() == 5);
     for (i, atoms) in [1, 2, 3, 4, 4].into_iter().enumerate() {
         let wanted = LayerEnd {
             terms: 3,
             atoms,
             equations: 0,
         };
-        assert_eq!(&rt; g.ends.items.get(i), Some(&wanted), "{i}");
+        assert!(&rt; g.ends.items.get(i) == Some(&wanted), "{i}");
     }
 }
