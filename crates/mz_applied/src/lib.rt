@@ -1,0 +1,9 @@
+//! Symbols applied to arguments that are read already: what they are read to, and why to nothing.
+#![tactic(auto)]
+
+pub mod application;
+pub mod laws;
+pub mod meant;
+pub mod private;
+pub mod reading;
+pub mod within;
