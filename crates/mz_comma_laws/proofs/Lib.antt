@@ -1,0 +1,4 @@
+pub mod OnlyBehind
+pub mod Atoms
+pub mod Formulas
+pub mod Longer

@@ -1,0 +1,3 @@
+pub mod CaseForms
+pub mod Classes
+pub mod MeaningForms
