@@ -9,7 +9,7 @@ use Rattle.mz_core.specs.Abstraction.{statement_over}
 use Rattle.mz_core.specs.Parts.{conjunction}
 use Rattle.mz_core.specs.declared.soft_type.SoftType.{SoftType}
 use Rattle.mz_logic.specs.Term.{Term}
-use Rattle.mz_now.specs.Stated.{with_term, with_terms, conjuncts_with, conjuncts_of, stated_by}
+use Rattle.mz_now.specs.Stated.{with_term, conjuncts_with, conjuncts_of, stated_by}
 use Rattle.mz_now.specs.declared.now_part.NowPart.{NowPart}
 use Rattle.mz_now.specs.declared.now_part.NowPart.TheVariants.{Quantifier, Antecedent, Conjunct, Defined, Hidden}
 
@@ -20,17 +20,6 @@ from_last ps (suc n) j p ej lt le e =
     let same : j ≡ n = omega (arith, ej) in
     let within : j < length ps = omega (arith, le, same) in
     drop-cons ps j p within ∙ (ap (λ q. q ∷ drop (suc j) ps) (sym e) ∙ ap (λ m. p ∷ drop (suc m) ps) same)
-
-pub told_term : (ps : List NowPart) (i j : ℕ) (p : NowPart) (s out new : Statement) → j ≡ i - 1 → 0 < i → i ≤ length ps → p ≡ get_or ps j p → out ≡ with_terms (drop i ps) s → new ≡ with_term p out → new ≡ with_terms (drop j ps) s
-told_term ps i j p s out new ej lt le e h k = k ∙ (ap (with_term p) h ∙ ap (λ qs. with_terms qs s) (sym (from_last ps i j p ej lt le e)))
-
-pub told_no_term : (ps : List NowPart) (i : ℕ) (s out : Statement) → i ≡ length ps → out ≡ s → out ≡ with_terms (drop i ps) s
-told_no_term ps i s out ei h = h ∙ ap (λ qs. with_terms qs s) (sym (drop-length ps) ∙ ap (λ m. drop m ps) (sym ei))
-
-pub told_terms : (ps : List NowPart) (i : ℕ) (s out : Statement) → i ≡ 0 → out ≡ with_terms (drop i ps) s → out ≡ with_terms ps s
-told_terms ps i s out ei h = h ∙ ap (λ m. with_terms (drop m ps) s) ei
-
-pub ruleset term_rules = (told_term, told_no_term, told_terms)
 
 -- the statements in reverse
 reverse-map : (f : Statement → Statement) (ss : List Statement) → reverse (map f ss) ≡ map f (reverse ss)

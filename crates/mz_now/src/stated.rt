@@ -1,23 +1,20 @@
 //! What a `now` states by its steps.
 ghost use Rattle.std.specs.Prelude.{◌≡◌, ◌∷◌, [], map, reverse, IfOk, OnOk};
-ghost use Rattle.std.specs.List.{list_any};
-ghost use Rattle.mz_core.specs.Statement.{Truth, For};
+ghost use Rattle.mz_core.specs.Statement.{For};
 ghost use Rattle.mz_core.specs.StatementForms.{implication};
 ghost use Rattle.mz_core.specs.Abstraction.{statement_over};
 ghost use Rattle.mz_core.specs.TypeSubstitution.{statement_at};
 ghost use Rattle.mz_core.specs.Parts.{conjunction};
-ghost use Rattle.mz_now.specs.Stated.{with_term, with_terms, hides, has_hidden, brings_hidden, conjuncts_with, conjuncts_of, stated_by};
+ghost use Rattle.mz_now.specs.Stated.{with_term, conjuncts_with, conjuncts_of, stated_by};
 
 use crate::now_part::{NowPart, NowParts};
 use mz_core::abstraction::statement_over;
-use mz_core::erasure::erase;
 use mz_core::parts::conjunction;
 use mz_core::soft_type::SoftType;
 use mz_core::statement::Statement;
 use mz_core::statement_forms::implication;
 use mz_core::statements::Statements;
 use mz_core::type_substitution::statement_at;
-use mz_logic::formula::Formula;
 use mz_logic::term::Term;
 use std::alloc::{AllocError, Global};
 
@@ -38,72 +35,6 @@ fn with_term(alloc: Global, p: &NowPart, s: Statement) -> Result<Statement, Allo
         NowPart::Conjunct(_) => Ok(s),
         NowPart::Defined { constant, term } => replaced(alloc, &s, *constant, term),
         NowPart::Hidden { .. } => Ok(s),
-    }
-}
-
-#[tactic(auto, using(crate::proofs::StatedLemmas::term_rules))]
-fn with_terms(alloc: Global, ps: &[NowPart], s: &Statement) -> Result<Statement, AllocError>
-    ensures { IfOk result (λ r. r ≡ with_terms ps.now s.now) }
-{
-    let mut out = s.copy(alloc)?;
-    let mut i = ps.len();
-    while i > 0 {
-        i -= 1;
-        out = with_term(alloc, &ps[i], out)?;
-    }
-    Ok(out)
-}
-
-fn hides(p: &NowPart, f: &Formula) -> bool
-    ensures { result ≡ hides f.now p.now }
-{
-    match p {
-        NowPart::Quantifier { .. } => false,
-        NowPart::Antecedent(_) => false,
-        NowPart::Conjunct(_) => false,
-        NowPart::Defined { .. } => false,
-        NowPart::Hidden { constant } => f.has_constant(*constant),
-    }
-}
-
-fn some_hides(ps: &[NowPart], f: &Formula) -> bool
-    ensures { result ≡ list_any (hides f.now) ps.now }
-{
-    for p in ps {
-        if hides(p, f) {
-            return true;
-        }
-    }
-    false
-}
-
-/// Whether the statement has a hidden constant, as it is or by what its defined constants stand for.
-fn has_hidden(alloc: Global, ps: &[NowPart], s: &Statement) -> Result<bool, AllocError>
-    ensures { IfOk result (λ b. b ≡ has_hidden ps.now s.now) }
-{
-    let s = Box::new(alloc, with_terms(alloc, ps, s)?)?;
-    let f = erase(alloc, &s)?;
-    Ok(some_hides(ps, &f))
-}
-
-fn type_has_hidden(alloc: Global, ps: &[NowPart], ty: &SoftType) -> Result<bool, AllocError>
-    ensures { IfOk result (λ b. b ≡ has_hidden ps.now (For ty.now Truth)) }
-{
-    let ty = ty.copy(alloc)?;
-    let s = Box::new(alloc, Statement::each(alloc, ty, Statement::truth())?)?;
-    has_hidden(alloc, ps, &s)
-}
-
-/// Whether the further part would bring a hidden constant into what is stated.
-pub fn brings_hidden(alloc: Global, ps: &[NowPart], p: &NowPart) -> Result<bool, AllocError>
-    ensures { IfOk result (λ b. b ≡ brings_hidden ps.now p.now) }
-{
-    match p {
-        NowPart::Quantifier { ty, .. } => type_has_hidden(alloc, ps, ty),
-        NowPart::Antecedent(s) => has_hidden(alloc, ps, s),
-        NowPart::Conjunct(s) => has_hidden(alloc, ps, s),
-        NowPart::Defined { .. } => Ok(false),
-        NowPart::Hidden { .. } => Ok(false),
     }
 }
 
