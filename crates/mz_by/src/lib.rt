@@ -6,5 +6,3 @@ pub mod by_verdict;
 pub mod examination;
 pub mod examine;
 pub mod laws;
-#[cfg(test)]
-mod tests;

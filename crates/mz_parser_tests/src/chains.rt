@@ -1,5 +1,6 @@
 //! Chains and quantifiers.
-use crate::texts::{Answer, check};
+use crate::texts::check;
+use mz_parser_samples::answer::Answer;
 use mz_pexpr::forms::Form;
 
 /// Texts with operators and quantifiers, and the answers.

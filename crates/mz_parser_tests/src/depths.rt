@@ -1,5 +1,6 @@
 //! How deep constructs nest.
-use crate::texts::{Answer, Piece, answered};
+use crate::texts::{Piece, answered};
+use mz_parser_samples::answer::Answer;
 use mz_pexpr::forms::Form;
 use std::alloc::Global;
 use std::process::Abort;

@@ -1,5 +1,6 @@
 //! Expressions from some token of a text on, whose commas have the marks of the whole text.
-use crate::texts::{Answer, answer_of, article_tokens, parsed, tokens_behind_begin};
+use crate::texts::{answer_of, article_tokens, parsed, tokens_behind_begin};
+use mz_parser_samples::answer::Answer;
 use mz_pexpr::forms::Form;
 use mz_pexpr::marking::marked_tokens;
 use mz_pexpr::parse::read;

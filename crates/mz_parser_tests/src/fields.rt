@@ -1,7 +1,8 @@
 //! Expressions in the type of a field, where a selector may stand without `of`.
-use crate::texts::{Answer, answer_of, tokens_behind_begin};
+use crate::texts::{answer_of, tokens_behind_begin};
 use mz_base::place::Place;
 use mz_base::token::MarkedToken;
+use mz_parser_samples::answer::Answer;
 use mz_pexpr::forms::{Expression, Form};
 use mz_pexpr::marking::marked_tokens;
 use mz_pformula::parse::formula;

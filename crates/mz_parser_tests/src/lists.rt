@@ -1,9 +1,10 @@
 //! Lists of tokens that are made by hand, some of which no text has.
-use crate::texts::{Answer, parsed};
+use crate::texts::parsed;
 use mz_base::place::Place;
 use mz_base::symbol_kind::SymbolKind;
 use mz_base::text::Text;
 use mz_base::token::{Token, TokenKind, Tokens};
+use mz_parser_samples::answer::Answer;
 use mz_pexpr::forms::Form;
 use std::alloc::Global;
 use std::process::Abort;

@@ -1,5 +1,6 @@
 //! Long texts, which nest nothing: they are read, spelled, copied and let go by loops.
-use crate::texts::{Answer, answered};
+use crate::texts::answered;
+use mz_parser_samples::answer::Answer;
 use mz_pexpr::forms::Form;
 
 #[test]

@@ -1,5 +1,6 @@
 //! Terms.
-use crate::texts::{Answer, check};
+use crate::texts::check;
+use mz_parser_samples::answer::Answer;
 use mz_pexpr::forms::Form;
 
 /// Each alternative once, and each place where one token doesn't decide twice.

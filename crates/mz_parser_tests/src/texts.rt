@@ -1,12 +1,9 @@
 //! What the parser of expressions answers to a text.
-use mz_base::name::Name;
 use mz_base::place::Place;
-use mz_base::text::Text;
 use mz_base::token::{MarkedToken, Tokens};
-use mz_base::vocabularies::{Vocabularies, VocabularyText};
-use mz_lex::head::head;
-use mz_lex::table::table;
-use mz_lex::tokens::tokens;
+use mz_parser_samples::answer::{Answer, are_same, refused};
+use mz_parser_samples::texts;
+use mz_parser_samples::texts::SYMBOLS;
 use mz_pexpr::forms::{Expression, Form};
 use mz_pexpr::marking::marked_tokens;
 use mz_pexpr::parse::expression;
@@ -14,42 +11,6 @@ use mz_pterm::parse::ParseFault;
 use mz_tree::tree::{Copied, Spell};
 use std::alloc::Global;
 use std::process::Abort;
-use std::sync::Arc;
-
-/// A structure, brackets, a mode, functors, a predicate, a selector and an attribute.
-const SYMBOLS: &[u8] = b"Gstr\nKlb\nLrb\nLrc\nMmod\nO+\nO*\nRless\nUcar\nVodd\n";
-
-/// An answer: the number of tokens of the tree, or a refusal with its column, and with its line where it isn't the first.
-#[derive(Clone, Copy, Debug, PartialEq, Eq)]
-pub enum Answer {
-    Until(usize),
-    Unexpected(u64),
-    UnexpectedBelow(u64, u64),
-    TooDeep(u64),
-    EndsEarly(u64),
-    EndsEarlyBelow(u64, u64),
-    Memory,
-    /// There are too few tokens.
-    TooFew,
-    /// The tree is of another form, or it, its copy or its first place isn't that of the tokens that were taken.
-    Misspelled,
-}
-
-fn is_same(left: &MarkedToken, right: &MarkedToken) -> bool {
-    left.mark == right.mark
-        && left.token.kind == right.token.kind
-        && left.token.place == right.token.place
-        && left.token.spelling.as_slice() == right.token.spelling.as_slice()
-        && left.token.priority == right.token.priority
-}
-
-fn are_same(left: &[MarkedToken], right: &[MarkedToken]) -> bool {
-    left.len() == right.len()
-        && left
-            .iter()
-            .zip(right.iter())
-            .all(|(left, right)| is_same(left, right))
-}
 
 /// Whether the tree and its copy are spelled by these tokens, the first of which stands at this place.
 fn is_spelled<T: Copied + Spell>(
@@ -100,18 +61,6 @@ fn is_read(
     }
 }
 
-/// The answer where a parse refuses.
-fn refused(fault: &ParseFault) -> Answer {
-    match fault {
-        ParseFault::Unexpected { place } if place.line == 1 => Answer::Unexpected(place.column),
-        ParseFault::Unexpected { place } => Answer::UnexpectedBelow(place.line, place.column),
-        ParseFault::TooDeep { place } => Answer::TooDeep(place.column),
-        ParseFault::EndsEarly { place } if place.line == 1 => Answer::EndsEarly(place.column),
-        ParseFault::EndsEarly { place } => Answer::EndsEarlyBelow(place.line, place.column),
-        ParseFault::Memory => Answer::Memory,
-    }
-}
-
 /// What a parse of this form from a token on answered.
 pub fn answer_of(
     rt: &impl Abort,
@@ -148,17 +97,7 @@ pub fn parsed(rt: &impl Abort, alloc: Global, form: Form, tokens: &Tokens, from:
 
 /// The tokens of an article.
 pub fn article_tokens(rt: &impl Abort, alloc: Global, article: &[u8]) -> Tokens {
-    let symbols = Text::from_slice(alloc, SYMBOLS).expect(rt, "memory");
-    let mut items = Vec::new(alloc);
-    items
-        .push(VocabularyText {
-            name: Name::read(b"A").expect(rt, "a name"),
-            text: Some(Arc::new(alloc, symbols).expect(rt, "memory")),
-        })
-        .expect(rt, "memory");
-    let environment = head(alloc, article).expect(rt, "a head");
-    let table = table(alloc, &Vocabularies { items }, &environment).expect(rt, "a table");
-    tokens(alloc, &table, article).expect(rt, "tokens")
+    texts::article_tokens(alloc, SYMBOLS, article).expect(rt, "tokens")
 }
 
 /// A piece of a text, which stands there so many times in a row.

@@ -1,5 +1,6 @@
 //! Types, adjectives and declarations.
-use crate::texts::{Answer, check};
+use crate::texts::check;
+use mz_parser_samples::answer::Answer;
 use mz_pexpr::forms::Form;
 
 /// Types.

@@ -1,5 +1,6 @@
 //! Units.
-use crate::texts::{Answer, check};
+use crate::texts::check;
+use mz_parser_samples::answer::Answer;
 use mz_pexpr::forms::Form;
 
 /// Texts that begin with a unit, and the answers.

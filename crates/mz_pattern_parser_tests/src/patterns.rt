@@ -1,5 +1,6 @@
 //! Patterns of notations.
-use crate::texts::{Answer, article_tokens, refused, taken};
+use crate::texts::{article_tokens, taken};
+use mz_parser_samples::answer::{Answer, refused};
 use mz_pexpr::marking::marked_tokens;
 use mz_ppattern::patterns::pattern;
 use mz_pterm::parse::fault;

@@ -1,5 +1,6 @@
 //! Justifications without a proof.
-use crate::texts::{Answer, Part, answered};
+use crate::texts::{Part, answered};
+use mz_parser_samples::answer::Answer;
 
 const ROWS: [(&[u8], Answer); 31] = [
     (b"", Answer::Until(0)),

@@ -1,5 +1,6 @@
 //! Propositions.
-use crate::texts::{Answer, Part, answered};
+use crate::texts::{Part, answered};
+use mz_parser_samples::answer::Answer;
 
 const ROWS: [(&[u8], Answer); 17] = [
     (b"x = y;", Answer::Until(3)),

@@ -1,8 +1,10 @@
 //! Statements that introduce names, steps that need no justification, splits, and steps of an iterative equality.
-use crate::texts::{Answer, article_tokens, marked, refused, taken};
+use crate::texts::{article_tokens, taken};
 use mz_base::place::Place;
 use mz_base::token::MarkedToken;
 use mz_forms::refusal::Refusal;
+use mz_parser_samples::answer::{Answer, refused};
+use mz_pexpr::marking::marked_tokens;
 use mz_pstep::equalities::equality_step;
 use mz_pstep::introductions::{consider, deffunc, defpred, reconsider, set_statement};
 use mz_pstep::skeletons::{assume, given, let_step, split, take};
@@ -128,7 +130,7 @@ fn stepped(
 /// What is answered to this text, where so many constructs may still be opened.
 fn answered(rt: &impl Abort, alloc: Global, part: Part, text: &[u8], room: usize) -> Answer {
     let tokens = article_tokens(rt, alloc, text);
-    let all = marked(rt, alloc, &tokens);
+    let all = marked_tokens(alloc, &tokens).expect(rt, "memory");
     if all.len() < 5 {
         return Answer::TooFew;
     }

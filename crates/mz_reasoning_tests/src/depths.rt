@@ -1,5 +1,6 @@
 //! How deep proofs nest, with the expressions in them.
-use crate::texts::{Answer, answered};
+use crate::texts::answered;
+use mz_parser_samples::answer::Answer;
 use mz_pproof::forms::ProofForm;
 use std::alloc::Global;
 use std::process::Abort;

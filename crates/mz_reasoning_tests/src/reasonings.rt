@@ -1,5 +1,6 @@
 //! Reasonings.
-use crate::texts::{Answer, answered};
+use crate::texts::answered;
+use mz_parser_samples::answer::Answer;
 use mz_pproof::forms::ProofForm;
 
 const REASONINGS: [(&[u8], Answer); 16] = [

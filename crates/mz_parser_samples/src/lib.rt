@@ -1,0 +1,5 @@
+//! The tokens of texts, and what parsers answer to them. For tests alone.
+#![tactic(auto)]
+
+pub mod answer;
+pub mod texts;

@@ -1,0 +1,48 @@
+//! The tokens of texts.
+use mz_base::name::Name;
+use mz_base::text::Text;
+use mz_base::token::Tokens;
+use mz_base::vocabularies::{Vocabularies, VocabularyText};
+use mz_lex::head::head;
+use mz_lex::table::table;
+use mz_lex::tokens::tokens;
+use mz_samples::fault::SampleFault;
+use std::alloc::Global;
+use std::sync::Arc;
+
+/// A structure, brackets, a mode, functors, a predicate, a selector and an attribute.
+pub const SYMBOLS: &[u8] = b"Gstr\nKlb\nLrb\nLrc\nMmod\nO+\nO*\nRless\nUcar\nVodd\n";
+
+/// The vocabulary `A` with these symbols.
+fn vocabularies(alloc: Global, symbols: &[u8]) -> Result<Vocabularies, SampleFault> {
+    let name = Name::read(b"A").ok().ok_or(SampleFault::Text)?;
+    let text = Text::from_slice(alloc, symbols)?;
+    let text = Arc::new(alloc, text)?;
+    let mut items = Vec::new(alloc);
+    items.push(VocabularyText {
+        name,
+        text: Some(text),
+    })?;
+    Ok(Vocabularies { items })
+}
+
+/// The tokens of an article, where `A` is the vocabulary with these symbols.
+pub fn article_tokens(
+    alloc: Global,
+    symbols: &[u8],
+    article: &[u8],
+) -> Result<Tokens, SampleFault> {
+    let environment = head(alloc, article).ok().ok_or(SampleFault::Text)?;
+    let vocabularies = vocabularies(alloc, symbols)?;
+    let table = table(alloc, &vocabularies, &environment);
+    let table = table.ok().ok_or(SampleFault::Text)?;
+    tokens(alloc, &table, article).ok().ok_or(SampleFault::Text)
+}
+
+/// The tokens of an article with this text behind its `begin`, the sixth of which is the first of the text. Its first byte
+/// stands in column 31.
+pub fn tokens_behind_begin(alloc: Global, text: &[u8]) -> Result<Tokens, SampleFault> {
+    let mut bytes = Vec::from_slice(alloc, b"environ vocabularies A; begin ".as_slice())?;
+    bytes.extend_from_slice(text)?;
+    article_tokens(alloc, SYMBOLS, bytes.as_slice())
+}
