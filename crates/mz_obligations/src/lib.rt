@@ -1,0 +1,5 @@
+//! Obligations: what has to be decided for a justification.
+#![tactic(auto)]
+
+pub mod asking;
+pub mod obligation;
