@@ -2,7 +2,7 @@
 use Rattle.std.proofs.Common.{◌≡◌, ◌≤◌, ◌+◌, ℕ, zero, suc, List, [], ◌∷◌, ◌++◌, map, length, refl, ap, sym, ◌∙◌, subst, arith, Bool, true, false, inl, inr, ◌⊎◌, Option, Some, None, length-append}
 use Rattle.std.specs.Prelude.{Contains, flat_map}
 use Rattle.std.specs.List.{list_all}
-use Rattle.std.proofs.lemmas.List.{map-append}
+use Rattle.std.proofs.lemmas.List.{append-nil, map-append}
 use Rattle.std.proofs.lemmas.List.Elements.{Contains-append_cases}
 use Rattle.std.proofs.lemmas.Bool.{and_parts, and_from, lt-ltb}
 use Rattle.mz_logic.specs.declared.sym.Sym.{Sym}
@@ -50,7 +50,7 @@ use Rattle.mz_thesis_laws.specs.StepLaws.{AreUnfoldings}
 use Rattle.mz_thesis_laws.proofs.StatementProofs.{opposite_in, parts_out}
 use Rattle.mz_thesis_laws.proofs.RowProofs.{generalized, granted_with_fresh}
 use Rattle.mz_thesis_laws.proofs.UnfoldProofs.{unfolds_law}
-use Rattle.mz_problem_laws.specs.ProblemLaw.{KnownIsClosed, ProblemLaw}
+use Rattle.mz_problem_laws.specs.ProblemLaw.{KnownIsClosed, ProblemLaw, JoinedProblemLaw}
 
 -- what is granted from some premises is granted from others that derive these
 granted_more : (ax g h : List Formula) (cs : List Clause) (ks : List (Option Constant)) → Each ax h g → AreGranted ax g cs ks → AreGranted ax h cs ks
@@ -199,8 +199,8 @@ opened ax cs ks s tys t (at_constant ls ty us r v o) g fs grants in_g in_s below
         below
 
 -- the problem, where the statement is open
-asked_derives : (ax : List Formula) (cs : List Clause) (ks : List (Option Constant)) (us : List Unfolding) → AreUnfoldings ax us → (given : List Statement) (known fresh : List Literal) (t : Statement) (p : Problem) → AskedAt cs ks us given known fresh t p → (h : List Formula) → AreGranted ax h cs ks → list_all (statement_below 0) given ≡ true → AreClosedLiterals known → AreClosedLiterals fresh → statement_below 0 t ≡ true → Along ax h (map erase given) → Along ax h (map literal_formula known) → Along ax h (map literal_formula fresh) → Derives ax p.premises p.conclusion → Derives ax h (erase t)
-asked_derives ax cs ks us each given known fresh t p (with_added added a) h grants bg bk bf bt dg dk df d =
+asked_derives : (ax more : List Formula) (cs : List Clause) (ks : List (Option Constant)) (us : List Unfolding) → AreUnfoldings ax us → (given : List Statement) (known fresh : List Literal) (t : Statement) (p : Problem) → AskedAt cs ks us given known fresh t p → (h : List Formula) → AreGranted ax h cs ks → list_all (statement_below 0) given ≡ true → AreClosedLiterals known → AreClosedLiterals fresh → statement_below 0 t ≡ true → Along ax h (map erase given) → Along ax h (map literal_formula known) → Along ax h (map literal_formula fresh) → Along ax h more → Derives ax (p.premises ++ more) p.conclusion → Derives ax h (erase t)
+asked_derives ax more cs ks us each given known fresh t p (with_added added a) h grants bg bk bf bt dg dk df dm d =
     let no : Formula = formula.Not (erase t) in
     let k : List Formula = no ∷ h in
     let up : (fs : List Formula) → Along ax h fs → Each ax k fs = λ fs x. each_under ax h fs no (each_along ax h fs x) in
@@ -217,21 +217,31 @@ asked_derives ax cs ks us each given known fresh t p (with_added added a) h gran
     along_both ax k ((flat_map parts given ++ map literal_statement known) ++ map literal_statement fresh) (parts (opposite t))
     (along_both ax k (flat_map parts given ++ map literal_statement known) (map literal_statement fresh) (along_both ax k (flat_map parts given) (map literal_statement known) (parts_along ax k given given_k) known_k) fresh_k)
     (parts_out ax k (opposite t) (opposite_in ax k t (first ax h no))) in
-    let more : Along ax k (map erase added) = all_add_derive ax k cs ks us grants' each ps added a closed_ps all in
+    let joined : Along ax k (map erase added) = all_add_derive ax k cs ks us grants' each ps added a closed_ps all in
     let premises : Each ax k (((map erase given ++ map literal_formula known) ++ map erase added) ++ map literal_formula fresh) =
     each_append ax k ((map erase given ++ map literal_formula known) ++ map erase added) (map literal_formula fresh)
-    (each_append ax k (map erase given ++ map literal_formula known) (map erase added) (each_append ax k (map erase given) (map literal_formula known) (up (map erase given) dg) (up (map literal_formula known) dk)) (each_along ax k (map erase added) more))
+    (each_append ax k (map erase given ++ map literal_formula known) (map erase added) (each_append ax k (map erase given) (map literal_formula known) (up (map erase given) dg) (up (map literal_formula known) dk)) (each_along ax k (map erase added) joined))
     (up (map literal_formula fresh) df) in
-    classical ax h (erase t) (not_out ax k (erase t) falsity (cut_each ax k (((map erase given ++ map literal_formula known) ++ map erase added) ++ map literal_formula fresh) (erase t) premises d) (first ax h no))
+    let all_premises : Each ax k ((((map erase given ++ map literal_formula known) ++ map erase added) ++ map literal_formula fresh) ++ more) =
+    each_append ax k (((map erase given ++ map literal_formula known) ++ map erase added) ++ map literal_formula fresh) more premises (up more dm) in
+    classical ax h (erase t) (not_out ax k (erase t) falsity (cut_each ax k ((((map erase given ++ map literal_formula known) ++ map erase added) ++ map literal_formula fresh) ++ more) (erase t) all_premises d) (first ax h no))
 
-pub problem_law : ProblemLaw
-problem_law ax g cs ks us grants each in_g closed given bg dg s in_s free p (asks tys t o a) d =
+pub joined_problem_law : JoinedProblemLaw
+joined_problem_law ax g cs ks us grants each in_g closed given bg dg s in_s free p (asks tys t o a) more dm d =
     let known_all : Along ax g (map literal_formula (known_in ks (formulas_of given s))) = known_derive ax g cs ks grants (reached ks (below (occurs_in_some (formulas_of given s)) (numbers ks))) in
-    let fs : List Formula = map erase given ++ map literal_formula (known_in ks (formulas_of given s)) in
-    let each_fs : Each ax g (map erase given ++ map literal_formula (known_in ks (formulas_of given s))) = each_append ax g (map erase given) (map literal_formula (known_in ks (formulas_of given s))) dg (each_along ax g (map literal_formula (known_in ks (formulas_of given s))) known_all) in
+    let known : List Formula = map literal_formula (known_in ks (formulas_of given s)) in
+    let both : List Formula = map erase given ++ known in
+    let fs : List Formula = both ++ more in
+    let each_both : Each ax g both = each_append ax g (map erase given) known dg (each_along ax g known known_all) in
+    let each_fs : Each ax g fs = each_append ax g both more each_both dm in
     opened ax cs ks s tys t o g fs grants in_g in_s free each_fs
     (λ h grants' each' guards closed_guards bt.
-    asked_derives ax cs (with_all_fresh ks tys) us each given (known_in ks (formulas_of given s)) (guards_from (numbers ks) tys) t p a h grants' bg (of_some ks (reached ks (below (occurs_in_some (formulas_of given s)) (numbers ks))) closed) closed_guards bt
-    (along_each ax h (map erase given) (each_left ax h (map erase given) (map literal_formula (known_in ks (formulas_of given s))) each'))
-    (along_each ax h (map literal_formula (known_in ks (formulas_of given s))) (each_right ax h (map erase given) (map literal_formula (known_in ks (formulas_of given s))) each'))
-    (along_each ax h (map literal_formula (guards_from (numbers ks) tys)) guards) d)
+    asked_derives ax more cs (with_all_fresh ks tys) us each given (known_in ks (formulas_of given s)) (guards_from (numbers ks) tys) t p a h grants' bg (of_some ks (reached ks (below (occurs_in_some (formulas_of given s)) (numbers ks))) closed) closed_guards bt
+    (along_each ax h (map erase given) (each_left ax h (map erase given) known (each_left ax h both more each')))
+    (along_each ax h known (each_right ax h (map erase given) known (each_left ax h both more each')))
+    (along_each ax h (map literal_formula (guards_from (numbers ks) tys)) guards)
+    (along_each ax h more (each_right ax h both more each')) d)
+
+pub problem_law : ProblemLaw
+problem_law ax g cs ks us grants each in_g closed given bg dg s in_s free p asked d =
+    joined_problem_law ax g cs ks us grants each in_g closed given bg dg s in_s free p asked [] (each_none ax g) (subst (λ fs. Derives ax fs p.conclusion) (sym (append-nil p.premises)) d)

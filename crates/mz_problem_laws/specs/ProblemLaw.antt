@@ -1,6 +1,6 @@
 -- What the problem of a statement is worth: where its conclusion derives from its premises, the statement derives from
 -- what the premises derive from.
-use Rattle.std.specs.Prelude.{◌≡◌, ℕ, true, List, Contains, Option, map}
+use Rattle.std.specs.Prelude.{◌≡◌, ℕ, true, List, ◌++◌, Contains, Option, map}
 use Rattle.std.specs.List.{list_all}
 use Rattle.mz_logic.specs.Formula.{Formula}
 use Rattle.mz_logic.specs.Derives.{Derives}
@@ -32,3 +32,13 @@ ProblemLaw =
     (given : List Statement) → list_all (statement_below 0) given ≡ true → ((f : Formula) → Contains (map erase given) f → Derives axioms premises f) →
     (s : Statement) → statement_in_force (numbers ks) s ≡ true → statement_below 0 s ≡ true →
     (p : Problem) → Asks cs ks us given s p → Derives axioms p.premises p.conclusion → Derives axioms premises (erase s)
+
+-- so it is where the conclusion derives from the premises and from further formulas that derive, as clauses do
+abbrev pub JoinedProblemLaw : Type 0
+JoinedProblemLaw =
+    (axioms premises : List Formula) (cs : List Clause) (ks : List (Option Constant)) (us : List Unfolding) → AreGranted axioms premises cs ks → AreUnfoldings axioms us →
+    AreInForce (numbers ks) premises → KnownIsClosed ks →
+    (given : List Statement) → list_all (statement_below 0) given ≡ true → ((f : Formula) → Contains (map erase given) f → Derives axioms premises f) →
+    (s : Statement) → statement_in_force (numbers ks) s ≡ true → statement_below 0 s ≡ true →
+    (p : Problem) → Asks cs ks us given s p → (more : List Formula) → ((f : Formula) → Contains more f → Derives axioms premises f) →
+    Derives axioms (p.premises ++ more) p.conclusion → Derives axioms premises (erase s)

@@ -1,0 +1,5 @@
+pub mod Facts
+pub mod StepLaws
+pub mod NowLaws
+pub mod HiddenLaws
+pub mod BlockLaws
