@@ -1,0 +1,10 @@
+pub mod PartLemmas
+pub mod ValueLemmas
+pub mod BaseLemmas
+pub mod PrefixLemmas
+pub mod TermLemmas
+pub mod AdjectiveLemmas
+pub mod TypeLemmas
+pub mod OneGrouping
+pub mod OneTerm
+pub mod OneType
