@@ -1,6 +1,8 @@
-//! Tests of the parser of patterns.
+//! Tests of the parsers of patterns and of headings.
 #![tactic(auto)]
 
+#[cfg(test)]
+mod headings;
 #[cfg(test)]
 mod patterns;
 #[cfg(test)]
