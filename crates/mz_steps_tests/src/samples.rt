@@ -84,6 +84,15 @@ pub fn parts(alloc: Global, ps: &[P]) -> Result<NowParts, SampleFault> {
     Ok(out)
 }
 
+/// So many conjuncts of one node.
+pub fn conjuncts(alloc: Global, count: usize) -> Result<NowParts, SampleFault> {
+    let mut out = NowParts::new(alloc);
+    for _ in 0..count {
+        out.push(NowPart::Conjunct(Statement::truth()))?;
+    }
+    Ok(out)
+}
+
 /// A variable of the type, without a name.
 pub fn variable(alloc: Global, t: T) -> Result<Variable, SampleFault> {
     let ty = ty(alloc, t)?;

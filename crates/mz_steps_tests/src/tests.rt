@@ -1,6 +1,6 @@
 //! Parts of a `now` and steps with what becomes of them, worked out by hand from the rules. What a question is done with
 //! is forgotten, not dropped.
-use crate::samples::{P, context, part, parts, statement, variable, variables};
+use crate::samples::{P, conjuncts, context, part, parts, statement, variable, variables};
 use mz_context::context::Context;
 use mz_core::erasure::erase;
 use mz_core::statement::Statement;
@@ -86,9 +86,12 @@ const STATED: [(&[P], &str); 10] = [
 
 fn check_stated(rt: &impl Abort, alloc: Global, ps: &[P], wanted: &str) {
     let ps = parts(alloc, ps).expect(rt, "parts");
-    let s = stated_by(alloc, &ps).expect(rt, "memory");
+    let stated = stated_by(alloc, &ps).expect(rt, "memory");
     forget(ps);
-    let same = is_text(rt, alloc, s, wanted);
+    let same = match stated {
+        Some(s) => is_text(rt, alloc, s, wanted),
+        None => false,
+    };
     assert!(rt; same, "{wanted}");
 }
 
@@ -96,6 +99,71 @@ fn check_stated(rt: &impl Abort, alloc: Global, ps: &[P], wanted: &str) {
 fn a_now_states_its_steps(rt: HostRuntime) {
     for (ps, wanted) in &STATED {
         check_stated(&rt, rt.alloc(), ps, wanted);
+    }
+}
+
+/// Each of c2 to c16 has the one before it twice, so that c16 is a term of 65,535 nodes.
+const TWICE: [P; 15] = [
+    ('d', 2, SET, "(A.O1 c1 c1)"),
+    ('d', 3, SET, "(A.O1 c2 c2)"),
+    ('d', 4, SET, "(A.O1 c3 c3)"),
+    ('d', 5, SET, "(A.O1 c4 c4)"),
+    ('d', 6, SET, "(A.O1 c5 c5)"),
+    ('d', 7, SET, "(A.O1 c6 c6)"),
+    ('d', 8, SET, "(A.O1 c7 c7)"),
+    ('d', 9, SET, "(A.O1 c8 c8)"),
+    ('d', 10, SET, "(A.O1 c9 c9)"),
+    ('d', 11, SET, "(A.O1 c10 c10)"),
+    ('d', 12, SET, "(A.O1 c11 c11)"),
+    ('d', 13, SET, "(A.O1 c12 c12)"),
+    ('d', 14, SET, "(A.O1 c13 c13)"),
+    ('d', 15, SET, "(A.O1 c14 c14)"),
+    ('d', 16, SET, "(A.O1 c15 c15)"),
+];
+
+/// A conjunct behind these, and whether what is stated keeps the limit on nodes.
+const LARGE: [(P, bool); 2] = [
+    (('c', 0, SET, "(A.R1 c16)"), true),
+    (('c', 0, SET, "(A.R1 (A.O2 c16))"), false),
+];
+
+/// How many conjuncts, and whether they keep the limit on depth.
+const MANY: [(usize, bool); 2] = [(512, true), (513, false)];
+
+fn is_kept(rt: &impl Abort, alloc: Global, ps: NowParts) -> bool {
+    let stated = stated_by(alloc, &ps).expect(rt, "memory");
+    forget(ps);
+    match stated {
+        Some(s) => {
+            forget(s);
+            true
+        }
+        None => false,
+    }
+}
+
+fn check_large(rt: &impl Abort, alloc: Global, p: P, wanted: bool) {
+    let text = p.3;
+    let mut ps = parts(alloc, &TWICE).expect(rt, "parts");
+    let p = part(alloc, p).expect(rt, "a part");
+    ps.push(p).expect(rt, "memory");
+    let kept = is_kept(rt, alloc, ps);
+    assert!(rt; kept == wanted, "{text}");
+}
+
+fn check_many(rt: &impl Abort, alloc: Global, count: usize, wanted: bool) {
+    let ps = conjuncts(alloc, count).expect(rt, "parts");
+    let kept = is_kept(rt, alloc, ps);
+    assert!(rt; kept == wanted, "{count}");
+}
+
+#[test]
+fn what_is_stated_keeps_the_limits(rt: HostRuntime) {
+    for (p, wanted) in &LARGE {
+        check_large(&rt, rt.alloc(), *p, *wanted);
+    }
+    for (count, wanted) in &MANY {
+        check_many(&rt, rt.alloc(), *count, *wanted);
     }
 }
 
