@@ -1,0 +1,4 @@
+pub mod Declarations
+pub mod Atoms
+pub mod Formulas
+pub mod Sentences
