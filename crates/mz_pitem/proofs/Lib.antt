@@ -1,0 +1,5 @@
+pub mod HeadingHeads
+pub mod DefinitionSteps
+pub mod ItemSteps
+pub mod ArticleSteps
+pub mod WholeArticle
