@@ -1,0 +1,2 @@
+pub mod OneAtom
+pub mod OneFormula

@@ -1,0 +1,4 @@
+//! What formulas and sentences are read to is determined.
+#![tactic(auto)]
+
+pub mod laws;
