@@ -1,0 +1,9 @@
+//! Terms and types as texts, and what they are read to in a small environment.
+#![tactic(auto)]
+
+#[cfg(test)]
+mod environment;
+#[cfg(test)]
+mod reading;
+#[cfg(test)]
+mod tests;
