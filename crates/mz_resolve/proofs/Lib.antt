@@ -1,0 +1,2 @@
+pub mod SpendingLemmas
+pub mod CallLemmas
