@@ -1,0 +1,7 @@
+//! Formulas and sentences read over a small environment, worked out by hand from the rules.
+#![tactic(auto)]
+
+#[cfg(test)]
+mod making;
+#[cfg(test)]
+mod tests;
