@@ -1,0 +1,233 @@
+//! Blocks of registrations, theorems, schemes, and conditions and properties.
+use crate::texts::{article_tokens, taken};
+use mz_forms::refusal::Refusal;
+use mz_parser_samples::answer::{Answer, refused};
+use mz_pblock::conditions::owed;
+use mz_pblock::registrations::registration;
+use mz_pblock::schemes::{scheme, theorem};
+use mz_pexpr::marking::marked_tokens;
+use mz_pterm::parse::fault;
+use mz_pterm::reader::Reader;
+use mz_tree::tree::Spell;
+use std::alloc::Global;
+use std::process::Abort;
+
+/// What is read.
+#[derive(Clone, Copy, Debug, PartialEq, Eq)]
+enum Part {
+    Registration,
+    Theorem,
+    Scheme,
+    /// Conditions and properties.
+    Owed,
+    /// The same where a property is due.
+    Due,
+}
+
+/// The tokens that were taken, or the refusal.
+fn answer_of<T: Spell + Drop>(
+    rt: &impl Abort,
+    alloc: Global,
+    tokens: (&[mz_base::token::MarkedToken], mz_base::place::Place),
+    reader: &Reader<'_>,
+    read: Result<T, Refusal>,
+) -> Answer {
+    match read {
+        Ok(tree) => taken(
+            rt,
+            alloc,
+            &tree,
+            tokens.0,
+            tokens.0.len().saturating_sub(reader.rest.len()),
+        ),
+        Err(refusal) => refused(&fault(reader.rest, tokens.1, refusal)),
+    }
+}
+
+/// What is answered to this text, where so many constructs may still be opened.
+fn answered(rt: &impl Abort, alloc: Global, part: Part, text: &[u8], room: usize) -> Answer {
+    let tokens = article_tokens(rt, alloc, text);
+    let all = marked_tokens(alloc, &tokens).expect(rt, "memory");
+    if all.len() < 5 {
+        return Answer::TooFew;
+    }
+    let mut reader = Reader {
+        rest: &all.as_slice()[5..],
+        alloc,
+    };
+    let given = (all.as_slice(), tokens.end);
+    match part {
+        Part::Registration => {
+            let read = registration(&mut reader, room);
+            answer_of(rt, alloc, given, &reader, read)
+        }
+        Part::Theorem => {
+            let read = theorem(&mut reader, room);
+            answer_of(rt, alloc, given, &reader, read)
+        }
+        Part::Scheme => {
+            let read = scheme(&mut reader, room);
+            answer_of(rt, alloc, given, &reader, read)
+        }
+        Part::Owed => {
+            let read = owed(&mut reader, false, room);
+            answer_of(rt, alloc, given, &reader, read)
+        }
+        Part::Due => {
+            let read = owed(&mut reader, true, room);
+            answer_of(rt, alloc, given, &reader, read)
+        }
+    }
+}
+
+/// What is read, texts behind `begin`, how many constructs may be opened, and the answer. The text begins in column 31.
+const ROWS: [(Part, &[u8], usize, Answer); 34] = [
+    (
+        Part::Owed,
+        b"existence; uniqueness; reflexivity; end",
+        0,
+        Answer::Until(6),
+    ),
+    (Part::Owed, b"end", 0, Answer::Until(0)),
+    (Part::Owed, b"coherence by A:1;", 0, Answer::Until(6)),
+    (
+        Part::Owed,
+        b"coherence proof end; symmetry proof thus thesis; end;",
+        1,
+        Answer::Until(11),
+    ),
+    (Part::Owed, b"coherence proof end;", 0, Answer::TooDeep(41)),
+    (Part::Owed, b"coherence", 0, Answer::EndsEarly(40)),
+    (Part::Owed, b"coherence x;", 0, Answer::Unexpected(41)),
+    (Part::Owed, b"sethood;", 0, Answer::Until(0)),
+    (Part::Owed, b"reducibility;", 0, Answer::Until(0)),
+    (
+        Part::Due,
+        b"coherence; commutativity; end",
+        0,
+        Answer::Until(4),
+    ),
+    (
+        Part::Due,
+        b"commutativity; coherence; end",
+        0,
+        Answer::Until(4),
+    ),
+    (Part::Due, b"coherence; end", 0, Answer::Unexpected(42)),
+    (Part::Due, b"end", 0, Answer::Unexpected(31)),
+    (Part::Due, b"coherence;", 0, Answer::EndsEarly(41)),
+    (
+        Part::Registration,
+        b"registration end;",
+        0,
+        Answer::Until(3),
+    ),
+    (
+        Part::Registration,
+        b"registration let x be mod; cluster odd mod; existence; end;",
+        0,
+        Answer::Until(14),
+    ),
+    (
+        Part::Registration,
+        b"registration cluster odd mod; existence; reflexivity; end;",
+        0,
+        Answer::Unexpected(72),
+    ),
+    (
+        Part::Registration,
+        b"registration cluster odd mod; cluster odd -> odd for mod; end;",
+        0,
+        Answer::Until(14),
+    ),
+    (
+        Part::Registration,
+        b"registration existence; end;",
+        0,
+        Answer::Unexpected(44),
+    ),
+    (
+        Part::Registration,
+        b"registration",
+        0,
+        Answer::EndsEarly(43),
+    ),
+    (
+        Part::Registration,
+        b"registration end",
+        0,
+        Answer::EndsEarly(47),
+    ),
+    (
+        Part::Registration,
+        b"registration cluster (x) -> odd; end;",
+        0,
+        Answer::TooDeep(52),
+    ),
+    (Part::Theorem, b"theorem x = y;", 0, Answer::Until(5)),
+    (
+        Part::Theorem,
+        b"theorem A: x = y by B:2;",
+        0,
+        Answer::Until(11),
+    ),
+    (Part::Theorem, b"theorem not x = y;", 0, Answer::TooDeep(39)),
+    (Part::Theorem, b"theorem x y;", 0, Answer::Unexpected(41)),
+    (
+        Part::Scheme,
+        b"scheme S { P[], F(mod) -> mod } : P[] provided x = y and A: P[] ;",
+        2,
+        Answer::Until(29),
+    ),
+    (
+        Part::Scheme,
+        b"scheme S { P[] } : P[];",
+        2,
+        Answer::Until(12),
+    ),
+    (
+        Part::Scheme,
+        b"scheme S { P[] } : P[];",
+        1,
+        Answer::TooDeep(43),
+    ),
+    (
+        Part::Scheme,
+        b"scheme S { x } : P[];",
+        2,
+        Answer::Unexpected(44),
+    ),
+    (
+        Part::Scheme,
+        b"scheme S { } : P[];",
+        2,
+        Answer::Unexpected(42),
+    ),
+    (
+        Part::Scheme,
+        b"scheme + { P[] } : P[];",
+        2,
+        Answer::Unexpected(38),
+    ),
+    (
+        Part::Scheme,
+        b"scheme S { P[] } : P[] provided ;",
+        2,
+        Answer::Unexpected(63),
+    ),
+    (
+        Part::Scheme,
+        b"scheme S { P[] } : P[] from",
+        2,
+        Answer::EndsEarly(58),
+    ),
+];
+
+#[test]
+fn blocks(rt: HostRuntime) {
+    let alloc = rt.alloc();
+    for (number, (part, text, room, answer)) in ROWS.iter().enumerate() {
+        let given = answered(&rt, alloc, *part, text, *room);
+        assert!(rt; given == *answer, "row {number} gives {given:?}");
+    }
+}

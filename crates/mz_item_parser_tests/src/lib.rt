@@ -1,0 +1,11 @@
+//! Tests of the parser of items.
+#![tactic(auto)]
+
+#[cfg(test)]
+mod articles;
+#[cfg(test)]
+mod blocks;
+#[cfg(test)]
+mod clusters;
+#[cfg(test)]
+mod texts;
