@@ -2,7 +2,11 @@
 use Rattle.std.proofs.Common.{◌≡◌, ◌≢◌, ℕ, ◌<◌, ◌==◌, ◌&&◌, Bool, true, false, if◌then◌else◌, nat_le, List, length, find, Option, Some, None, Ok, Err, refl, sym, subst, ap, ◌∙◌, arith}
 use Rattle.std.proofs.lemmas.Grind.{common_steps}
 use Rattle.std.proofs.lemmas.Bool.Decides.{nat_tests}
+use Rattle.std.specs.Prelude.{Result, IfOk}
+use Rattle.std.specs.declared.alloc.AllocError.{AllocError}
 use Rattle.mz_base.specs.declared.name.Name.{Name}
+use Rattle.mz_corpus.specs.declared.ordering.Ordering.{Ordering}
+use Rattle.mz_report.specs.Report.{report_text}
 use Rattle.mz_base.specs.declared.status.Status.{Status}
 use Rattle.mz_base.specs.declared.status.Status.TheVariants as status
 use Rattle.mz_io.specs.declared.fetch_fault.FetchFault.TheVariants.{TooLong}
@@ -11,10 +15,10 @@ use Rattle.mz_io.specs.declared.file_kind.FileKind.TheVariants.{Article}
 use Rattle.mz_io.specs.File.{lookup, same_kind}
 use Rattle.std.specs.Option.{option_map}
 use Rattle.mz_io.specs.Shelf.{answer_of, text_limit, AgreesWith}
-use Rattle.mizv.specs.declared.first_article.First.{First}
-use Rattle.mizv.specs.declared.first_article.First.TheVariants.{Accepted, Rejected}
+use Rattle.mz_first.specs.declared.first.First.{First}
+use Rattle.mz_first.specs.declared.first.First.TheVariants.{Accepted, Rejected}
 use Rattle.mz_core.specs.declared.verdict.Entry.{Entry}
-use Rattle.mizv.specs.Outcome.{Outcome}
+use Rattle.mz_outcome.specs.Outcome.{Outcome}
 use Rattle.mizv.specs.Entry.{IsSaid, checked_entry}
 use Rattle.mizv.specs.Run.{IsText, IsEntry, IsLong, AsksLong, Reported, Written}
 
@@ -94,3 +98,7 @@ Written-reported told order old new e status.Usage is r = absurd r
 Written-reported told order old new e status.ReadFault is r = absurd r
 Written-reported told order old new e status.OutOfMemory is r = r
 Written-reported told order old new e status.TooLarge is r = absurd r
+
+-- a report is that of equal orderings and equal entries
+pub report-same : (o p : Ordering) (es fs : List Entry) (r : Result (List ℕ) AllocError) → o ≡ p → es ≡ fs → IfOk r (λ text. text ≡ report_text o es) → IfOk r (λ text. text ≡ report_text p fs)
+report-same o p es fs r a b h = subst (λ x. IfOk r (λ text. text ≡ report_text x fs)) a (subst (λ xs. IfOk r (λ text. text ≡ report_text o xs)) b h)

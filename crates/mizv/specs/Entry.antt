@@ -3,12 +3,12 @@ use Rattle.std.specs.Prelude.{◌≡◌, ℕ, List, [], Option, Some, None, leng
 use Rattle.mz_base.specs.declared.name.Name.{Name}
 use Rattle.mz_logic.specs.Formula.{Formula}
 use Rattle.mz_core.specs.declared.fault.Fault.{Fault}
-use Rattle.mizv.specs.declared.first_article.First.{First}
-use Rattle.mizv.specs.declared.first_article.First.TheVariants as first
+use Rattle.mz_first.specs.declared.first.First.{First}
+use Rattle.mz_first.specs.declared.first.First.TheVariants as first
 use Rattle.mz_core.specs.declared.verdict.Counts.{Counts}
 use Rattle.mz_core.specs.declared.verdict.Entry.{Entry}
 use Rattle.mz_core.specs.declared.verdict.Verdict.TheVariants.{Accepted, Rejected, Missing}
-use Rattle.mizv.specs.Outcome.{Outcome}
+use Rattle.mz_outcome.specs.Outcome.{Outcome}
 
 -- only theorems, and so many
 abbrev pub theorems_only : ℕ → Counts

@@ -11,7 +11,7 @@ use Rattle.mz_io.specs.Sink.{with_bytes}
 use Rattle.mz_core.specs.declared.verdict.Entry.{Entry}
 use Rattle.mz_core.specs.declared.verdict.Verdict.TheVariants as verdict
 use Rattle.mizv.specs.Entry.{IsSaid}
-use Rattle.mizv.specs.Report.{report_text}
+use Rattle.mz_report.specs.Report.{report_text}
 
 -- where the contents are told, the text, or its absence, is what they have
 abbrev pub IsText : Option (List File) → Name → Option (List ℕ) → Type 0
@@ -27,7 +27,7 @@ pub record IsEntry (told : Option (List File)) (order : Option ℕ) (e : Entry) 
 
 -- the report on one article
 abbrev pub report_of : Entry → List ℕ
-report_of e = report_text (e ∷ [])
+report_of e = report_text (record { order = e.name ∷ []; rest = [] }) (e ∷ [])
 
 -- what was taken at the end: after `Accepted` and `Rejected` the whole report of the article, which says that it is
 -- accepted or that it isn't; after a write fault a part of that report from its front, and not the whole; else nothing

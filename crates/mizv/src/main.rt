@@ -1,14 +1,10 @@
 //! Checks an article and reports on it.
 #![tactic(auto)]
 
-pub mod first_article;
 pub mod order;
-pub mod report;
 pub mod run;
 #[cfg(test)]
 mod tests;
-pub mod theorem;
-pub mod word;
 
 use mz_base::status::Status;
 use mz_base::text::Text;

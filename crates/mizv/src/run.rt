@@ -7,19 +7,22 @@ ghost use Rattle.mizv.specs.Entry.{IsSaid, missing_entry, checked_entry, theorem
 ghost use Rattle.mizv.specs.Order.{order_of};
 ghost use Rattle.mizv.specs.Run.{report_of, Written, Reported, AsksLong, IsCompletion, IsRefusalOfLong};
 
-use crate::first_article::{First, first_article};
 use crate::order::read_words;
-use crate::report::report;
 use mz_base::name::Name;
+use mz_base::names::Names;
 use mz_base::status::Status;
 use mz_base::text::Text;
 use mz_core::fault::Faults;
 use mz_core::verdict::{Counts, Entry, Verdict, Verdicts};
+use mz_corpus::ordering::Ordering;
+use mz_first::first::First;
 use mz_io::fetch_fault::FetchFault;
 use mz_io::file_kind::FileKind;
 use mz_io::gate::Gate;
 use mz_io::shelf::Shelf;
 use mz_io::sink::{Sink, write_all};
+use mz_outcome::first_article::first_article;
+use mz_report::report::report;
 use std::alloc::{AllocError, Global};
 use std::sync::Wait;
 use std::thread::Threads;
@@ -111,9 +114,13 @@ fn reported<W: Sink>(alloc: Global, out: &mut W, entry: Entry) -> Status
 fn report_of(alloc: Global, entry: Entry) -> Result<Text, AllocError>
     ensures { IfOk result (λ text. text ≡ report_of entry) }
 {
+    let ordering = Ordering {
+        order: Names::from_slice(alloc, &[entry.name])?,
+        rest: Names::new(alloc),
+    };
     let mut items = Vec::with_capacity(alloc, 1)?;
     items.push(entry)?;
-    report(alloc, &Verdicts { items })
+    report(alloc, &ordering, &Verdicts { items })
 }
 
 /// Checks the article that the words ask for and writes the report on it.

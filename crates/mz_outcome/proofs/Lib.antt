@@ -1,0 +1,3 @@
+pub mod ParseLemmas
+pub mod OutcomeLemmas
+pub mod PlaceLemmas
