@@ -113,13 +113,13 @@ shares_hold P Q s articles kind at (x ∷ xs) each =
     s.both (share articles kind at x) (shares articles kind (numbered at x) xs) (s.part articles kind at x (each at x first_item))
     (shares_hold P Q s articles kind (numbered at x) xs (λ there y is. each there y (later_item is)))
 
-wholes_hold : (P : Environment → Type 0) (Q : Numbering → Item → Type 0) → Spreads P Q → (at : Numbering) (xs : List Item) → Each at xs Q → P (wholes at xs)
+pub wholes_hold : (P : Environment → Type 0) (Q : Numbering → Item → Type 0) → Spreads P Q → (at : Numbering) (xs : List Item) → Each at xs Q → P (wholes at xs)
 wholes_hold P Q s at [] each = s.nothing
 wholes_hold P Q s at (x ∷ xs) each =
     s.both (of_item at x) (wholes (numbered at x) xs) (s.whole at x (each at x first_item))
     (wholes_hold P Q s (numbered at x) xs (λ there y is. each there y (later_item is)))
 
-exports_hold : (P : Environment → Type 0) (Q : Numbering → Item → Type 0) → Spreads P Q → (articles : List Name) (kind : DirectiveKind) (es : List Export) → EachItem es Q → P (shares_of articles kind es)
+pub exports_hold : (P : Environment → Type 0) (Q : Numbering → Item → Type 0) → Spreads P Q → (articles : List Name) (kind : DirectiveKind) (es : List Export) → EachItem es Q → P (shares_of articles kind es)
 exports_hold P Q s articles kind [] each = s.nothing
 exports_hold P Q s articles kind (e ∷ es) each =
     s.both (shares articles kind (at_start e.name.number) e.items) (shares_of articles kind es)

@@ -51,7 +51,7 @@ with_left source e f P g = (g.0, g.1, g.2, (g.3.0, λ c of_item. Contains-append
 with_right : (source : Numbering → Item → Type 0) (e f : Environment) (P : Item → Type 0) → SomeItem source (λ at x. P x × HasTypingOf f x) → SomeItem source (λ at x. P x × HasTypingOf (joined e f) x)
 with_right source e f P g = (g.0, g.1, g.2, (g.3.0, λ c of_item. Contains-append_right e.typing f.typing c (g.3.1 c of_item)))
 
-entries_none : (source : Numbering → Item → Type 0) → AreOfItems source no_environment
+pub entries_none : (source : Numbering → Item → Type 0) → AreOfItems source no_environment
 entries_none source = record {
   functors = λ r is. absurd (in_none r is);
   modes = λ r is. absurd (in_none r is);
@@ -68,7 +68,7 @@ entries_none source = record {
   schemes = λ r is. absurd (in_none r is);
 }
 
-entries_both : (source : Numbering → Item → Type 0) (e f : Environment) → AreOfItems source e → AreOfItems source f → AreOfItems source (joined e f)
+pub entries_both : (source : Numbering → Item → Type 0) (e f : Environment) → AreOfItems source e → AreOfItems source f → AreOfItems source (joined e f)
 entries_both source e f p q = record {
   functors = either e.functors f.functors (λ (r : Row). SomeItem source (λ at x. Contains (functor_rows x) r × HasTypingOf (joined e f) x)) (λ r is. with_left source e f (λ x. Contains (functor_rows x) r) (p.functors r is)) (λ r is. with_right source e f (λ x. Contains (functor_rows x) r) (q.functors r is));
   modes = either e.modes f.modes (λ (r : Row). SomeItem source (λ at x. Contains (mode_rows x) r × HasTypingOf (joined e f) x)) (λ r is. with_left source e f (λ x. Contains (mode_rows x) r) (p.modes r is)) (λ r is. with_right source e f (λ x. Contains (mode_rows x) r) (q.modes r is));
@@ -125,7 +125,7 @@ pub entries_given : (source : Numbering → Item → Type 0) (at : Numbering) (x
 entries_given source at x from =
     item_entries source at x from (of_item at x) (all_among (typing_clauses x)) (all_among (functor_rows x)) (all_among (mode_rows x)) (all_among (structures_of x)) (all_among (sethoods_of x)) (all_among (notations_of x)) (all_among (typing_clauses x)) (all_among (further_clauses x)) (all_among (equality_clauses x)) (all_among (unfoldings_of x)) (all_among (unfoldings_of x)) (all_among (existentials_of x)) (all_among (statements_cited at x)) (all_among (schemes_cited at x))
 
-entries_part : (source : Numbering → Item → Type 0) (articles : List Name) (kind : DirectiveKind) (at : Numbering) (x : Item) → source at x → AreOfItems source (share articles kind at x)
+pub entries_part : (source : Numbering → Item → Type 0) (articles : List Name) (kind : DirectiveKind) (at : Numbering) (x : Item) → source at x → AreOfItems source (share articles kind at x)
 entries_part source articles Vocabularies at x from = entries_none source
 entries_part source articles Notations at x from = other_entries source at x from (notations_share x) refl refl refl (none_among (sethoods_of x)) (all_among (notations_of x)) (none_among (typing_clauses x)) (none_among (further_clauses x)) (none_among (equality_clauses x)) (none_among (unfoldings_of x)) (none_among (unfoldings_of x)) (none_among (existentials_of x)) (none_among (statements_cited at x)) (none_among (schemes_cited at x))
 entries_part source articles Constructors at x from =
@@ -154,7 +154,7 @@ entry_law head exports e v =
 wider_item : (source other : Numbering → Item → Type 0) → ((at : Numbering) (x : Item) → source at x → other at x) → (P : Numbering → Item → Type 0) → SomeItem source P → SomeItem other P
 wider_item source other turn P g = (g.0, g.1, turn g.0 g.1 g.2, g.3)
 
-wider_entries : (source other : Numbering → Item → Type 0) → ((at : Numbering) (x : Item) → source at x → other at x) → (e : Environment) → AreOfItems source e → AreOfItems other e
+pub wider_entries : (source other : Numbering → Item → Type 0) → ((at : Numbering) (x : Item) → source at x → other at x) → (e : Environment) → AreOfItems source e → AreOfItems other e
 wider_entries source other turn e p = record {
   functors = λ r is. wider_item source other turn (λ at x. Contains (functor_rows x) r × HasTypingOf e x) (p.functors r is);
   modes = λ r is. wider_item source other turn (λ at x. Contains (mode_rows x) r × HasTypingOf e x) (p.modes r is);

@@ -4,3 +4,4 @@ pub mod EntryProofs
 pub mod ClauseProofs
 pub mod DerivedProofs
 pub mod StatementProofs
+pub mod UsedProofs

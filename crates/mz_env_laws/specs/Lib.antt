@@ -1,3 +1,4 @@
 pub mod Entries
+pub mod Used
 pub mod LetInLaws
 pub mod DerivedLaws

@@ -1,6 +1,7 @@
 //! What holds of each environment that is let in, and of one behind which own items are put.
 ghost use Rattle.mz_env_laws.specs.LetInLaws.{ClosedLaw, RowClausesLaw, GivenRowsLaw, JoinedRowsLaw, ClauseLaw};
 ghost use Rattle.mz_env_laws.specs.Entries.{EntryLaw, OwnPartLaw, OwnItemLaw};
+ghost use Rattle.mz_env_laws.specs.Used.{UsedLaw};
 ghost use Rattle.mz_env_laws.specs.DerivedLaws.{SaidLaw, ClausesLaw, UnfoldingsLaw, StatementsLaw};
 
 /// It has no constant and no loose index.
@@ -26,6 +27,12 @@ pub fn entry_law()
     ensures let_in { EntryLaw }
     ensures own_part { OwnPartLaw }
     ensures own_item { OwnItemLaw }
+{}
+
+/// The items are of exports that the environment part uses: of HIDDEN's, of those that its directives name, and of those on which one of
+/// these depends.
+pub fn used_law()
+    ensures { UsedLaw }
 {}
 
 /// Where what the items of the exports grant and owe without premises derives, as it does with these statements as axioms,

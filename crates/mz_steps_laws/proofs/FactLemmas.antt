@@ -37,7 +37,7 @@ known_from-append n (k ∷ ks) o =
     ap (λ ls. known_of n k ++ ls) (known_from-append (suc n) ks o) ∙
     (sym (append_assoc (known_of n k) (known_from (suc n) ks) (known_of (suc n + length ks) o)) ∙ ap (λ m. (known_of n k ++ known_from (suc n) ks) ++ known_of m o) e)
 
-known_with : (ks : List (Option Constant)) (k : Constant) → known_from 1 (ks ++ Some k ∷ []) ≡ known_from 1 ks ++ known_of (numbers ks) (Some k)
+pub known_with : (ks : List (Option Constant)) (k : Constant) → known_from 1 (ks ++ Some k ∷ []) ≡ known_from 1 ks ++ known_of (numbers ks) (Some k)
 known_with ks k =
     let e : 1 + length ks ≡ numbers ks = omega arith in
     known_from-append 1 ks (Some k) ∙ ap (λ m. known_from 1 ks ++ known_of m (Some k)) e
@@ -87,7 +87,7 @@ place_within (o ∷ os) n (suc m) l is =
     let e : n + suc m ≡ suc n + m = omega arith in
     Contains-append_right (known_of n o) (known_from (suc n) os) l (place_within os (suc n) m l (subst (λ k. Contains (known_of k (in_force (slice_get os m))) l) e is))
 
-known_within : (ks : List (Option Constant)) (n : ℕ) (l : Literal) → Contains (known ks n) l → Contains (known_from 1 ks) l
+pub known_within : (ks : List (Option Constant)) (n : ℕ) (l : Literal) → Contains (known ks n) l → Contains (known_from 1 ks) l
 known_within ks zero l is = absurd (in_none l is)
 known_within ks (suc m) l is =
     let e : suc m ≡ 1 + m = omega arith in

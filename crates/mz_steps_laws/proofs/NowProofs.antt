@@ -44,7 +44,7 @@ use Rattle.mz_steps_laws.proofs.ThereAreProofs.{over_in_force, there_are_in_forc
 use Rattle.mz_steps_laws.proofs.ProofSteps.{guard_derives}
 
 -- a hidden constant states nothing
-hidden_state_nothing : (n : ℕ) (vs : List Variable) (ps : List NowPart) → conjuncts_of (hidden_from n vs ++ ps) ≡ conjuncts_of ps
+pub hidden_state_nothing : (n : ℕ) (vs : List Variable) (ps : List NowPart) → conjuncts_of (hidden_from n vs ++ ps) ≡ conjuncts_of ps
 hidden_state_nothing n [] ps = refl
 hidden_state_nothing n (v ∷ vs) ps = hidden_state_nothing (suc n) vs ps
 
@@ -80,7 +80,7 @@ all_replaced : (ax h : List Formula) (n : ℕ) (t : Term) (ss : List Statement) 
 all_replaced ax h n t [] ct eq p = tt
 all_replaced ax h n t (s ∷ ss) ct eq p = (replaced_derives ax h n t s ct eq p.0, all_replaced ax h n t ss ct eq p.1)
 
-replaced_in_force : (n : ℕ) (t : Term) (ss : List Statement) → term_in_force n t ≡ true → list_all (statement_in_force (suc n)) ss ≡ true → list_all (statement_in_force n) (map (with_term (Defined n t)) ss) ≡ true
+pub replaced_in_force : (n : ℕ) (t : Term) (ss : List Statement) → term_in_force n t ≡ true → list_all (statement_in_force (suc n)) ss ≡ true → list_all (statement_in_force n) (map (with_term (Defined n t)) ss) ≡ true
 replaced_in_force n t [] ht h = refl
 replaced_in_force n t (s ∷ ss) ht h =
     let c : (statement_in_force (suc n) s ≡ true) × (list_all (statement_in_force (suc n)) ss ≡ true) = and_parts (statement_in_force (suc n) s) (list_all (statement_in_force (suc n)) ss) h in

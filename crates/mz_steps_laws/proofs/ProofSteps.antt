@@ -68,7 +68,7 @@ erased_literal (literal.Atom false s ts) = refl
 erased_literal (literal.Eq true t u) = refl
 erased_literal (literal.Eq false t u) = refl
 
-erased_literals : (ls : List Literal) → map erase (map literal_statement ls) ≡ map literal_formula ls
+pub erased_literals : (ls : List Literal) → map erase (map literal_statement ls) ≡ map literal_formula ls
 erased_literals [] = refl
 erased_literals (l ∷ ls) = λ i. erased_literal l i ∷ erased_literals ls i
 

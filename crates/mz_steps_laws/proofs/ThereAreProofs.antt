@@ -60,7 +60,7 @@ pub there_are_in_force : (n : ℕ) (vs : List Variable) (s : Statement) → AreD
 there_are_in_force n vs s h = negation_in_force n (for_all n vs (opposite s)) ∙ for_all_in_force n vs (opposite s) (denied_declared n vs s h)
 
 -- where the statement derives at the constants, it does for all objects
-for_all_in : (ax h : List Formula) (n : ℕ) (vs : List Variable) (s : Statement) → AreInForce n h → AreDeclared n vs s → Derives ax (guards_of n vs ++ h) (erase s) → Derives ax h (erase (for_all n vs s))
+pub for_all_in : (ax h : List Formula) (n : ℕ) (vs : List Variable) (s : Statement) → AreInForce n h → AreDeclared n vs s → Derives ax (guards_of n vs ++ h) (erase s) → Derives ax h (erase (for_all n vs s))
 for_all_in ax h n [] s in_h w d = d
 for_all_in ax h n (v ∷ vs) s in_h w d =
     let gs : List Formula = guard v.ty (Const n) in

@@ -1,0 +1,7 @@
+pub mod ListParts
+pub mod KnownTerms
+pub mod KnownValues
+pub mod KnownMatches
+pub mod KnownRows
+pub mod KnownChain
+pub mod KnownChoice

@@ -1,0 +1,2 @@
+pub mod KnownDependencies
+pub mod LibraryRests

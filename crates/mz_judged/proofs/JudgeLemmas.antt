@@ -1,0 +1,34 @@
+-- What the code of judging finds.
+use Rattle.std.proofs.Common.{◌≡◌, ℕ, List, [], ◌∷◌, ◌++◌, take, flat_map, append-nil, sym, ap, subst, ◌∙◌, true, false, Option, Some, None}
+use Rattle.std.specs.Prelude.{Result, Ok, Err, IfOk}
+use Rattle.std.specs.List.{list_all}
+use Rattle.std.specs.declared.alloc.AllocError.{AllocError}
+use Rattle.mz_core.specs.declared.fault.Fault.{Fault}
+use Rattle.mz_nf.specs.declared.problem.Problem.{Problem}
+use Rattle.mz_ground.specs.declared.clause.Clause.{Clause}
+use Rattle.mz_by.specs.Verdict.{IsVerdict}
+use Rattle.mz_by.specs.declared.by_verdict.ByVerdict.{ByVerdict}
+use Rattle.mz_obligations.specs.declared.obligation.Obligation.{Obligation}
+use Rattle.mz_judged.specs.Judged.{clauses_for, Decides, told, IsJudged, judged, AreJudged, no_obligations, met, unmet}
+use Rattle.mz_judged.specs.Found.{Found, is_found, fault_in, AreFound}
+
+pub without_others : (p : Problem) (cs others : List Clause) (n : ℕ) (r : Result ByVerdict AllocError) → others ≡ [] → IfOk r (IsVerdict p (take n cs)) → IfOk r (IsVerdict p (take n cs ++ others))
+without_others p cs others n (Ok v) e h = subst (λ xs. IsVerdict p xs v) (sym (append-nil (take n cs)) ∙ ap (λ ys. take n cs ++ ys) (sym e)) h
+without_others p cs others n (Err x) e h = tt
+
+pub judged_so : (cs : List Clause) (o : Obligation) (v : ByVerdict) (f : Option Fault) → Decides (clauses_for cs o) o.duty v → f ≡ told o.place v → IsJudged cs o f
+judged_so cs o v f h e = subst (IsJudged cs o) (sym e) (judged v h)
+
+false_true : false ≡ true → ⊥
+false_true e = cc
+
+all_so : (cs : List Clause) (os : List Obligation) (found : List Found) → AreFound cs os found → list_all is_found found ≡ true → AreJudged cs os (flat_map fault_in found)
+all_so cs [] [] h e = no_obligations
+all_so cs [] (f ∷ found) h e = absurd h
+all_so cs (o ∷ os) [] h e = absurd h
+all_so cs (o ∷ os) (Ok None ∷ found) h e = met o os (flat_map fault_in found) h.0 (all_so cs os found h.1 e)
+all_so cs (o ∷ os) (Ok (Some f) ∷ found) h e = unmet o os f (flat_map fault_in found) h.0 (all_so cs os found h.1 e)
+all_so cs (o ∷ os) (Err x ∷ found) h e = absurd (false_true e)
+
+pub all_judged : (cs : List Clause) (os : List Obligation) (found : List Found) (fs : List Fault) → AreFound cs os found → list_all is_found found ≡ true → fs ≡ [] ++ flat_map fault_in found → AreJudged cs os fs
+all_judged cs os found fs h e is = subst (AreJudged cs os) (sym is) (all_so cs os found h e)

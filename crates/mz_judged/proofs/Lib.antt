@@ -1,0 +1,4 @@
+pub mod JudgeLemmas
+pub mod OneJudgement
+pub mod MetProofs
+pub mod PushLemmas

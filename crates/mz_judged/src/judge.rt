@@ -1,0 +1,90 @@
+//! One obligation judged.
+ghost use Rattle.std.specs.Prelude.{◌≡◌, ◌++◌, IfOk, OnOk, take};
+ghost use Rattle.mz_by.specs.Verdict.{IsVerdict};
+ghost use Rattle.mz_judged.specs.Judged.{clauses_for, Decides, IsJudged};
+
+use crate::told::told;
+use mz_by::by::{by, by_first};
+use mz_by::by_verdict::ByVerdict;
+use mz_core::fault::Fault;
+use mz_ground::clause::Clause;
+use mz_ground::clauses::Clauses;
+use mz_nf::problem::Problem;
+use mz_obligations::obligation::{Duty, Obligation};
+use std::alloc::{AllocError, Global};
+
+#[tactic(auto, using(crate::proofs::PushLemmas::copy_rules))]
+fn push_copies(alloc: Global, clauses: &[Clause], out: &mut Clauses) -> Result<(), AllocError>
+    ensures { OnOk result (out.new ≡ out.old ++ clauses.now) }
+{
+    for clause in clauses {
+        out.push(clause.copy(alloc)?)?;
+    }
+    Ok(())
+}
+
+/// The first `count` clauses and the others.
+fn joined(
+    alloc: Global,
+    clauses: &Clauses,
+    count: usize,
+    others: &Clauses,
+) -> Result<Clauses, AllocError>
+    ensures { IfOk result (λ cs. cs ≡ take count clauses.now ++ others.now) }
+{
+    let mut out = Clauses::new(alloc);
+    push_copies(alloc, clauses.first(count), &mut out)?;
+    push_copies(alloc, others.as_slice(), &mut out)?;
+    Ok(out)
+}
+
+/// The verdict on a problem by the first `count` clauses and the others.
+#[tactic(auto, using(crate::proofs::JudgeLemmas::without_others))]
+fn decide_by(
+    alloc: Global,
+    problem: &Problem,
+    clauses: &Clauses,
+    count: usize,
+    others: &Clauses,
+) -> Result<ByVerdict, AllocError>
+    ensures { IfOk result (IsVerdict problem.now (take count clauses.now ++ others.now)) }
+{
+    if others.items.is_empty() {
+        return by_first(alloc, problem, clauses, count);
+    }
+    let all = joined(alloc, clauses, count, others)?;
+    by(alloc, problem, &all)
+}
+
+/// The verdict on what the obligation has to decide.
+fn decide(
+    alloc: Global,
+    clauses: &Clauses,
+    obligation: &Obligation,
+) -> Result<ByVerdict, AllocError>
+    ensures { IfOk result (Decides (clauses_for clauses.now obligation.now) obligation.now.duty) }
+{
+    match &obligation.duty {
+        Duty::By(problem) => decide_by(
+            alloc,
+            problem,
+            clauses,
+            obligation.extent.clauses,
+            &obligation.letters,
+        ),
+    }
+}
+
+/// The fault of an obligation, by the clauses of its article, of which those that stood above its place count; none where
+/// it is met.
+#[tactic(auto, using(crate::proofs::JudgeLemmas::judged_so))]
+pub fn judge(
+    alloc: Global,
+    clauses: &Clauses,
+    obligation: &Obligation,
+) -> Result<Option<Fault>, AllocError>
+    ensures { IfOk result (IsJudged clauses.now obligation.now) }
+{
+    let verdict = decide(alloc, clauses, obligation)?;
+    Ok(told(obligation.place, verdict))
+}

@@ -1,0 +1,72 @@
+-- What a justification without a proof gives.
+use Rattle.std.specs.Prelude.{◌≡◌, ◌++◌, ◌∷◌, Bool, List, [], Option, Some, None, Result, Ok, Err}
+use Rattle.mz_base.specs.declared.place.Place.{Place}
+use Rattle.mz_core.specs.Statement.{Statement}
+use Rattle.mz_core.specs.declared.left.Left.{Left}
+use Rattle.mz_context.specs.declared.context.Context.{Context}
+use Rattle.mz_environment.specs.declared.environment.Environment.{Environment}
+use Rattle.mz_types.specs.Known.{letters_clauses, typing}
+use Rattle.mz_tree_proof.specs.declared.references.ReferenceTree.{ReferenceTree}
+use Rattle.mz_tree_proof.specs.declared.references.SimpleTree.{SimpleTree}
+use Rattle.mz_tree_proof.specs.declared.references.SimpleTree.TheVariants.{Nothing, By, From}
+use Rattle.mz_cited.specs.Cited.{members, cites}
+use Rattle.mz_steps.specs.Premises.{given}
+use Rattle.mz_obligations.specs.Obligations.{IsObligation, obligation_spent}
+use Rattle.mz_obligations.specs.declared.obligation.Extent.{Extent}
+use Rattle.mz_obligations.specs.declared.obligation.Obligation.{Obligation}
+use Rattle.mz_justified.specs.declared.proof_fault.ProofRefusal.{ProofRefusal}
+use Rattle.mz_justified.specs.declared.proof_fault.ProofRefusal.TheVariants.{StepNoFit, UnknownLabel, TooManyObligations, NotBuilt}
+
+-- its place: the word `by` or `from`, or the place of the token behind the statement where neither is written
+abbrev pub place_of : Place → SimpleTree → Place
+place_of behind Nothing = behind
+place_of behind (By by rs) = by
+place_of behind (From from s ps) = from
+
+-- what it cites by references
+abbrev pub references_of : SimpleTree → List ReferenceTree
+references_of Nothing = []
+references_of (By by rs) = members rs
+references_of (From from s ps) = []
+
+-- the word `from`, where it is by a scheme
+abbrev pub from_of : SimpleTree → Option Place
+from_of Nothing = None
+from_of (By by rs) = None
+from_of (From from s ps) = Some from
+
+-- what a justification gives, and what the article has left behind its obligation; or the refusal. `first` is the place of the
+-- step's first token, `linked` says that the step begins with `then` or `hence`, and `behind` is the place of the token behind
+-- the statement. In this order: a linked step follows a statement; the article has an obligation left; the justification isn't
+-- by a scheme, which isn't built yet; each reference cites something. After a refusal anything may be left.
+pub data Grounds (e : Environment) (c : Context) (first : Place) (linked : Bool) (behind : Place) (t : SimpleTree) (left : Left) : Result (List Statement) ProofRefusal → Left → Type 0 where
+  follows_nothing : (after : Left) → given linked c [] ≡ None → Grounds e c first linked behind t left (Err (StepNoFit first)) after
+  too_many : (ss : List Statement) (after : Left) → given linked c [] ≡ Some ss → obligation_spent left ≡ None →
+      Grounds e c first linked behind t left (Err (TooManyObligations (place_of behind t))) after
+  by_a_scheme : (ss : List Statement) (between after : Left) (from : Place) → given linked c [] ≡ Some ss → obligation_spent left ≡ Some between → from_of t ≡ Some from →
+      Grounds e c first linked behind t left (Err (NotBuilt from)) after
+  cites_nothing : (ss : List Statement) (between after : Left) (p : Place) → given linked c [] ≡ Some ss → obligation_spent left ≡ Some between → from_of t ≡ None →
+      cites e c (references_of t) ≡ Err p → Grounds e c first linked behind t left (Err (UnknownLabel p)) after
+  grounded : (cited ss : List Statement) (after : Left) → obligation_spent left ≡ Some after → from_of t ≡ None → cites e c (references_of t) ≡ Ok cited → given linked c cited ≡ Some ss →
+      Grounds e c first linked behind t left (Ok ss) after
+
+-- the obligation of a statement by what is given, at the place, where so much can be used
+abbrev pub Owes : Environment → Extent → Context → List Statement → Statement → Place → Obligation → Type 0
+Owes e at c ss s place o = IsObligation (typing e c) e.expansions c.constants ss s place at (letters_clauses c.letters) o
+
+-- the obligation of the statement by its justification, and what is left behind it; or the refusal
+pub data Justified (e : Environment) (at : Extent) (c : Context) (first : Place) (linked : Bool) (behind : Place) (t : SimpleTree) (s : Statement) (left : Left) : Result Obligation ProofRefusal → Left → Type 0 where
+  not_grounded : (r : ProofRefusal) (after : Left) → Grounds e c first linked behind t left (Err r) after → Justified e at c first linked behind t s left (Err r) after
+  owed : (ss : List Statement) (o : Obligation) (after : Left) → Grounds e c first linked behind t left (Ok ss) after → Owes e at c ss s (place_of behind t) o →
+      Justified e at c first linked behind t s left (Ok o) after
+
+-- it is put behind the obligations before it
+pub record IsPut (owes : Obligation → Type 0) (old new : List Obligation) : Type 0 where
+  pub obligation : Obligation
+  pub is_owed : owes obligation
+  pub is_last : new ≡ old ++ obligation ∷ []
+
+-- and then the justification has given it; or it was refused
+abbrev pub Put : {X : Type 0} → (Result Obligation ProofRefusal → Type 0) → List Obligation → List Obligation → Result X ProofRefusal → Type 0
+Put gives old new (Ok x) = IsPut (λ o. gives (Ok o)) old new
+Put gives old new (Err r) = gives (Err r)

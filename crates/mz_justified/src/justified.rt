@@ -1,0 +1,138 @@
+//! The obligation of a statement by its justification.
+ghost use Rattle.std.specs.Prelude.{◌≡◌, ◌++◌, IfOk, OnOk};
+ghost use Rattle.mz_types.specs.Known.{letters_clauses};
+ghost use Rattle.mz_justified.specs.Answers.{OnMade};
+ghost use Rattle.mz_justified.specs.Justified.{place_of, Owes, Justified, IsPut, Put};
+
+use crate::grounds::{ground, place_of};
+use crate::proof_fault::ProofFault;
+use mz_base::place::Place;
+use mz_clauses::clauses_of::letter_clauses;
+use mz_context::context::Context;
+use mz_context::letters::NamedLetters;
+use mz_core::left::Left;
+use mz_core::statement::Statement;
+use mz_core::statements::Statements;
+use mz_environment::environment::Environment;
+use mz_ground::clauses::Clauses;
+use mz_obligations::asking::obligation;
+use mz_obligations::obligation::{Extent, Obligation, Obligations};
+use mz_tree_proof::references::SimpleTree;
+use mz_types::known::typing;
+use std::alloc::{AllocError, Global};
+
+/// Puts these at the end.
+fn append(out: &mut Clauses, more: Clauses) -> Result<(), AllocError>
+    ensures { OnOk result (out.new ≡ out.old ++ more) }
+{
+    let mut rest = more;
+    out.items.append(&mut rest.items)?;
+    Ok(())
+}
+
+/// The type clauses of the letters in force.
+fn letters_clauses(alloc: Global, letters: &NamedLetters) -> Result<Clauses, AllocError>
+    ensures { IfOk result (λ cs. cs ≡ letters_clauses letters.now) }
+{
+    let mut out = Clauses::new(alloc);
+    for letter in &letters.items {
+        let clauses = letter_clauses(alloc, &letter.letter)?;
+        append(&mut out, clauses)?;
+    }
+    Ok(out)
+}
+
+/// The obligation of the statement by what is given, at the place, where so much can be used.
+#[tactic(auto, using(crate::proofs::OweLemmas::owe_rules))]
+fn owed(
+    alloc: Global,
+    env: &Environment,
+    at: Extent,
+    ctx: &Context,
+    given: &Statements,
+    s: &Statement,
+    place: Place,
+) -> Result<Obligation, AllocError>
+    ensures { IfOk result (λ o. Owes env.now at ctx.now given.now s.now place o) }
+{
+    let letters = letters_clauses(alloc, &ctx.letters)?;
+    match typing(alloc, env, ctx)? {
+        Some(clauses) => {
+            let o = obligation(
+                alloc,
+                clauses.as_slice(),
+                &env.expansions,
+                &ctx.constants,
+                given,
+                s,
+                place,
+                at,
+                &letters,
+            )?;
+            Ok(o)
+        }
+        None => {
+            let o = obligation(
+                alloc,
+                env.typing.as_slice(),
+                &env.expansions,
+                &ctx.constants,
+                given,
+                s,
+                place,
+                at,
+                &letters,
+            )?;
+            Ok(o)
+        }
+    }
+}
+
+/// Puts the obligation of the statement, by what is given, behind the others.
+#[tactic(auto, using(crate::proofs::OweLemmas::oblige_rules))]
+pub fn oblige(
+    alloc: Global,
+    env: &Environment,
+    at: Extent,
+    ctx: &Context,
+    given: &Statements,
+    s: &Statement,
+    place: Place,
+    os: &mut Obligations,
+) -> Result<(), AllocError>
+    ensures { OnOk result (IsPut (Owes env.now at ctx.now given.now s.now place) os.old os.new) }
+{
+    let o = owed(alloc, env, at, ctx, given, s, place)?;
+    os.push(o)
+}
+
+/// Puts the obligation of the statement, by its justification, behind the others, and takes it off what the article has left.
+/// `first` is the place of the step's first token, `linked` says that the step begins with `then` or `hence`, and `behind` is
+/// the place of the token behind the statement.
+///
+/// Refusals, in this order: `StepNoFit` at the step where it is linked and follows no statement; `TooManyObligations` at the
+/// justification; `NotBuilt` at the word `from`; `UnknownLabel` at the first reference that cites nothing.
+#[tactic(auto, using(crate::proofs::OweLemmas::justify_rules))]
+pub fn justify_simply(
+    alloc: Global,
+    env: &Environment,
+    at: Extent,
+    ctx: &Context,
+    first: Place,
+    linked: bool,
+    behind: Place,
+    tree: &SimpleTree,
+    s: &Statement,
+    left: &mut Left,
+    os: &mut Obligations,
+) -> Result<(), ProofFault>
+    ensures { OnMade result (Put (λ o. Justified env.now at ctx.now first linked behind tree.now s.now left.old o left.new) os.old os.new) }
+{
+    match ground(alloc, env, ctx, first, linked, behind, tree, left) {
+        Ok(given) => {
+            oblige(alloc, env, at, ctx, &given, s, place_of(behind, tree), os)?;
+            Ok(())
+        }
+        Err(f) => Err(f),
+    }
+}

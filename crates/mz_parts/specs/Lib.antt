@@ -1,0 +1,5 @@
+pub mod Declarations
+pub mod Propositions
+pub mod Joined
+pub mod Described
+pub mod Named

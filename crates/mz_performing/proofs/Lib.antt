@@ -1,0 +1,11 @@
+pub mod AnswerLemmas
+pub mod TakingLemmas
+pub mod PerformLemmas
+pub mod SkeletonLemmas
+pub mod KeptLemmas
+pub mod EachLemmas
+pub mod ConsiderLemmas
+pub mod ReconsiderLemmas
+pub mod SetLemmas
+pub mod BlockLemmas
+pub mod CaseLemmas

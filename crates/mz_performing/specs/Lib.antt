@@ -1,0 +1,4 @@
+pub mod Blocks
+pub mod Begun
+pub mod Nows
+pub mod Splits

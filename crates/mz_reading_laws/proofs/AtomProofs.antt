@@ -1,0 +1,70 @@
+-- What formulas without parts that are formulas are read to is usable.
+use Rattle.std.proofs.Common.{◌≡◌, ℕ, true, List, [], ◌∷◌, refl, Option}
+use Rattle.std.specs.Prelude.{Result, Ok}
+use Rattle.std.specs.List.{list_all}
+use Rattle.std.proofs.lemmas.Bool.{and_from}
+use Rattle.mz_base.specs.declared.place.Place.{Place}
+use Rattle.mz_logic.specs.Term.{Term}
+use Rattle.mz_logic.specs.declared.kind.Kind.TheVariants.{Predicate}
+use Rattle.mz_core.specs.Statement.{Statement}
+use Rattle.mz_core.specs.TypeStatements.{is_of_type}
+use Rattle.mz_core.proofs.AllLemmas.{all-append, is_of_type_all}
+use Rattle.mz_context.specs.declared.context.Context.{Context}
+use Rattle.mz_environment.specs.declared.environment.Environment.{Environment}
+use Rattle.mz_names.specs.declared.refusal.Refusal.{Refusal}
+use Rattle.mz_choice.specs.declared.wanted.Wanted.TheVariants.{Anything}
+use Rattle.mz_sizes.specs.Sizes.{statement_keeps}
+use Rattle.mz_tree.specs.Trees.{TermData, TermsData, TypeData, AdjectiveData}
+use Rattle.mz_tree.specs.declared.word.Word.{Word}
+use Rattle.mz_applied.specs.Application.{application, attribute_of}
+use Rattle.mz_terms.specs.Adjectives.{is_denied, attribute_in}
+use Rattle.mz_joined.specs.Joined.{conjoined}
+use Rattle.mz_formulas.specs.Atoms as at
+use Rattle.mz_formulas.specs.Atoms.{ReadsSide, ReadsPredicate, ReadsPrivate, ReadsIsType, ReadsAttributed, ReadsFurther, ReadsIsAdjectives}
+use Rattle.mz_choice_laws.specs.Known.{term_known}
+use Rattle.mz_term_laws.specs.Usable.{is_usable, term_usable, statement_usable}
+use Rattle.mz_term_laws.proofs.Outcomes.{on_ok, on_within}
+use Rattle.mz_term_laws.proofs.ChangeProofs.{known_types}
+use Rattle.mz_term_laws.proofs.AppliedProofs.{Reading, reads_statement, reads_attributed, applies_predicate}
+use Rattle.mz_term_laws.proofs.TermProofs.{reads_usable, all_usable}
+use Rattle.mz_term_laws.proofs.TypeProofs.{own_usable, type_is_usable}
+use Rattle.mz_reading_laws.proofs.BoundProofs.{conjoined_usable}
+
+side_usable : (e : Environment) (c : Context) (from least : ℕ) → Reading e c from least → (s : Option TermsData) (o : Result (List Term) Refusal) → ReadsSide e c least s o → on_ok (list_all (term_usable from c)) o ≡ true
+side_usable e c from least r s o at.no_side = refl
+side_usable e c from least r s o (at.side ts x h) = all_usable e c from least r ts x h
+
+pub predicate_usable : (e : Environment) (c : Context) (from least : ℕ) → Reading e c from least → (left : Option TermsData) (w : Word) (right : Option TermsData) (o : Result Statement Refusal) → ReadsPredicate e c least left w right o → on_ok (statement_usable from c) o ≡ true
+predicate_usable e c from least r left w right o (at.left_refused x h) = refl
+predicate_usable e c from least r left w right o (at.right_refused ts x h k) = refl
+predicate_usable e c from least r left w right o (at.both_read ts us first x h k i a) =
+    reads_statement (is_usable from c) e c r.environment (known_types from c r.context) Anything w.place w.place first (application Predicate w.spelling ts us)
+    (all-append (term_usable from c) ts us (side_usable e c from least r left (Ok ts) h) (side_usable e c from least r right (Ok us) k)) x a
+
+pub private_usable : (e : Environment) (c : Context) (from least : ℕ) → Reading e c from least → (w : Word) (s : Option TermsData) (o : Result Statement Refusal) → ReadsPrivate e c least w s o → on_ok (statement_usable from c) o ≡ true
+private_usable e c from least r w s o (at.arguments_refused x h) = refl
+private_usable e c from least r w s o (at.arguments_read ts x h a) = applies_predicate e c from least r w.place w.spelling ts (side_usable e c from least r s (Ok ts) h) x a
+
+pub is_type_usable : (e : Environment) (c : Context) (from least : ℕ) → Reading e c from least → (t : TermData) (ty : TypeData) (o : Result Statement Refusal) → ReadsIsType e c least t ty o → on_ok (statement_usable from c) o ≡ true
+is_type_usable e c from least r t ty o (at.term_refused x h) = refl
+is_type_usable e c from least r t ty o (at.type_refused u x h k) = refl
+is_type_usable e c from least r t ty o (at.both_read u s first h k i) =
+    on_within (statement_usable from c) statement_keeps first (is_of_type s u) (is_of_type_all (term_known (is_usable from c)) 0 s u (type_is_usable e c from least r ty (Ok s) k) (reads_usable e c from least r t (Ok u) h))
+
+attributed_usable : (e : Environment) (c : Context) (from least : ℕ) → Reading e c from least → (u : Term) → term_usable from c u ≡ true → (a : AdjectiveData) (o : Result Statement Refusal) → ReadsAttributed e c least u a o → on_ok (statement_usable from c) o ≡ true
+attributed_usable e c from least r u ku a o (at.own_refused x h) = refl
+attributed_usable e c from least r u ku a o (at.own_read ts first x h i k) =
+    reads_attributed (is_usable from c) e c r.environment (known_types from c r.context) Anything (is_denied a) (attribute_in a).place (attribute_in a).place first (attribute_of (attribute_in a).spelling ts u)
+    (all-append (term_usable from c) ts (u ∷ []) (own_usable e c from least r a (Ok ts) h) (and_from (term_usable from c u) true ku refl)) x k
+
+further_usable : (e : Environment) (c : Context) (from least : ℕ) → Reading e c from least → (first : Place) (u : Term) → term_usable from c u ≡ true → (xs : List AdjectiveData) (s o : Result Statement Refusal) → ReadsFurther e c least first u xs s o → on_ok (statement_usable from c) s ≡ true → on_ok (statement_usable from c) o ≡ true
+further_usable e c from least r first u ku xs s o (at.refused ys x) hs = refl
+further_usable e c from least r first u ku xs s o (at.no_further t) hs = hs
+further_usable e c from least r first u ku xs s o (at.further a ys t p q h k) hs =
+    further_usable e c from least r first u ku ys (conjoined first t p) q k (conjoined_usable from c first t p hs (attributed_usable e c from least r u ku a p h))
+
+pub is_adjectives_usable : (e : Environment) (c : Context) (from least : ℕ) → Reading e c from least → (t : TermData) (a : AdjectiveData) (xs : List AdjectiveData) (o : Result Statement Refusal) → ReadsIsAdjectives e c least t a xs o → on_ok (statement_usable from c) o ≡ true
+is_adjectives_usable e c from least r t a xs o (at.subject_refused x h) = refl
+is_adjectives_usable e c from least r t a xs o (at.subject_read u first p q h i k f) =
+    let ku : term_usable from c u ≡ true = reads_usable e c from least r t (Ok u) h in
+    further_usable e c from least r first u ku xs p q f (attributed_usable e c from least r u ku a p k)

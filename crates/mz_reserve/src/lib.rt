@@ -1,0 +1,4 @@
+//! Reservations: identifiers that are reserved for types.
+#![tactic(auto)]
+
+pub mod reserve;

@@ -1,0 +1,4 @@
+pub mod Usable
+pub mod Whole
+pub mod ChangeLaws
+pub mod TermLaws

@@ -1,0 +1,9 @@
+pub mod Outcomes
+pub mod ReadingLemmas
+pub mod PerformLemmas
+pub mod JustifiedProofs
+pub mod SkeletonProofs
+pub mod IntroductionProofs
+pub mod CompactProofs
+pub mod WalkProofs
+pub mod MadeProofs
