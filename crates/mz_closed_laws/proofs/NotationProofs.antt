@@ -1,6 +1,6 @@
 -- The notations of items.
 use Rattle.std.proofs.Common.{◌≡◌, ◌+◌, [], ◌∷◌, length, refl, true}
-use Rattle.std.specs.Prelude.{nat_eq}
+use Rattle.std.specs.Prelude.{nat_eq, not}
 use Rattle.std.specs.List.{list_all}
 use Rattle.std.proofs.lemmas.Bool.{and_parts, and_from}
 use Rattle.mz_logic.specs.declared.kind.Kind.{Kind}
@@ -8,6 +8,7 @@ use Rattle.mz_logic.specs.declared.kind.Kind.TheVariants as kind
 use Rattle.mz_logic.specs.Sym.{kind_number}
 use Rattle.mz_logic.specs.Term.{Term}
 use Rattle.mz_logic.specs.declared.literal.Literal.{Literal}
+use Rattle.mz_core.specs.Hidden.{is_of_any_object}
 use Rattle.mz_core.specs.Closed.{literal_under, type_under, loci_closed}
 use Rattle.mz_core.specs.declared.soft_type.SoftType.{SoftType}
 use Rattle.mz_core.specs.declared.pattern.Pattern.{Pattern}
@@ -17,7 +18,7 @@ use Rattle.mz_core.specs.declared.item.Item.{Item}
 use Rattle.mz_core.specs.declared.item.Item.TheVariants.{Axiom, AxiomScheme, Primitive, Theorem, Scheme, FunctorMeans, FunctorEquals, Predicate, Attribute, ModeMeans, Abbreviation, Notation, RedefinedFunctor, RedefinedMode, RedefinedPredicate, RedefinedAttribute, Property, Existential, Conditional, Functorial, Reduction, Identification, Structure, SetTerm, Choice}
 use Rattle.mz_items.specs.Loci.{term_on, predicate_on, attribute_on, mode_on}
 use Rattle.mz_items.specs.Exports.{notation_of, notations_of}
-use Rattle.mz_items.specs.Closed.{item_closed, kind_fits, contents_closed, meaning_under, meaning_fits, pattern_closed, is_only, formula_definiens_under, term_definiens_under, formula_meaning_under, functor_redefinition_under, mode_redefinition_under, atom_redefinition_under, field_under, notation_closed}
+use Rattle.mz_items.specs.Closed.{item_closed, is_of_kind, kind_fits, contents_closed, meaning_under, meaning_fits, pattern_closed, is_only, formula_definiens_under, term_definiens_under, formula_meaning_under, functor_redefinition_under, mode_redefinition_under, atom_redefinition_under, field_under, notation_closed}
 use Rattle.mz_items.proofs.RowLemmas.{term_on_under, predicate_on_under, attribute_on_under, mode_on_under}
 use Rattle.mz_items.proofs.ItemLemmas.{three}
 use Rattle.mz_closed_laws.proofs.ItemProofs.{four, functor_again_parts, mode_again_parts}
@@ -91,7 +92,7 @@ notations_from (Attribute d) k h =
     one_notation d.pattern (OfLiteral (attribute_on d.pattern.loci d.subject d.sym)) p (attribute_on_under d.pattern.loci d.subject d.sym) (attribute_fits d.pattern.kind (attribute_on d.pattern.loci d.subject d.sym) k)
 notations_from (ModeMeans d) k h =
     let p : pattern_closed d.pattern ≡ true = (three (pattern_closed d.pattern) (type_under (length d.pattern.loci) d.ty) (formula_definiens_under (length d.pattern.loci) (length d.pattern.loci + 1) d.definiens) h).0 in
-    one_notation d.pattern (OfType (mode_on d.pattern.loci d.sym)) p (mode_on_under d.pattern.loci d.sym) (type_fits d.pattern.kind (mode_on d.pattern.loci d.sym) k)
+    one_notation d.pattern (OfType (mode_on d.pattern.loci d.sym)) p (mode_on_under d.pattern.loci d.sym) (type_fits d.pattern.kind (mode_on d.pattern.loci d.sym) (and_parts (is_of_kind kind.Mode d.pattern) (not (is_of_any_object d.sym)) k).0)
 notations_from (Abbreviation x) k h = and_from _ _ h refl
 notations_from (Notation x) k h = and_from _ _ h refl
 notations_from (RedefinedFunctor d) k h =

@@ -1,11 +1,12 @@
 -- Items without constants and loose indices.
-use Rattle.std.specs.Prelude.{ℕ, ◌+◌, Bool, true, false, ◌&&◌, nat_lt, nat_eq, if◌then◌else◌, List, [], ◌∷◌, ◌++◌, length, Option, Some, None}
+use Rattle.std.specs.Prelude.{ℕ, ◌+◌, Bool, true, false, ◌&&◌, not, nat_lt, nat_eq, if◌then◌else◌, List, [], ◌∷◌, ◌++◌, length, Option, Some, None}
 use Rattle.std.specs.List.{list_all}
 use Rattle.mz_logic.specs.declared.kind.Kind.{Kind}
 use Rattle.mz_logic.specs.declared.kind.Kind.TheVariants.{Mode, Structure, Attribute, Functor, Selector, Aggregate, Predicate, LetterFunctor, LetterPredicate}
 use Rattle.mz_logic.specs.Sym.{kind_number}
 use Rattle.mz_logic.specs.Term.{Term}
 use Rattle.mz_logic.specs.declared.literal.Literal.{Literal}
+use Rattle.mz_core.specs.Hidden.{is_of_any_object}
 use Rattle.mz_core.specs.Statement.{Statement}
 use Rattle.mz_core.specs.declared.adjective.Adjective.{Adjective}
 use Rattle.mz_core.specs.declared.radix.Radix.{Radix}
@@ -280,7 +281,7 @@ contents_closed (item.Structure s) = structure_closed s
 contents_closed (item.SetTerm s) = set_term_closed s
 contents_closed (item.Choice c) = choice_closed c
 
--- the pattern of a definition has the kind of what is defined
+-- the pattern of a definition has the kind of what is defined, and no mode or structure is `object` or `set` anew
 abbrev pub kind_fits : Item → Bool
 kind_fits (item.Axiom s) = true
 kind_fits (item.AxiomScheme s) = true
@@ -291,7 +292,7 @@ kind_fits (item.FunctorMeans d) = is_of_kind Functor d.pattern
 kind_fits (item.FunctorEquals d) = is_of_kind Functor d.pattern
 kind_fits (item.Predicate d) = is_of_kind Predicate d.pattern
 kind_fits (item.Attribute d) = is_of_kind Attribute d.pattern
-kind_fits (item.ModeMeans d) = is_of_kind Mode d.pattern
+kind_fits (item.ModeMeans d) = is_of_kind Mode d.pattern && not (is_of_any_object d.sym)
 kind_fits (item.Abbreviation x) = is_of_kind Mode x.pattern
 kind_fits (item.Notation x) = true
 kind_fits (item.RedefinedFunctor d) = is_of_kind Functor d.pattern
@@ -304,10 +305,10 @@ kind_fits (item.Conditional r) = true
 kind_fits (item.Functorial r) = true
 kind_fits (item.Reduction r) = true
 kind_fits (item.Identification r) = true
-kind_fits (item.Structure s) = true
+kind_fits (item.Structure s) = not (is_of_any_object s.sym)
 kind_fits (item.SetTerm s) = true
 kind_fits (item.Choice c) = true
 
--- the item has no constant and no loose index, and its pattern is of its kind
+-- the item has no constant and no loose index, its pattern is of its kind, and it doesn't make `object` or `set` anew
 abbrev pub item_closed : Item → Bool
 item_closed i = kind_fits i && contents_closed i
