@@ -1,0 +1,4 @@
+//! What justifications without proofs give is determined.
+#![tactic(auto)]
+
+pub mod laws;
