@@ -1,0 +1,4 @@
+pub mod OneExpression
+pub mod OneDeclaration
+pub mod OneProposition
+pub mod OneName

@@ -1,0 +1,4 @@
+//! What parts of steps are read to is determined.
+#![tactic(auto)]
+
+pub mod laws;
