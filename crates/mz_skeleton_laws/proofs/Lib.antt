@@ -1,0 +1,2 @@
+pub mod OnePerformed
+pub mod OneSkeleton
