@@ -1,0 +1,344 @@
+//! Texts, parsed and read by the calls for expressions that are part of no other.
+use mz_base::place::Place;
+use mz_base::token::{MarkedToken, Tokens};
+use mz_context::context::Context;
+use mz_core::adjective::Adjective;
+use mz_core::erasure::erase;
+use mz_core::items::Items;
+use mz_core::left::Left;
+use mz_core::soft_type::SoftType;
+use mz_core::statement::Statement;
+use mz_environment::environment::Environment;
+use mz_formulas::sentence::Sentence;
+use mz_logic::literal::Literal;
+use mz_logic::term::Term;
+use mz_logic::texts::{formula_text, term_text};
+use mz_names::refusal::Refusal;
+use mz_parser_samples::texts::article_tokens;
+use mz_pexpr::marking::marked_tokens;
+use mz_pformula::parse::formula as parse_formula;
+use mz_pterm::parse::term as parse_term;
+use mz_ptype::parse::whole_type;
+use mz_resolve::calls::{formula, sentence, term, type_of};
+use mz_resolve::resolve_fault::ResolveFault;
+use mz_tree::expressions::{FormulaTree, TermTree, TypeTree};
+use std::alloc::Global;
+use std::mem::forget;
+use std::process::Abort;
+
+/// What a text is read as.
+#[derive(Clone, Copy)]
+pub enum Call {
+    Term,
+    Type,
+    /// A type in which a selector may stand without `of`.
+    FieldType,
+    Formula,
+    Sentence,
+}
+
+/// The symbols of an article's vocabulary.
+pub type Symbols = &'static [u8];
+
+/// What stands before the text, whose first byte stands in column 31.
+const FRONT: &[u8] = b"environ vocabularies A; begin ";
+
+/// The tokens of the text behind `begin`, which is the fifth.
+fn tokens_of(rt: &impl Abort, alloc: Global, symbols: Symbols, text: &str) -> Tokens {
+    let mut bytes = Vec::from_slice(alloc, FRONT).expect(rt, "memory");
+    bytes
+        .extend_from_slice(text.as_bytes())
+        .expect(rt, "memory");
+    let tokens = article_tokens(alloc, symbols, bytes.as_slice()).expect(rt, "tokens");
+    forget(bytes);
+    assert!(rt; tokens.items.len() > 5);
+    tokens
+}
+
+/// The refusal's letter and its column.
+fn refusal_text(rt: &impl Abort, alloc: Global, f: ResolveFault) -> Vec<u8> {
+    let (letter, place) = match f {
+        ResolveFault::Refused(Refusal::UnknownSymbol(p)) => ('S', p),
+        ResolveFault::Refused(Refusal::NoNotation(p)) => ('N', p),
+        ResolveFault::Refused(Refusal::UnknownVariable(p)) => ('V', p),
+        ResolveFault::Refused(Refusal::Unregistered(p)) => ('U', p),
+        ResolveFault::Refused(Refusal::UnfitArgument(p)) => ('A', p),
+        ResolveFault::Refused(Refusal::TooLarge(p)) => ('L', p),
+        ResolveFault::Memory => rt.abort(),
+    };
+    let column = place.column;
+    let text = format!(in alloc; "{letter}{column}").expect(rt, "memory");
+    text.into_bytes()
+}
+
+fn text_of_term(rt: &impl Abort, alloc: Global, t: Term) -> Vec<u8> {
+    let text = term_text(alloc, &t).expect(rt, "memory");
+    forget(t);
+    text
+}
+
+fn text_of_statement(rt: &impl Abort, alloc: Global, s: Statement) -> Vec<u8> {
+    let f = erase(alloc, &s).expect(rt, "memory");
+    let text = formula_text(alloc, &f).expect(rt, "memory");
+    forget(s);
+    forget(f);
+    text
+}
+
+/// Puts a blank and the adjective, as a literal without its subject, behind the text.
+fn push_adjective(rt: &impl Abort, alloc: Global, out: &mut Vec<u8>, a: &Adjective) {
+    let args = a.args.copy(alloc).expect(rt, "memory");
+    let l = Literal::Atom {
+        positive: a.positive,
+        sym: a.sym,
+        args,
+    };
+    let f = l.formula(alloc).expect(rt, "memory");
+    let text = formula_text(alloc, &f).expect(rt, "memory");
+    out.push(b' ').expect(rt, "memory");
+    out.extend_from_slice(text.as_slice()).expect(rt, "memory");
+    forget(l);
+    forget(f);
+    forget(text);
+}
+
+/// The radix, and behind it the adjectives.
+fn text_of_type(rt: &impl Abort, alloc: Global, ty: SoftType) -> Vec<u8> {
+    let SoftType { adjectives, radix } = ty;
+    let mut out = text_of_term(rt, alloc, Term::apply(radix.sym, radix.args));
+    for a in &adjectives.items {
+        push_adjective(rt, alloc, &mut out, a);
+    }
+    forget(adjectives);
+    out
+}
+
+fn text_of_sentence(rt: &impl Abort, alloc: Global, s: Sentence) -> Vec<u8> {
+    let Sentence {
+        variables,
+        inner,
+        closed,
+    } = s;
+    forget(variables);
+    forget(inner);
+    text_of_statement(rt, alloc, closed)
+}
+
+/// What a text is read to, as a text, or why it is refused.
+type Read = Result<Vec<u8>, ResolveFault>;
+
+/// The tokens with the place behind the last one, and the least number of a constant that may be used.
+#[derive(Clone, Copy)]
+struct Source<'a> {
+    tokens: &'a [MarkedToken],
+    end: Place,
+    least: u32,
+}
+
+fn read_term(
+    rt: &impl Abort,
+    alloc: Global,
+    env: &Environment,
+    ctx: &Context,
+    left: &mut Left,
+    from: Source,
+) -> Read {
+    assert!(rt; from.tokens.len() > 5);
+    let parsed = parse_term(alloc, from.tokens, from.end, 5, false);
+    let (node, _) = parsed.expect(rt, "a term");
+    let tree = TermTree::from_node(node);
+    let o = term(alloc, env, ctx, from.least, &tree, left);
+    forget(tree);
+    match o {
+        Ok(found) => Ok(text_of_term(rt, alloc, found)),
+        Err(f) => Err(f),
+    }
+}
+
+/// A selector may stand without `of` in the type of a field.
+fn read_type(
+    rt: &impl Abort,
+    alloc: Global,
+    env: &Environment,
+    ctx: &mut Context,
+    left: &mut Left,
+    from: Source,
+    field: bool,
+) -> Read {
+    assert!(rt; from.tokens.len() > 5);
+    let parsed = whole_type(alloc, from.tokens, from.end, 5, field);
+    let (node, _) = parsed.expect(rt, "a type");
+    let tree = TypeTree::from_node(node);
+    let o = type_of(alloc, env, ctx, from.least, &tree, left);
+    forget(tree);
+    match o {
+        Ok(found) => Ok(text_of_type(rt, alloc, found)),
+        Err(f) => Err(f),
+    }
+}
+
+fn read_formula(
+    rt: &impl Abort,
+    alloc: Global,
+    env: &Environment,
+    ctx: &mut Context,
+    left: &mut Left,
+    from: Source,
+) -> Read {
+    assert!(rt; from.tokens.len() > 5);
+    let parsed = parse_formula(alloc, from.tokens, from.end, 5, false);
+    let (node, _) = parsed.expect(rt, "a formula");
+    let tree = FormulaTree::from_node(node);
+    let o = formula(alloc, env, ctx, from.least, &tree, left);
+    forget(tree);
+    match o {
+        Ok(found) => Ok(text_of_statement(rt, alloc, found)),
+        Err(f) => Err(f),
+    }
+}
+
+fn read_sentence(
+    rt: &impl Abort,
+    alloc: Global,
+    env: &Environment,
+    ctx: &mut Context,
+    left: &mut Left,
+    from: Source,
+) -> Read {
+    assert!(rt; from.tokens.len() > 5);
+    let parsed = parse_formula(alloc, from.tokens, from.end, 5, false);
+    let (node, _) = parsed.expect(rt, "a formula");
+    let tree = FormulaTree::from_node(node);
+    let o = sentence(alloc, env, ctx, from.least, &tree, left);
+    forget(tree);
+    match o {
+        Ok(found) => Ok(text_of_sentence(rt, alloc, found)),
+        Err(f) => Err(f),
+    }
+}
+
+fn read(
+    rt: &impl Abort,
+    alloc: Global,
+    env: &Environment,
+    ctx: &mut Context,
+    left: &mut Left,
+    from: Source,
+    call: Call,
+) -> Read {
+    match call {
+        Call::Term => read_term(rt, alloc, env, ctx, left, from),
+        Call::Type => read_type(rt, alloc, env, ctx, left, from, false),
+        Call::FieldType => read_type(rt, alloc, env, ctx, left, from, true),
+        Call::Formula => read_formula(rt, alloc, env, ctx, left, from),
+        Call::Sentence => read_sentence(rt, alloc, env, ctx, left, from),
+    }
+}
+
+/// An answer as a text, and the nodes that are left then.
+pub type Answer = (Vec<u8>, u64);
+
+/// What the text is read to where constants below `least` may not be used and so many nodes are left.
+pub fn answer(
+    rt: &impl Abort,
+    alloc: Global,
+    symbols: Symbols,
+    env: &Environment,
+    ctx: &mut Context,
+    call: Call,
+    least: u32,
+    nodes: u64,
+    text: &str,
+) -> Answer {
+    let tokens = tokens_of(rt, alloc, symbols, text);
+    let marked = marked_tokens(alloc, &tokens).expect(rt, "memory");
+    let mut left = Left {
+        nodes,
+        obligations: 0,
+        made: Items::new(alloc),
+    };
+    let from = Source {
+        tokens: marked.as_slice(),
+        end: tokens.end,
+        least,
+    };
+    let o = read(rt, alloc, env, ctx, &mut left, from, call);
+    forget(tokens);
+    forget(marked);
+    let nodes = left.nodes;
+    forget(left);
+    match o {
+        Ok(text) => (text, nodes),
+        Err(f) => (refusal_text(rt, alloc, f), nodes),
+    }
+}
+
+/// Whether the answer has the text, and so many nodes are left where that is asked.
+pub fn is_answer(found: Answer, wanted: &str, left: Option<u64>) -> bool {
+    let (text, nodes) = found;
+    let same = text.as_slice() == wanted.as_bytes();
+    forget(text);
+    match left {
+        Some(left) => same && nodes == left,
+        None => same,
+    }
+}
+
+/// The least number of a constant that may be used, a text, what it is read to, and the nodes of that; a refusal has none.
+pub type Row = (u32, &'static str, &'static str, u64);
+
+/// With ample nodes the text is read so, with exactly enough too, and then none is left; with one too few it is too large at
+/// its first token.
+fn is_read(
+    rt: &impl Abort,
+    alloc: Global,
+    symbols: Symbols,
+    env: &Environment,
+    ctx: &mut Context,
+    call: Call,
+    row: Row,
+) -> bool {
+    let (least, text, wanted, nodes) = row;
+    let found = answer(rt, alloc, symbols, env, ctx, call, least, 1000, text);
+    let ample = is_answer(found, wanted, Some(1000u64.saturating_sub(nodes)));
+    let found = answer(rt, alloc, symbols, env, ctx, call, least, nodes, text);
+    let enough = is_answer(found, wanted, Some(0));
+    let fewer = nodes.saturating_sub(1);
+    let found = answer(rt, alloc, symbols, env, ctx, call, least, fewer, text);
+    let short = is_answer(found, "L31", None);
+    ample && enough && short
+}
+
+fn is_refused(
+    rt: &impl Abort,
+    alloc: Global,
+    symbols: Symbols,
+    env: &Environment,
+    ctx: &mut Context,
+    call: Call,
+    row: Row,
+) -> bool {
+    let (least, text, wanted, _) = row;
+    let found = answer(rt, alloc, symbols, env, ctx, call, least, 1000, text);
+    is_answer(found, wanted, None)
+}
+
+/// The text is read so, or refused so, and no constant more is in force then.
+pub fn check(
+    rt: &impl Abort,
+    alloc: Global,
+    symbols: Symbols,
+    env: &Environment,
+    ctx: &mut Context,
+    call: Call,
+    row: Row,
+) {
+    let count = ctx.constants.items.len();
+    let same = if row.3 == 0 {
+        is_refused(rt, alloc, symbols, env, ctx, call, row)
+    } else {
+        is_read(rt, alloc, symbols, env, ctx, call, row)
+    };
+    let text = row.1;
+    assert!(rt; same && ctx.constants.items.len() == count, "{text}");
+}
