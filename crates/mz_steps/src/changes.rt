@@ -1,7 +1,7 @@
 //! How blocks and contexts change by steps.
 ghost use Rattle.std.specs.Prelude.{◌≡◌, ◌++◌, map, flat_map, IfOk, OnOk};
 ghost use Rattle.mz_core.specs.Parts.{conjunction};
-ghost use Rattle.mz_steps.specs.Changes.{block_after, with_thesis, statement_of, joined_by, label_of, with_stated, context_after, outside_of, at_start_of_proof, at_start_of_now, behind_block};
+ghost use Rattle.mz_steps.specs.Changes.{block_after, with_thesis, statement_of, joined_by, label_of, with_stated, context_after, outside_of, at_start_of_proof, at_start_of_now};
 
 use crate::block::Block;
 use crate::effect::Effect;
@@ -136,13 +136,4 @@ pub fn begin_now(alloc: Global, ctx: &mut Context) -> Result<Outside, AllocError
         previous,
         thesis,
     })
-}
-
-/// Ends a block: what was put into force within it goes out of force, and what was put aside comes back.
-pub fn end_block(ctx: &mut Context, outside: Outside)
-    ensures { ctx.new ≡ behind_block ctx.old outside }
-{
-    ctx.restore(outside.mark);
-    ctx.previous = outside.previous;
-    ctx.thesis = outside.thesis;
 }

@@ -1,17 +1,15 @@
 //! The table of steps.
-ghost use Rattle.std.specs.Prelude.{◌≡◌, ◌++◌, ◌∷◌, [], Option, IfOk, OnOk};
+ghost use Rattle.std.specs.Prelude.{◌≡◌, ◌++◌, ◌∷◌, [], IfOk, OnOk};
 ghost use Rattle.mz_context.specs.Context.{next};
 ghost use Rattle.mz_context.specs.Changes.{with_constant};
-ghost use Rattle.mz_core.specs.TypeStatements.{is_of_type};
 ghost use Rattle.mz_names.specs.Closing.{there_are};
 ghost use Rattle.mz_now.specs.Stated.{defined};
-ghost use Rattle.mz_steps.specs.Rows.{constant_for, with_constants, owed, hidden_from, parts_said, stands_in_now};
+ghost use Rattle.mz_steps.specs.Rows.{constant_for, with_constants, hidden_from, parts_said, stands_in_now};
 
 use crate::read_step::{Definition, ReadStep};
 use mz_context::constant::Constant;
 use mz_context::context::Context;
 use mz_core::statement::Statement;
-use mz_core::type_statements::is_of_type;
 use mz_names::closing::{put_variable, put_variables, there_are};
 use mz_names::variable::{Variable, Variables};
 use mz_now::hidden::defined;
@@ -78,50 +76,6 @@ pub fn put_constants(alloc: Global, ctx: &mut Context, step: &ReadStep) -> Resul
         ReadStep::Reconsider(d) => put_definition(alloc, ctx, d),
         ReadStep::Set(d) => put_definition(alloc, ctx, d),
         ReadStep::State(_) => Ok(()),
-    }
-}
-
-fn copied(alloc: Global, s: &Statement) -> Result<Option<Statement>, AllocError>
-    ensures { IfOk result (λ o. o ≡ Some s.now) }
-{
-    let s = s.copy(alloc)?;
-    Ok(Some(s))
-}
-
-fn owed_existential(
-    alloc: Global,
-    ctx: &Context,
-    vs: &Variables,
-    s: &Statement,
-) -> Result<Option<Statement>, AllocError>
-    ensures { IfOk result (λ o. o ≡ Some (there_are (next ctx.now) vs.now s.now)) }
-{
-    let s = existential(alloc, ctx, vs, s)?;
-    Ok(Some(s))
-}
-
-fn owed_type(alloc: Global, d: &Definition) -> Result<Option<Statement>, AllocError>
-    ensures { IfOk result (λ o. o ≡ Some (is_of_type d.now.ty d.now.term)) }
-{
-    let s = is_of_type(alloc, &d.ty, &d.term)?;
-    Ok(Some(s))
-}
-
-/// What has to be justified for the step, where anything has: what it states or concludes, the existential of
-/// `consider`, the new type of the term of `reconsider`.
-pub fn owed(alloc: Global, ctx: &Context, step: &ReadStep) -> Result<Option<Statement>, AllocError>
-    ensures { IfOk result (λ o. o ≡ owed ctx.now step.now) }
-{
-    match step {
-        ReadStep::Let(_) => Ok(None),
-        ReadStep::Assume(_) => Ok(None),
-        ReadStep::Given(_, _) => Ok(None),
-        ReadStep::Thus(s) => copied(alloc, s),
-        ReadStep::Take(_) => Ok(None),
-        ReadStep::Consider(vs, s) => owed_existential(alloc, ctx, vs, s),
-        ReadStep::Reconsider(d) => owed_type(alloc, d),
-        ReadStep::Set(_) => Ok(None),
-        ReadStep::State(s) => copied(alloc, s),
     }
 }
 

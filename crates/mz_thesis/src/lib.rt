@@ -1,8 +1,7 @@
-//! The thesis of a proof after a step: unfoldings, the table of steps, what cases owe.
+//! The thesis of a proof after a step: unfoldings, the table of steps.
 #![tactic(auto)]
 
 pub mod apply;
-pub mod cases;
 pub mod fresh;
 pub mod laws;
 pub mod rows;
