@@ -1,0 +1,5 @@
+pub mod EqualityLemmas
+pub mod CompactLemmas
+pub mod SideLemmas
+pub mod BegunLemmas
+pub mod NowLemmas

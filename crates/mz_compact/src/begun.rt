@@ -1,0 +1,113 @@
+//! Compact statements that were read and fit.
+ghost use Rattle.std.specs.Prelude.{◌≡◌, OnOk};
+ghost use Rattle.mz_steps.specs.Changes.{block_after, context_after};
+ghost use Rattle.mz_justified.specs.Answers.{OnMade};
+ghost use Rattle.mz_performing.specs.Begun.{FitsCompact, Begins};
+
+use crate::compact::read_compact;
+use mz_base::place::Place;
+use mz_context::context::Context;
+use mz_core::left::Left;
+use mz_environment::environment::Environment;
+use mz_justified::proof_fault::{ProofFault, ProofRefusal};
+use mz_performing::begun::{Begun, step_of};
+use mz_performing::labels::stated_under;
+use mz_performing::linked::is_linked;
+use mz_performing::performing::fit;
+use mz_steps::block::Block;
+use mz_steps::changes::carry_out;
+use mz_steps::effect::Effect;
+use mz_tree_proof::equality_step::EqualityStepTree;
+use mz_tree_proof::propositions::PropositionTree;
+use mz_walk::compact::Compact;
+use std::alloc::{AllocError, Global};
+use std::mem;
+
+/// A compact statement that was read, where it fits.
+#[tactic(auto, using(crate::proofs::BegunLemmas::fitting_rules))]
+fn fit_compact(
+    alloc: Global,
+    env: &Environment,
+    ctx: &Context,
+    block: &Block,
+    first: Place,
+    concluded: bool,
+    p: &PropositionTree,
+    x: Box<Compact>,
+) -> Result<Begun, ProofFault>
+    ensures { OnMade result (FitsCompact env.now ctx.now block.now first concluded p.now x.value) }
+{
+    let stated = stated_under(alloc, &p.label, &x.said.states)?;
+    let step = step_of(alloc, concluded, &x.said.states)?;
+    let step = Box::new(alloc, step)?;
+    match fit(alloc, env, ctx, block, first, &step) {
+        Ok(effect) => Ok(Begun {
+            compact: Box::into_inner(x),
+            step: Box::into_inner(step),
+            effect,
+            stated,
+        }),
+        Err(f) => Err(f),
+    }
+}
+
+/// Reads a compact statement, where it is linked behind a statement just before, and sees that it fits. The context is as
+/// before.
+///
+/// Refusals: `StepNoFit` at the step where it is linked and there is no statement just before; those of what is read; then
+/// `StepNoFit` and `TooLarge` at the step.
+#[tactic(auto, using(crate::proofs::BegunLemmas::begin_rules))]
+pub fn begin(
+    alloc: Global,
+    env: &Environment,
+    ctx: &mut Context,
+    block: &Block,
+    first: Place,
+    linked: bool,
+    concluded: bool,
+    p: &PropositionTree,
+    sides: &[EqualityStepTree],
+    left: &mut Left,
+) -> Result<Begun, ProofFault>
+    ensures begins { OnMade result (Begins env.now ctx.old block.now first linked concluded p.now sides.now left.old left.new) }
+    ensures same { ctx.new ≡ ctx.old }
+{
+    if !is_linked(linked, ctx) {
+        return Err(ProofFault::Refused(ProofRefusal::StepNoFit(first)));
+    }
+    match read_compact(alloc, env, ctx, first, p, sides, left) {
+        Ok(x) => {
+            let x = Box::new(alloc, x)?;
+            fit_compact(alloc, env, ctx, block, first, concluded, p, x)
+        }
+        Err(f) => Err(f),
+    }
+}
+
+/// Carries out the step, with what it states. Its effect is taken out.
+fn carry(
+    alloc: Global,
+    ctx: &mut Context,
+    block: &mut Block,
+    x: &mut Begun,
+) -> Result<(), AllocError>
+    ensures context { OnOk result (ctx.new ≡ context_after ctx.old x.old.step x.old.effect x.old.stated) }
+    ensures block { OnOk result (block.new ≡ block_after block.old x.old.effect) }
+{
+    let effect = mem::replace(&mut x.effect, Effect::Unchanged);
+    carry_out(alloc, ctx, block, &x.step, effect, &x.stated)
+}
+
+/// What stands behind a compact statement that was justified.
+pub fn finish(
+    alloc: Global,
+    ctx: &mut Context,
+    block: &mut Block,
+    x: Begun,
+) -> Result<(), AllocError>
+    ensures context { OnOk result (ctx.new ≡ context_after ctx.old x.step x.effect x.stated) }
+    ensures block { OnOk result (block.new ≡ block_after block.old x.effect) }
+{
+    let mut x = Box::new(alloc, x)?;
+    carry(alloc, ctx, block, &mut x)
+}

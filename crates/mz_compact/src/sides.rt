@@ -1,0 +1,65 @@
+//! How the further sides of an iterative equality are justified.
+ghost use Rattle.std.specs.Prelude.{◌≡◌, length};
+ghost use Rattle.mz_justified.specs.Answers.{OnMade};
+ghost use Rattle.mz_walk.specs.Compact.{place_behind, JustifiesSides};
+ghost use Rattle.mz_walk.specs.Answers.{Brings};
+
+use mz_base::place::Place;
+use mz_context::context::Context;
+use mz_core::left::Left;
+use mz_core::statement::Statement;
+use mz_environment::environment::Environment;
+use mz_justified::justified::justify_simply;
+use mz_justified::proof_fault::ProofFault;
+use mz_obligations::obligation::{Extent, Obligations};
+use mz_tree_proof::equality_step::EqualityStepTree;
+use std::alloc::Global;
+
+/// The place of the token behind an equation: the sign before the next side, or the semicolon.
+pub fn place_behind(sides: &[EqualityStepTree], semicolon: Place) -> Place
+    ensures { result ≡ place_behind sides.now semicolon }
+{
+    match sides.split_first() {
+        Some((k, _)) => k.sign,
+        None => semicolon,
+    }
+}
+
+/// The equations of further sides, each justified behind its own one. The obligations are put behind the others.
+#[tactic(auto, using(crate::proofs::SideLemmas::side_rules))]
+pub fn justify_sides(
+    alloc: Global,
+    env: &Environment,
+    at: Extent,
+    ctx: &Context,
+    first: Place,
+    semicolon: Place,
+    sides: &[EqualityStepTree],
+    ss: &[Statement],
+    left: &mut Left,
+    os: &mut Obligations,
+) -> Result<(), ProofFault>
+    requires { length ss.now ≡ length sides.now }
+    ensures { OnMade result (Brings (λ o. JustifiesSides env.now at ctx.now first semicolon sides.now ss.now left.old o) left.new os.old os.new) }
+{
+    let mut rest = sides;
+    let mut equations = ss;
+    while let Some((k, others)) = rest.split_first() {
+        match equations.split_first() {
+            Some((s, more)) => {
+                let behind = place_behind(others, semicolon);
+                let simple = &k.simple;
+                match justify_simply(
+                    alloc, env, at, ctx, first, false, behind, simple, s, left, os,
+                ) {
+                    Ok(()) => {}
+                    Err(f) => return Err(f),
+                }
+                rest = others;
+                equations = more;
+            }
+            None => unreachable!(),
+        }
+    }
+    Ok(())
+}
