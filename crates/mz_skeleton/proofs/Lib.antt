@@ -1,0 +1,4 @@
+pub mod SliceLemmas
+pub mod LetLemmas
+pub mod AssumeLemmas
+pub mod TakeLemmas

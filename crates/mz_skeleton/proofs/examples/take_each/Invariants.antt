@@ -1,0 +1,10 @@
+use Rattle.std.proofs.Common.{length}
+use Rattle.mz_walk.specs.Walked.{state}
+use Rattle.mz_performing.proofs.SkeletonLemmas.{TakingAll}
+use Rattle.mz_skeleton.proofs.examples.take_each.Given as goal
+
+abbrev pub invariant-loop-next : goal.invariant-loop-next
+invariant-loop-next l = TakingAll l.env l.first (state l.ctx l.block l.left) l.rest (state l.initial.ctx l.initial.block l.initial.left) l.trees
+
+abbrev pub decreases-loop-next : goal.decreases-loop-next
+decreases-loop-next l = length l.rest
