@@ -1,0 +1,6 @@
+//! The walk over the steps of reasonings, with the reasonings that stand in them.
+#![tactic(auto)]
+
+mod parts;
+pub mod proving;
+mod walk;
