@@ -1,0 +1,4 @@
+pub mod OneBlock
+pub mod OneSaid
+pub mod OneSplit
+pub mod OneWalk

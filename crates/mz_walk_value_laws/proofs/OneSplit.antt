@@ -1,0 +1,131 @@
+-- Splits into cases, each where its cases lead to one outcome at most.
+use Rattle.std.proofs.Common.{◌≡◌, List, [], ◌∷◌, refl, sym, subst}
+use Rattle.std.specs.Prelude.{Result, Ok, Err, is_some}
+use Rattle.mz_base.specs.declared.place.Place.{Place}
+use Rattle.mz_core.specs.Statement.{Statement}
+use Rattle.mz_core.specs.declared.left.Left.{Left}
+use Rattle.mz_context.specs.declared.context.Context.{Context}
+use Rattle.mz_context.specs.declared.labelled.LabelledStatement.{LabelledStatement}
+use Rattle.mz_environment.specs.declared.environment.Environment.{Environment}
+use Rattle.mz_names.specs.declared.refusal.Refusal.{Refusal}
+use Rattle.mz_sizes.specs.Sizes.{statement_keeps}
+use Rattle.mz_applied.specs.Within.{within}
+use Rattle.mz_steps.specs.Changes.{with_stated}
+use Rattle.mz_tree_proof.specs.Reasoning.{StepList, SupposeList, CaseSuppose, no_supposes, more_supposes}
+use Rattle.mz_tree_proof.specs.declared.propositions.HypothesesTree.{HypothesesTree}
+use Rattle.mz_tree_proof.specs.declared.skeleton.SplitTree.{SplitTree}
+use Rattle.mz_obligations.specs.declared.obligation.Extent.{Extent}
+use Rattle.mz_obligations.specs.declared.obligation.Obligation.{Obligation}
+use Rattle.mz_parts.specs.Joined.{joined_within}
+use Rattle.mz_parts.specs.Propositions.{PropositionsRead, hypotheses_in}
+use Rattle.mz_justified.specs.Justified.{Grounds, Owes, place_of}
+use Rattle.mz_justified.specs.declared.proof_fault.ProofRefusal.{ProofRefusal}
+use Rattle.mz_justified_laws.specs.Determined.{AtMostOne}
+use Rattle.mz_justified_laws.proofs.Sequence.{one_by, one_value, NextOk, one_next_ok, After, one_after, Makes, one_made, AfterRead, one_after_read}
+use Rattle.mz_justified_laws.proofs.OneJustification.{one_ground, one_owed}
+use Rattle.mz_parts_laws.proofs.OneProposition.{one_propositions}
+use Rattle.mz_walk.specs.Walked.{State, Walked, Made, Refused, behind}
+use Rattle.mz_walk.specs.Walk as wk
+use Rattle.mz_walk.specs.Walk.{Cases, no_cases, with_case, disjunction_of, behind_cases, Proves, Splits, Supposes}
+use Rattle.mz_introduction_laws.proofs.Walks.{refused, unread, NextMade, one_next_made}
+use Rattle.mz_walk_value_laws.proofs.OneBlock.{OneReasoning, one_proof}
+
+abbrev pub OneCases : Environment → Extent → SupposeList → Type 0
+OneCases e at us = (c : Context) (l : Left) → AtMostOne (Supposes e at c us l)
+
+-- no case
+abbrev none_made : Left → Walked Cases
+none_made l = Made [] (no_cases l)
+
+abbrev NoCaseAs : Left → Walked Cases → Type 0
+NoCaseAs l o = o ≡ none_made l
+
+no_case_as : (e : Environment) (at : Extent) (c : Context) (l : Left) (o : Walked Cases) → Supposes e at c no_supposes l o → NoCaseAs l o
+no_case_as e at c l o (wk.no_case _ _) = refl
+
+pub one_no_case : (e : Environment) (at : Extent) → OneCases e at no_supposes
+one_no_case e at c l = one_by (Supposes e at c no_supposes l) (NoCaseAs l) (no_case_as e at c l) (one_value (none_made l))
+
+-- a case in front of others
+abbrev behind_case : Statement → List Obligation → Walked Cases → Walked Cases
+behind_case x os z = behind os (with_case x z)
+
+abbrev OthersNext : Environment → Extent → Context → SupposeList → Statement → List Obligation → Left → Walked Cases → Type 0
+OthersNext e at c us x os n o = Makes (Supposes e at c us n) (behind_case x os) o
+
+abbrev JoinedNext : Environment → Extent → Context → StepList → Place → SupposeList → List LabelledStatement → Left → Statement → Walked Cases → Type 0
+JoinedNext e at c ds end us ps m x o = After (Proves e at (with_stated c ps) ds end m) (NextMade (OthersNext e at c us x)) o
+
+abbrev JoinedIs : Environment → Extent → Context → StepList → Place → SupposeList → List LabelledStatement → Left → Result Statement Refusal → Walked Cases → Type 0
+JoinedIs e at c ds end us ps m z o = NextOk unread (JoinedNext e at c ds end us ps m) z o
+
+abbrev HypothesesNext : Environment → Extent → Context → Place → StepList → Place → SupposeList → List LabelledStatement → Left → Walked Cases → Type 0
+HypothesesNext e at c p ds end us ps m o = JoinedIs e at c ds end us ps m (joined_within p ps) o
+
+abbrev MoreCasesAs : Environment → Extent → Context → Place → HypothesesTree → StepList → Place → SupposeList → Left → Walked Cases → Type 0
+MoreCasesAs e at c p h ds end us l o = AfterRead (PropositionsRead e c 0 l (hypotheses_in h)) unread (HypothesesNext e at c p ds end us) o
+
+more_cases_as : (e : Environment) (at : Extent) (c : Context) (p q end semicolon : Place) (h : HypothesesTree) (ds : StepList) (us : SupposeList) (l : Left) (o : Walked Cases) →
+    Supposes e at c (more_supposes (CaseSuppose p h q ds end semicolon) us) l o → MoreCasesAs e at c p h ds end us l o
+more_cases_as e at c p q end semicolon h ds us l o (wk.not_supposed _ _ m _ _ _ _ _ _ _ r i) = (Err r, m, i, refl)
+more_cases_as e at c p q end semicolon h ds us l o (wk.supposition_too_large _ _ m _ _ _ _ _ _ _ ps r i k) =
+    (Ok ps, m, i, subst (λ (z : Result Statement Refusal). JoinedIs e at c ds end us ps m z o) (sym k) refl)
+more_cases_as e at c p q end semicolon h ds us l o (wk.case_not_proved _ _ m _ _ _ _ _ _ _ ps x r i k g) =
+    (Ok ps, m, i, subst (λ (z : Result Statement Refusal). JoinedIs e at c ds end us ps m z o) (sym k) (Refused r, g, refl))
+more_cases_as e at c p q end semicolon h ds us l o (wk.one_more _ _ m n _ _ _ _ _ _ _ ps x os y i k g f) =
+    (Ok ps, m, i, subst (λ (z : Result Statement Refusal). JoinedIs e at c ds end us ps m z o) (sym k) (Made os n, g, (y, f, refl)))
+
+one_joined_next : (e : Environment) (at : Extent) (c : Context) (ds : StepList) (end : Place) (us : SupposeList) (ps : List LabelledStatement) (m : Left) → OneReasoning e at ds → OneCases e at us → (x : Statement) →
+    AtMostOne (JoinedNext e at c ds end us ps m x)
+one_joined_next e at c ds end us ps m one others x =
+    one_after (Proves e at (with_stated c ps) ds end m) (NextMade (OthersNext e at c us x)) (one_proof e at ds one (with_stated c ps) end m)
+    (one_next_made (OthersNext e at c us x) (λ (os : List Obligation) (n : Left). one_made (Supposes e at c us n) (behind_case x os) (others c n)))
+
+pub one_more_cases : (e : Environment) (at : Extent) (p q end semicolon : Place) (h : HypothesesTree) (ds : StepList) (us : SupposeList) → OneReasoning e at ds → OneCases e at us →
+    OneCases e at (more_supposes (CaseSuppose p h q ds end semicolon) us)
+one_more_cases e at p q end semicolon h ds us one others c l =
+    one_by (Supposes e at c (more_supposes (CaseSuppose p h q ds end semicolon) us) l) (MoreCasesAs e at c p h ds end us l) (more_cases_as e at c p q end semicolon h ds us l)
+    (one_after_read (PropositionsRead e c 0 l (hypotheses_in h)) unread (HypothesesNext e at c p ds end us) (one_propositions e c 0 l (hypotheses_in h))
+    (λ (ps : List LabelledStatement) (m : Left). one_next_ok unread (JoinedNext e at c ds end us ps m) (one_joined_next e at c ds end us ps m one others) (joined_within p ps)))
+
+-- a split
+abbrev split_made : State → List Obligation → Cases → Obligation → Walked State
+split_made s os x o = Made (o ∷ os) (behind_cases s x.left)
+
+abbrev OwedNext : Environment → Extent → State → SplitTree → List Statement → List Obligation → Cases → Statement → Walked State → Type 0
+OwedNext e at s t given os x y o = Makes (Owes e at s.context given y (place_of t.semicolon t.simple)) (split_made s os x) o
+
+abbrev OwedIs : Environment → Extent → State → SplitTree → List Statement → List Obligation → Cases → Result Statement Refusal → Walked State → Type 0
+OwedIs e at s t given os x z o = NextOk unread (OwedNext e at s t given os x) z o
+
+abbrev CasesNext : Environment → Extent → State → Place → SplitTree → List Statement → List Obligation → Cases → Walked State → Type 0
+CasesNext e at s first t given os x o = OwedIs e at s t given os x (within statement_keeps first (disjunction_of x.suppositions)) o
+
+abbrev GroundedNext : Environment → Extent → State → Place → SplitTree → SupposeList → List Statement → Left → Walked State → Type 0
+GroundedNext e at s first t us given l o = After (Supposes e at s.context us l) (NextMade (CasesNext e at s first t given)) o
+
+abbrev GroundsIt : Environment → State → Place → SplitTree → Result (List Statement) ProofRefusal → Left → Type 0
+GroundsIt e s first t o a = Grounds e s.context first (is_some t.then) t.semicolon t.simple s.left o a
+
+abbrev SplitsAs : Environment → Extent → State → Place → SplitTree → SupposeList → Walked State → Type 0
+SplitsAs e at s first t us o = AfterRead (GroundsIt e s first t) refused (GroundedNext e at s first t us) o
+
+splits_as : (e : Environment) (at : Extent) (s : State) (first : Place) (t : SplitTree) (us : SupposeList) (o : Walked State) → Splits e at s first t us o → SplitsAs e at s first t us o
+splits_as e at s first t us o (wk.not_grounded _ _ _ _ r l h) = (Err r, l, h, refl)
+splits_as e at s first t us o (wk.cases_stopped _ _ _ _ given l r h i) = (Ok given, l, h, (Refused r, i, refl))
+splits_as e at s first t us o (wk.cases_too_large _ _ _ _ given l os x r h i k) =
+    (Ok given, l, h, (Made os x, i, subst (λ (z : Result Statement Refusal). OwedIs e at s t given os x z o) (sym k) refl))
+splits_as e at s first t us o (wk.split _ _ _ _ given l os x y u h i k g) =
+    (Ok given, l, h, (Made os x, i, subst (λ (z : Result Statement Refusal). OwedIs e at s t given os x z o) (sym k) (u, g, refl)))
+
+one_cases_next : (e : Environment) (at : Extent) (s : State) (first : Place) (t : SplitTree) (given : List Statement) (os : List Obligation) (x : Cases) → AtMostOne (CasesNext e at s first t given os x)
+one_cases_next e at s first t given os x =
+    one_next_ok unread (OwedNext e at s t given os x)
+    (λ (y : Statement). one_made (Owes e at s.context given y (place_of t.semicolon t.simple)) (split_made s os x) (one_owed e at s.context given y (place_of t.semicolon t.simple)))
+    (within statement_keeps first (disjunction_of x.suppositions))
+
+pub one_split : (e : Environment) (at : Extent) (t : SplitTree) (us : SupposeList) → OneCases e at us → (s : State) (first : Place) → AtMostOne (Splits e at s first t us)
+one_split e at t us one s first =
+    one_by (Splits e at s first t us) (SplitsAs e at s first t us) (splits_as e at s first t us)
+    (one_after_read (GroundsIt e s first t) refused (GroundedNext e at s first t us) (one_ground e s.context first (is_some t.then) t.semicolon t.simple s.left)
+    (λ (given : List Statement) (l : Left). one_after (Supposes e at s.context us l) (NextMade (CasesNext e at s first t given)) (one s.context l) (one_next_made (CasesNext e at s first t given) (one_cases_next e at s first t given))))
