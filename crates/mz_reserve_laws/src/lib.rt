@@ -1,0 +1,4 @@
+//! What reservations reserve is determined.
+#![tactic(auto)]
+
+pub mod laws;
