@@ -1,0 +1,3 @@
+pub mod ClosedLemmas
+pub mod SentenceProofs
+pub mod LevelProofs
