@@ -1,5 +1,5 @@
 -- What the code of compact statements that fit tells.
-use Rattle.std.proofs.Common.{◌≡◌, List, [], ◌∷◌, Bool, true, false, refl, sym, ap, ◌∙◌, subst, Some}
+use Rattle.std.proofs.Common.{◌≡◌, List, [], ◌∷◌, Bool, true, false, sym, ap, ◌∙◌, subst, Some}
 use Rattle.std.specs.Prelude.{Result, Ok, Err}
 use Rattle.mz_base.specs.declared.place.Place.{Place}
 use Rattle.mz_core.specs.declared.left.Left.{Left}
@@ -11,22 +11,21 @@ use Rattle.mz_steps.specs.Effects.{Acts}
 use Rattle.mz_steps.specs.declared.block.Block.{Block}
 use Rattle.mz_steps.specs.declared.effect.Effect.{Effect}
 use Rattle.mz_steps.specs.declared.read_step.ReadStep.{ReadStep}
-use Rattle.mz_tree_proof.specs.Reasoning.{JustData, StatedCompact}
+use Rattle.mz_tree_proof.specs.Reasoning.{StatedCompact}
 use Rattle.mz_tree_proof.specs.declared.equality_step.EqualityStepTree.{EqualityStepTree}
 use Rattle.mz_tree_proof.specs.declared.propositions.PropositionTree.{PropositionTree}
-use Rattle.mz_obligations.specs.declared.obligation.Extent.{Extent}
 use Rattle.mz_justified.specs.Answers.{OnMade}
 use Rattle.mz_justified.specs.declared.proof_fault.ProofFault.{ProofFault}
 use Rattle.mz_justified.specs.declared.proof_fault.ProofRefusal.{ProofRefusal}
 use Rattle.mz_justified.specs.declared.proof_fault.ProofRefusal.TheVariants.{StepNoFit}
 use Rattle.mz_walk.specs.declared.compact.Compact.{Compact}
-use Rattle.mz_walk.specs.Walked.{state, Refused}
-use Rattle.mz_walk.specs.Performing.{Performs, keeps, is_linked}
+use Rattle.mz_walk.specs.Walked.{state}
+use Rattle.mz_walk.specs.Performing.{keeps, is_linked}
 use Rattle.mz_walk.specs.Compact.{CompactRead, compact_stated}
 use Rattle.mz_walk.specs.Walk as wa
-use Rattle.mz_walk.specs.Walk.{step_of, Says}
+use Rattle.mz_walk.specs.Walk.{step_of}
 use Rattle.mz_performing.specs.declared.begun.Begun.{Begun}
-use Rattle.mz_performing.specs.Begun.{Fits, IsFit, FitsCompact, IsBegun, Begins}
+use Rattle.mz_performing.specs.Begun.{Fits, IsFit, FitsCompact, Begins}
 use Rattle.mz_performing.proofs.AnswerLemmas.{on_err, on_ok, on_made}
 
 -- whether it fits

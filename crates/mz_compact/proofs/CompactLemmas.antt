@@ -1,5 +1,5 @@
 -- What the code of compact statements tells.
-use Rattle.std.proofs.Common.{◌≡◌, ℕ, List, [], ◌∷◌, length, map, Bool, true, false, refl, sym, ap, ◌∙◌, subst}
+use Rattle.std.proofs.Common.{◌≡◌, ℕ, List, [], ◌∷◌, length, refl, sym, ap, ◌∙◌, subst}
 use Rattle.std.specs.Prelude.{Result, Ok, Err}
 use Rattle.mz_base.specs.declared.place.Place.{Place}
 use Rattle.mz_logic.specs.Term.{Term}
@@ -18,13 +18,11 @@ use Rattle.mz_tree_proof.specs.declared.propositions.PropositionTree.{Propositio
 use Rattle.mz_parts.specs.Named.{SidesRead}
 use Rattle.mz_justified.specs.Answers.{OnMade}
 use Rattle.mz_justified.specs.declared.proof_fault.ProofFault.{ProofFault}
-use Rattle.mz_justified.specs.declared.proof_fault.ProofFault.TheVariants as fault
 use Rattle.mz_justified.specs.declared.proof_fault.ProofRefusal.{ProofRefusal}
-use Rattle.mz_justified.specs.declared.proof_fault.ProofRefusal.TheVariants.{Resolve}
 use Rattle.mz_walk.specs.declared.compact.Compact.{Compact}
 use Rattle.mz_walk.specs.declared.compact.Said.{Said}
 use Rattle.mz_walk.specs.Compact as cp
-use Rattle.mz_walk.specs.Compact.{saying, compact, said_of, SaidBy, EqualityMade, EqualityRead, CompactRead}
+use Rattle.mz_walk.specs.Compact.{saying, compact, SaidBy, EqualityMade, EqualityRead, CompactRead}
 use Rattle.mz_walk.specs.Answers.{resolved}
 use Rattle.mz_performing.proofs.AnswerLemmas.{on_err, on_ok, on_made, on_unread, on_read}
 

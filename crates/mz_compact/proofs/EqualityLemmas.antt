@@ -1,6 +1,6 @@
 -- What the code of equalities tells.
-use Rattle.std.proofs.Common.{◌≡◌, ℕ, List, [], ◌∷◌, ◌++◌, length, map, Bool, true, false, refl, sym, ap, ◌∙◌, subst, Option, Some, None}
-use Rattle.std.specs.Prelude.{Result, Ok, Err, if◌then◌else◌}
+use Rattle.std.proofs.Common.{◌≡◌, ℕ, List, [], ◌∷◌, ◌++◌, length, map, Bool, true, false, sym, ap, ◌∙◌, Option, Some, None}
+use Rattle.std.specs.Prelude.{Ok, Err, if◌then◌else◌}
 use Rattle.mz_base.specs.declared.place.Place.{Place}
 use Rattle.mz_logic.specs.Term.{Term}
 use Rattle.mz_core.specs.Statement.{Statement, Eq}
@@ -10,11 +10,11 @@ use Rattle.mz_names.specs.declared.variable.Variable.{Variable}
 use Rattle.mz_sizes.specs.Sizes.{statement_keeps}
 use Rattle.mz_formulas.specs.declared.sentence.Sentence.{Sentence}
 use Rattle.mz_steps.specs.Equalities.{neighbours, last_of}
-use Rattle.mz_justified.specs.declared.proof_fault.ProofRefusal.TheVariants.{StepNoFit, Resolve}
+use Rattle.mz_justified.specs.declared.proof_fault.ProofRefusal.TheVariants.{Resolve}
 use Rattle.mz_walk.specs.declared.compact.Said.{Said}
 use Rattle.mz_walk.specs.Within.{kept_first, all_kept}
 use Rattle.mz_walk.specs.Compact as cp
-use Rattle.mz_walk.specs.Compact.{is_equation, equalities_closed, listed, EqualityMade}
+use Rattle.mz_walk.specs.Compact.{equalities_closed, listed, EqualityMade}
 use Rattle.mz_performing.proofs.KeptLemmas.{kept_behind, kept_begun, kept_turn, kept_stop, kept_end, kept_first-none}
 
 -- closed statements

@@ -1,5 +1,5 @@
 -- What the code of further sides tells.
-use Rattle.std.proofs.Common.{◌≡◌, ◌+◌, ℕ, suc, map, List, [], ◌∷◌, ◌++◌, length, Bool, false, refl, sym, ap, ◌∙◌, subst, arith}
+use Rattle.std.proofs.Common.{◌≡◌, ◌+◌, ℕ, suc, map, List, [], ◌∷◌, ◌++◌, length, false, refl, sym, ap, ◌∙◌, subst, arith}
 use Rattle.std.specs.Prelude.{Result, Ok, Err}
 use Rattle.std.proofs.lemmas.List.{append-nil, append_assoc, length-append}
 use Rattle.mz_base.specs.declared.place.Place.{Place}

@@ -26,7 +26,7 @@ use std::alloc::Global;
 /// others, in the order of the text, and lowers what the article has left. After a refusal nothing is said of the context, of
 /// the obligations and of what is left.
 ///
-/// Refusals, the first in the order of the text: `StepNoFit`, `ThesisLeft`, `UnknownLabel`, `Resolve`, `TooManyObligations` and
+/// Refusals, the first in the order of reading: `StepNoFit`, `ThesisLeft`, `UnknownLabel`, `Resolve`, `TooManyObligations` and
 /// `NotBuilt`, each with its place. `Memory` for want of memory.
 pub trait ProveSteps {
     /// Takes the steps of a proof of the thesis, behind which an `end` stands at the place. The context is as before.

@@ -1,4 +1,4 @@
-use Rattle.std.proofs.Common.{◌≡◌, sym, ap, ◌∙◌}
+use Rattle.std.proofs.Common.{sym, ap, ◌∙◌}
 use Rattle.std.specs.Prelude.{Ok}
 use Rattle.mz_compact.proofs.BegunLemmas.{told_follows_nothing, told_unread, told_begun}
 use Rattle.mz_compact.proofs.begun.begin.Goals as goal
