@@ -1,91 +1,130 @@
--- What is said of an article, and how a run ends.
-use Rattle.std.proofs.Common.{◌≡◌, ◌≢◌, ℕ, ◌<◌, ◌==◌, ◌&&◌, Bool, true, false, if◌then◌else◌, nat_le, List, length, find, Option, Some, None, Ok, Err, refl, sym, subst, ap, ◌∙◌, arith}
-use Rattle.std.proofs.lemmas.Grind.{common_steps}
-use Rattle.std.proofs.lemmas.Bool.Decides.{nat_tests}
-use Rattle.std.specs.Prelude.{Result, IfOk}
+-- How a run ends.
+use Rattle.std.proofs.Common.{◌≡◌, ◌≢◌, ℕ, ◌<◌, List, length, Option, Some, None, Ok, Err, refl, sym, subst, ap, ◌∙◌}
+use Rattle.std.specs.Prelude.{Result, IfOk, ◌↔◌}
 use Rattle.std.specs.declared.alloc.AllocError.{AllocError}
 use Rattle.mz_base.specs.declared.name.Name.{Name}
-use Rattle.mz_corpus.specs.declared.ordering.Ordering.{Ordering}
-use Rattle.mz_report.specs.Report.{report_text}
+use Rattle.mz_base.proofs.NameEqual.{Name-equal}
 use Rattle.mz_base.specs.declared.status.Status.{Status}
 use Rattle.mz_base.specs.declared.status.Status.TheVariants as status
-use Rattle.mz_io.specs.declared.fetch_fault.FetchFault.TheVariants.{TooLong}
+use Rattle.mz_corpus.specs.declared.ordering.Ordering.{Ordering}
+use Rattle.mz_corpus.specs.declared.gather_fault.GatherFault.{GatherFault}
+use Rattle.mz_corpus.specs.declared.gather_fault.GatherFault.TheVariants as gather
+use Rattle.mz_corpus.specs.Gather.{GatherResult, HasDirectives, OnAnswer, OnRead}
+use Rattle.mz_corpus.specs.Rise.{OnLimit}
+use Rattle.mz_report.specs.Report.{report_text}
 use Rattle.mz_io.specs.declared.file.File.{File}
-use Rattle.mz_io.specs.declared.file_kind.FileKind.TheVariants.{Article}
-use Rattle.mz_io.specs.File.{lookup, same_kind}
-use Rattle.std.specs.Option.{option_map}
-use Rattle.mz_io.specs.Shelf.{answer_of, text_limit, AgreesWith}
-use Rattle.mz_first.specs.declared.first.First.{First}
-use Rattle.mz_first.specs.declared.first.First.TheVariants.{Accepted, Rejected}
 use Rattle.mz_core.specs.declared.verdict.Entry.{Entry}
-use Rattle.mz_outcome.specs.Outcome.{Outcome}
-use Rattle.mizv.specs.Entry.{IsSaid, checked_entry}
-use Rattle.mizv.specs.Run.{IsText, IsEntry, IsLong, AsksLong, Reported, Written}
+use Rattle.mz_texts.specs.Texts.{HasTexts, GathersArticle}
+use Rattle.mz_texts.specs.declared.texts.Texts.{Texts}
+use Rattle.mz_texts.proofs.TextsLemmas.{no_limit}
+use Rattle.mz_entry.specs.Entry.{IsSaid}
+use Rattle.mizv.specs.Run.{AreTexts, IsEntry, PassesLimit, Reported, Written, IsCompletion, IsRefusalOfLimit, refusal_of}
 
-checked_entry-name : (name : Name) (r : First) → checked_entry name r ≡ checked_entry (checked_entry name r).name r
-checked_entry-name name (Accepted fs) = refl
-checked_entry-name name (Rejected faults) = refl
+-- texts that couldn't be gathered
 
--- an entry that a text's outcome calls for says what the text calls for
-pub IsSaid-checked : (name : Name) (bytes : List ℕ) (r : First) (e : Entry) → Outcome bytes r → e ≡ checked_entry name r → IsSaid (Some bytes) e
-IsSaid-checked name bytes r e outcome is =
-    subst (λ (x : Entry). IsSaid (Some bytes) x) (sym is) (r, outcome, checked_entry-name name r)
+written_at : (told : Option (List File)) (order : Option ℕ) (old new : Option (List ℕ)) (f : GatherFault) → new ≡ old → Written told order old new (refusal_of f)
+written_at told order old new gather.Read e = e
+written_at told order old new (gather.TooMuchText bytes) e = e
+written_at told order old new gather.TooManyArticles e = e
+written_at told order old new (gather.TooLong name) e = e
+written_at told order old new gather.TooManyVocabularies e = e
+written_at told order old new gather.Memory e = e
 
-some_text : (bytes : List ℕ) (t : Option (List ℕ)) → Ok t ≡ answer_of (Some bytes) → Some bytes ≡ t
-some_text bytes t h = grind (arith, common_steps, nat_tests)
+pub refused_written : (told : Option (List File)) (order : Option ℕ) (old new : Option (List ℕ)) (f : GatherFault) (s : Status) → s ≡ refusal_of f → new ≡ old → Written told order old new s
+refused_written told order old new f s is e = subst (Written told order old new) (sym is) (written_at told order old new f e)
 
-long_text : (bytes : List ℕ) → Err TooLong ≡ answer_of (Some bytes) → text_limit < length bytes
-long_text bytes h = grind (arith, common_steps, nat_tests)
+no_usage : (f : GatherFault) → refusal_of f ≡ status.Usage → ⊥
+no_usage gather.Read u = cc
+no_usage (gather.TooMuchText bytes) u = cc
+no_usage gather.TooManyArticles u = cc
+no_usage (gather.TooLong name) u = cc
+no_usage gather.TooManyVocabularies u = cc
+no_usage gather.Memory u = cc
 
-not_given : (bytes : List ℕ) (t : Option (List ℕ)) → Ok t ≡ answer_of (Some bytes) → text_limit < length bytes → ⊥
-not_given bytes t h long = grind (arith, common_steps, nat_tests)
+no_number : (n : ℕ) (order : Option ℕ) → order ≡ Some n → order ≡ None → ⊥
+no_number n order e k = cc
 
--- an answer with a text, or with none, is what the shelf has
-answer_of-Ok : (o t : Option (List ℕ)) → Ok t ≡ answer_of o → o ≡ t
-answer_of-Ok None t h = cc
-answer_of-Ok (Some bytes) t h = some_text bytes t h
+pub refused_usage : (order : Option ℕ) (n : ℕ) (f : GatherFault) (s : Status) → s ≡ refusal_of f → order ≡ Some n → (s ≡ status.Usage) ↔ (order ≡ None)
+refused_usage order n f s is e = (λ u. absurd (no_usage f (sym is ∙ u)), λ none. absurd (no_number n order e none))
 
--- an answer that the text is too long comes only where the shelf has a long text
-answer_of-TooLong : (o : Option (List ℕ)) → Err TooLong ≡ answer_of o → IsLong o
-answer_of-TooLong None h = cc
-answer_of-TooLong (Some bytes) h = long_text bytes h
+pub refused_read : (X : Type 0) (f : GatherFault) (P : Type 0) → OnRead {X = X} (Err f) P → refusal_of f ≡ status.ReadFault → P
+refused_read X gather.Read P h e = h
+refused_read X (gather.TooMuchText bytes) P h e = absurd (let bad : ⊥ = cc in bad)
+refused_read X gather.TooManyArticles P h e = absurd (let bad : ⊥ = cc in bad)
+refused_read X (gather.TooLong name) P h e = absurd (let bad : ⊥ = cc in bad)
+refused_read X gather.TooManyVocabularies P h e = absurd (let bad : ⊥ = cc in bad)
+refused_read X gather.Memory P h e = absurd (let bad : ⊥ = cc in bad)
 
--- a long text is not given
-answer_of-long : (o t : Option (List ℕ)) → Ok t ≡ answer_of o → IsLong o → ⊥
-answer_of-long None t h long = long
-answer_of-long (Some bytes) t h long = not_given bytes t h long
+pub refused_write : (f : GatherFault) (P : Type 0) → refusal_of f ≡ status.WriteFault → P
+refused_write gather.Read P e = absurd (let bad : ⊥ = cc in bad)
+refused_write (gather.TooMuchText bytes) P e = absurd (let bad : ⊥ = cc in bad)
+refused_write gather.TooManyArticles P e = absurd (let bad : ⊥ = cc in bad)
+refused_write (gather.TooLong name) P e = absurd (let bad : ⊥ = cc in bad)
+refused_write gather.TooManyVocabularies P e = absurd (let bad : ⊥ = cc in bad)
+refused_write gather.Memory P e = absurd (let bad : ⊥ = cc in bad)
 
--- two names with one number have the same text
-lookup-number : (files : List File) (a b : Name) → a.number ≡ b.number → lookup files Article a ≡ lookup files Article b
-lookup-number files a b e =
-    ap (λ (n : ℕ). option_map (λ (file : File). file.bytes) (find (λ (file : File). same_kind file.kind Article && file.name.number == n) files)) e
+passed : (files : List File) (order : Option ℕ) (name : Name) (f : GatherFault) → order ≡ Some name.number → GathersArticle files name (Err f) → PassesLimit files order
+passed files order name f asked h = (name, asked, f, h)
 
--- the shelf tells a text above the limit for the name that is asked for
-pub AsksLong-told : (told : Option (List File)) (files : List File) (order : Option ℕ) (name : Name) → AgreesWith told Article name (Err TooLong) → told ≡ Some files → order ≡ Some name.number → AsksLong files order
-AsksLong-told told files order name agrees is asked =
-    (name, asked, answer_of-TooLong (lookup files Article name) (subst (λ (o : Option (List File)). AgreesWith o Article name (Err TooLong)) is agrees))
+pub refused_limit : {X : Type 0} (files : List File) (order : Option ℕ) (name : Name) (Q : X → Type 0) (f : GatherFault) → order ≡ Some name.number → OnAnswer (GathersArticle files name) Q (Err f) → refusal_of f ≡ status.TooLarge → PassesLimit files order
+refused_limit files order name Q gather.Read asked h e = absurd (let bad : ⊥ = cc in bad)
+refused_limit files order name Q (gather.TooMuchText bytes) asked h e = passed files order name (gather.TooMuchText bytes) asked h
+refused_limit files order name Q gather.TooManyArticles asked h e = passed files order name gather.TooManyArticles asked h
+refused_limit files order name Q (gather.TooLong other) asked h e = passed files order name (gather.TooLong other) asked h
+refused_limit files order name Q gather.TooManyVocabularies asked h e = passed files order name gather.TooManyVocabularies asked h
+refused_limit files order name Q gather.Memory asked h e = absurd (let bad : ⊥ = cc in bad)
+
+pub refused_amount : (X : Type 0) (f : GatherFault) (P : Type 0) → OnLimit {X = X} (Err f) P → refusal_of f ≡ status.TooLarge → P
+refused_amount X gather.Read P h e = absurd (let bad : ⊥ = cc in bad)
+refused_amount X (gather.TooMuchText bytes) P h e = h
+refused_amount X gather.TooManyArticles P h e = h
+refused_amount X (gather.TooLong other) P h e = h
+refused_amount X gather.TooManyVocabularies P h e = h
+refused_amount X gather.Memory P h e = absurd (let bad : ⊥ = cc in bad)
+
+answer_at : (f : GatherFault) → IsRefusalOfLimit (refusal_of f)
+answer_at gather.Read = tt
+answer_at (gather.TooMuchText bytes) = tt
+answer_at gather.TooManyArticles = tt
+answer_at (gather.TooLong other) = tt
+answer_at gather.TooManyVocabularies = tt
+answer_at gather.Memory = tt
+
+pub refused_answer : (f : GatherFault) (s : Status) → s ≡ refusal_of f → IsRefusalOfLimit s
+refused_answer f s is = subst IsRefusalOfLimit (sym is) (answer_at f)
+
+complete_at : (f : GatherFault) → (refusal_of f ≡ status.ReadFault → ⊥) → (refusal_of f ≡ status.TooLarge → ⊥) → IsCompletion (refusal_of f)
+complete_at gather.Read read large = absurd (read refl)
+complete_at (gather.TooMuchText bytes) read large = absurd (large refl)
+complete_at gather.TooManyArticles read large = absurd (large refl)
+complete_at (gather.TooLong other) read large = absurd (large refl)
+complete_at gather.TooManyVocabularies read large = absurd (large refl)
+complete_at gather.Memory read large = tt
+
+pub refused_complete : (f : GatherFault) (s : Status) → s ≡ refusal_of f → (refusal_of f ≡ status.ReadFault → ⊥) → (refusal_of f ≡ status.TooLarge → ⊥) → IsCompletion s
+refused_complete f s is read large = subst IsCompletion (sym is) (complete_at f read large)
+
+-- texts that were gathered
 
 number-unique : (a b : ℕ) (o : Option ℕ) → o ≡ Some a → o ≡ Some b → a ≡ b
 number-unique a b o h k = cc
 
--- where the shelf gave a text, or none, the text that is asked for is within the limit
-pub AsksLong-given : (told : Option (List File)) (files : List File) (order : Option ℕ) (name : Name) (text : Option (List ℕ)) → AgreesWith told Article name (Ok text) → told ≡ Some files → order ≡ Some name.number → AsksLong files order → ⊥
-AsksLong-given told files order name text agrees is asked (other, same, long) =
-    let agree : Ok text ≡ answer_of (lookup files Article name) = subst (λ (o : Option (List File)). AgreesWith o Article name (Ok text)) is agrees in
-    let equal : other.number ≡ name.number = number-unique other.number name.number order same asked in
-    answer_of-long (lookup files Article name) text agree (subst IsLong (lookup-number files other name equal) long)
+pub gathered_within : (files : List File) (order : Option ℕ) (name : Name) (x : Texts) → order ≡ Some name.number → HasTexts files name x → PassesLimit files order → ⊥
+gathered_within files order name x asked has (other, same, f, h) =
+    let e : other ≡ name = Name-equal other name (number-unique other.number name.number order same asked) in
+    no_limit files name x f has (subst (λ n. GathersArticle files n (Err f)) e h)
 
-is_text : (told : Option (List File)) (name : Name) (text : Option (List ℕ)) → AgreesWith told Article name (Ok text) → IsText told name text
-is_text None name text agrees = tt
-is_text (Some files) name text agrees = answer_of-Ok (lookup files Article name) text agrees
+pub are_texts : (told : Option (List File)) (name : Name) (x : Texts) → ((files : List File) → told ≡ Some files → HasTexts files name x) → HasDirectives x.text x.head → AreTexts told name x
+are_texts None name x has head = head
+are_texts (Some files) name x has head = has files refl
 
--- the entry on the text that the shelf gave
-pub IsEntry-given : (told : Option (List File)) (order : Option ℕ) (name : Name) (text : Option (List ℕ)) (e : Entry) → AgreesWith told Article name (Ok text) → order ≡ Some name.number → e.name ≡ name → IsSaid text e → IsEntry told order e
-IsEntry-given told order name text e agrees asked named said =
+-- the entry on the texts that were gathered
+pub IsEntry-gathered : (told : Option (List File)) (order : Option ℕ) (name : Name) (x : Texts) (e : Entry) → AreTexts told name x → order ≡ Some name.number → e.name ≡ name → IsSaid x e → IsEntry told order e
+IsEntry-gathered told order name x e texts asked named said =
     record {
       asked = asked ∙ ap (λ (n : Name). Some n.number) (sym named);
-      text = text;
-      is_text = subst (λ (n : Name). IsText told n text) (sym named) (is_text told name text agrees);
+      texts = x;
+      are_texts = subst (λ (n : Name). AreTexts told n x) (sym named) texts;
       said = said;
     }
 

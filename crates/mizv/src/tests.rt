@@ -1,17 +1,14 @@
 use crate::run::run;
 use mz_base::name::Name;
 use mz_base::numbers::Numbers;
-use mz_base::place::Place;
 use mz_base::status::Status;
 use mz_base::text::Text;
-use mz_first::first::First;
 use mz_io::file::File;
 use mz_io::file_kind::FileKind;
 use mz_io::file_list::FileList;
 use mz_io::gate::OpenGate;
 use mz_io::memory_shelf::MemoryShelf;
 use mz_io::memory_sink::MemorySink;
-use mz_outcome::first_article::first_article;
 use std::alloc::Global;
 use std::mem::forget;
 use std::process::Abort;
@@ -94,28 +91,27 @@ fn runs_write_their_reports(rt: HostRuntime) -> Result<(), Fail> {
         "A rejected 1 faults\n  1:55 61 open 1\ntotal 0 accepted, 1 rejected, 0 blocked, 0 cyclic, 0 missing\n";
     let empty =
         "A accepted 0 theorems, 0 definitions, 0 registrations, 0 schemes\ntotal 1 accepted, 0 rejected, 0 blocked, 0 cyclic, 0 missing\n";
-    let not_built =
-        "A rejected 1 faults\n  1:15 10 not built\ntotal 0 accepted, 1 rejected, 0 blocked, 0 cyclic, 0 missing\n";
     let missing = "NOFILE missing\ntotal 0 accepted, 0 rejected, 0 blocked, 0 cyclic, 1 missing\n";
     let two_open = "environ begin theorem for x,y being object holds x = y;";
+    let with_vocabulary = "environ vocabularies V; begin";
     let mut half_written = ample_row(&["A"], FIRST, "A accepted", Status::WriteFault);
     half_written.step = 10;
     half_written.failing_write = 2;
     let mut unread = ample_row(&["A"], FIRST, "", Status::ReadFault);
     unread.failing_fetch = 1;
+    let mut vocabulary_unread = ample_row(&["A"], with_vocabulary, "", Status::ReadFault);
+    vocabulary_unread.failing_fetch = 2;
+    let mut read_once = ample_row(&["A"], FIRST, ACCEPTED, Status::Accepted);
+    read_once.failing_fetch = 2;
     let rows = [
         ample_row(&["A"], FIRST, ACCEPTED, Status::Accepted),
         ample_row(&["a"], FIRST, ACCEPTED, Status::Accepted),
         ample_row(&["A"], two_open, open, Status::Rejected),
         ample_row(&["A"], "environ begin", empty, Status::Accepted),
-        ample_row(
-            &["A"],
-            "environ begin theorem contradiction;",
-            not_built,
-            Status::Rejected,
-        ),
         half_written,
         unread,
+        vocabulary_unread,
+        read_once,
         ample_row(&["HIDDEN"], FIRST, "", Status::Usage),
         ample_row(&[], FIRST, "", Status::Usage),
         ample_row(&["A", "A"], FIRST, "", Status::Usage),
@@ -162,6 +158,25 @@ fn shelf_of(rt: &impl Abort, alloc: Global, text: &[u8]) -> MemoryShelf {
     MemoryShelf::new(files, Numbers::new(alloc))
 }
 
+/// A run over the shelf's article A writes this report; how it ends.
+fn check_shelf<R: Abort + Threads + Wait + Sync>(
+    rt: &R,
+    alloc: Global,
+    shelf: &mut MemoryShelf,
+    report: &str,
+) -> Status {
+    let mut words = Vec::new(alloc);
+    words
+        .push(String::from_str(alloc, "A").expect(rt, "memory"))
+        .expect(rt, "memory");
+    let mut out = MemorySink::new(alloc, 4096, Numbers::new(alloc)).expect(rt, "memory");
+    let status = run(rt, alloc, words, shelf, &mut out, &OpenGate);
+    let same = out.bytes() == report.as_bytes();
+    forget(out);
+    assert!(rt; same, "{report}");
+    status
+}
+
 /// A run over the text, as the article A, writes this report.
 fn check_report<R: Abort + Threads + Wait + Sync>(
     rt: &R,
@@ -169,17 +184,9 @@ fn check_report<R: Abort + Threads + Wait + Sync>(
     text: &[u8],
     report: &str,
 ) {
-    let mut words = Vec::new(alloc);
-    words
-        .push(String::from_str(alloc, "A").expect(rt, "memory"))
-        .expect(rt, "memory");
     let mut shelf = shelf_of(rt, alloc, text);
-    let mut out = MemorySink::new(alloc, 4096, Numbers::new(alloc)).expect(rt, "memory");
-    run(rt, alloc, words, &mut shelf, &mut out, &OpenGate);
-    let same = out.bytes() == report.as_bytes();
+    check_shelf(rt, alloc, &mut shelf, report);
     forget(shelf);
-    forget(out);
-    assert!(rt; same, "{report}");
 }
 
 /// A run over the text rejects it with the one fault of this line.
@@ -205,7 +212,7 @@ fn check_accepted<R: Abort + Threads + Wait + Sync>(
     forget(report);
 }
 
-const ACCEPTED_TEXTS: [(&[u8], u32); 8] = [
+const ACCEPTED_TEXTS: [(&[u8], u32); 16] = [
     (b"environ begin :: the end", 0),
     (b"environ begin :: \xC8", 0),
     (b"environ begin begin", 0),
@@ -214,7 +221,7 @@ const ACCEPTED_TEXTS: [(&[u8], u32); 8] = [
         1,
     ),
     (
-        b"environ begin theorem for a,b,c,d,e,f,g,h being object holds h=h;",
+        b"environ begin theorem for a,b,c,d,e,f,g,h,i being object holds h=h;",
         1,
     ),
     (
@@ -229,6 +236,35 @@ const ACCEPTED_TEXTS: [(&[u8], u32); 8] = [
         b"environ begin theorem for x being object holds x=x;theorem for y being object holds y=y;",
         2,
     ),
+    (b"environ begin theorem for x be set holds x = x;", 1),
+    (
+        b"environ begin theorem B: for x being object holds x = x; theorem for x being object holds x = x by B,A:1;",
+        2,
+    ),
+    (
+        b"environ begin theorem for Xc,Y being object st Xc=Y holds Y = Xc;",
+        1,
+    ),
+    (
+        b"environ theorems TARSKI_0; begin theorem for x being object ex z being set st for a being object holds a in z iff a = x or a = x by TARSKI_0:3;",
+        1,
+    ),
+    (
+        b"environ begin theorem for x,y being object st x in y or y in x holds x = x proof let x,y be object; assume A: x in y or y in x; thus thesis by A,A,A,A,A,A,A,A,A,A; end;",
+        1,
+    ),
+    (
+        b"environ begin theorem for x,y being object st x in y holds y = y & x in y proof let x,y be object; assume A: x in y; thus y = y; thus thesis by A; end;",
+        1,
+    ),
+    (
+        b"environ begin reserve X,Y for set; theorem X = Y implies Y = X proof assume X = Y; hence Y = X; end;",
+        1,
+    ),
+    (
+        b"environ begin consider c being object such that B: c = c; c = c by B; theorem ex x being object st x = x;",
+        1,
+    ),
 ];
 
 #[test]
@@ -238,8 +274,8 @@ fn texts_are_accepted(rt: HostRuntime) {
     }
 }
 
-/// The environment part and the tokens.
-const TOKEN_FAULTS: [(&[u8], &str); 16] = [
+/// The environment part, vocabularies that there aren't, and the tokens.
+const TOKEN_FAULTS: [(&[u8], &str); 20] = [
     (b"", "1:1 16 ends early"),
     (b"environ", "1:8 16 ends early"),
     (b"environ theorems A ", "1:20 16 ends early"),
@@ -258,12 +294,37 @@ const TOKEN_FAULTS: [(&[u8], &str); 16] = [
     (b"environ ::$C1\nbegin", "1:9 12 pragma"),
     (b"environ begin \xC8", "1:15 11 bad byte"),
     (b"environ begin theorem ::$C1", "1:23 12 pragma"),
-    (b"environ vocabularies V; begin", "1:9 10 not built"),
-    (b"environ vocabularies V24; begin", "1:9 10 not built"),
-    (b"environ vocabularies V; begin \xC8", "1:9 10 not built"),
+    (
+        b"environ vocabularies NOVOC; begin",
+        "1:22 21 vocabulary missing",
+    ),
+    (
+        b"environ vocabularies NOVOC; begin \xC8",
+        "1:22 21 vocabulary missing",
+    ),
+    (
+        b"environ vocabularies TARSKI_0; begin",
+        "1:22 21 vocabulary missing",
+    ),
+    (
+        b"environ requirements ARITHM; begin",
+        "1:22 28 unknown requirement",
+    ),
+    (
+        b"environ requirements HIDDEN; theorems TARSKI_A; begin theorem",
+        "1:62 16 ends early",
+    ),
     (
         b"environ\n theorems TARSKI_0; constructors X; begin theorem ;",
-        "2:2 10 not built",
+        "2:34 10 not built",
+    ),
+    (
+        b"environ theorems HIDDEN, B, C; vocabularies NOVOC; begin \xC8",
+        "1:26 10 not built",
+    ),
+    (
+        b"environ theorems TARSKI_0; requirements ARITHM; begin theorem (",
+        "1:64 16 ends early",
     ),
 ];
 
@@ -274,8 +335,8 @@ fn faults_of_tokens_come_in_their_order(rt: HostRuntime) {
     }
 }
 
-/// The grammar, and items that aren't built.
-const ITEM_FAULTS: [(&[u8], &str); 24] = [
+/// The grammar, items that aren't built, and the reading.
+const ITEM_FAULTS: [(&[u8], &str); 26] = [
     (
         b"environ begin theorem for x being object holds x = x proof let x",
         "1:65 16 ends early",
@@ -314,54 +375,62 @@ const ITEM_FAULTS: [(&[u8], &str); 24] = [
         b"environ begin theorem for x being object holds x = x;;",
         "1:54 14 unexpected token",
     ),
-    (b"environ begin theorem contradiction;", "1:15 10 not built"),
-    (
-        b"environ begin theorem for x being object holds y = y;",
-        "1:15 10 not built",
-    ),
-    (
-        b"environ begin theorem for x being object holds x = y;",
-        "1:15 10 not built",
-    ),
-    (
-        b"environ begin theorem for x being set holds x = x;",
-        "1:15 10 not built",
-    ),
-    (
-        b"environ begin theorem for x be object holds x = x;",
-        "1:15 10 not built",
-    ),
-    (
-        b"environ begin theorem for a,b,c,d,e,f,g,h,i being object holds h=h;",
-        "1:15 10 not built",
-    ),
-    (
-        b"environ begin theorem A: for x being object holds x = x;",
-        "1:15 10 not built",
-    ),
-    (
-        b"environ begin theorem for Xc,Y being object st Xc=Y holds Y = Xc;",
-        "1:15 10 not built",
-    ),
-    (
-        b"environ begin theorem for a,b,c being object st a in b,c for d being object holds a = a;",
-        "1:15 10 not built",
-    ),
-    (
-        b"environ begin theorem for x,y being object holds x = x & x = y;",
-        "1:15 10 not built",
-    ),
-    (
-        b"environ begin\ntheorem for x,y being object holds x = y;\ntheorem for x,y being object holds x in y;",
-        "3:1 10 not built",
-    ),
-    (
-        b"environ begin begin\n reserve x for set; theorem contradiction;",
-        "2:2 10 not built",
-    ),
     (
         b"environ begin theorem contradiction; theorem (",
         "1:47 16 ends early",
+    ),
+    (
+        b"environ begin definition let X,Y be set; pred X = Y means X in Y; end;",
+        "1:15 10 not built",
+    ),
+    (
+        b"environ begin\ntheorem for x,y being object holds x = y;\nscheme S { P[object] } : for x being object holds P[x];",
+        "3:1 10 not built",
+    ),
+    (
+        b"environ begin theorem for x being object holds x = x from S(A);",
+        "1:54 10 not built",
+    ),
+    (b"environ begin theorem contradiction;", "1:36 61 open 1"),
+    (
+        b"environ begin theorem for x being object holds y = y;",
+        "1:48 33 unknown variable",
+    ),
+    (
+        b"environ begin theorem for x being object holds x = y;",
+        "1:52 33 unknown variable",
+    ),
+    (
+        b"environ begin theorem for a,b,c being object st a in b,c for d being object holds a = a;",
+        "1:51 32 no notation",
+    ),
+    (
+        b"environ begin theorem for x being set holds x is strict;",
+        "1:50 31 unknown symbol",
+    ),
+    (
+        b"environ begin theorem for x,y being object holds x = x & x = y;",
+        "1:63 61 open 2",
+    ),
+    (
+        b"environ begin theorem for x being object holds x = x by A;",
+        "1:57 43 unknown label",
+    ),
+    (
+        b"environ begin\ntheorem for x,y being object st x in y holds y = y & x in y\nproof let x,y be object; assume A: x in y;\nthus y = y;\nend;",
+        "5:1 42 thesis left",
+    ),
+    (
+        b"environ begin\ntheorem for x being object holds x = x\nproof let x be object; thus x in x; end;",
+        "3:24 41 step does not fit",
+    ),
+    (
+        b"environ begin\ntheorem for x,y being object st x in y or y in x holds x = x\nproof let x,y be object; assume A: x in y or y in x;\nthus thesis by A,A,A,A,A,A,A,A,A,A,A;\nend;",
+        "4:13 62 too many disjuncts 2048",
+    ),
+    (
+        b"environ begin\ntheorem for X,a,b,c,d,e,f,g,h being object st a in X & b in X & c in X & d in X & e in X & f in X & g in X & h in X\n & (for p,q,r,s,t,u,v,w being object st p in X & q in X & r in X & s in X & t in X & u in X & v in X & w in X holds p = q)\nholds a = b;",
+        "4:12 65 too much work 16777216",
     ),
 ];
 
@@ -372,15 +441,91 @@ fn faults_of_items_come_in_their_order(rt: HostRuntime) {
     }
 }
 
-/// Each open theorem has its fault.
+/// Each step that stays open has its fault, in the order of the text.
 #[test]
-fn open_theorems_are_all_told(rt: HostRuntime) {
+fn open_steps_are_all_told(rt: HostRuntime) {
     check_report(
         &rt,
         rt.alloc(),
-        b"environ begin\ntheorem for x,y being object holds x = y;\ntheorem for x,y being object holds y = y;\ntheorem for x,y being object holds y=x;",
-        "A rejected 2 faults\n  2:41 61 open 1\n  4:39 61 open 1\ntotal 0 accepted, 1 rejected, 0 blocked, 0 cyclic, 0 missing\n",
+        b"environ begin\ntheorem for x,y being object holds x = y;\ntheorem for x,y being object st x in y holds y in x\nproof let x,y be object; assume A: x in y;\nx = y;\nhence y in x by A; end;\ntheorem for x,y being object holds x in y;",
+        "A rejected 3 faults\n  2:41 61 open 1\n  5:6 61 open 1\n  7:42 61 open 1\ntotal 0 accepted, 1 rejected, 0 blocked, 0 cyclic, 0 missing\n",
     );
+}
+
+/// The one fault of an article over the vocabulary V: V's bytes, the article's, and the line of the fault.
+const VOCABULARY_FAULTS: [(&[u8], &[u8], &str); 5] = [
+    (
+        b"O*\nO+ 256",
+        b"environ vocabularies V; begin",
+        "1:22 23 bad priority 2",
+    ),
+    (
+        b"R=",
+        b"environ vocabularies V; begin",
+        "1:22 22 bad vocabulary entry 1",
+    ),
+    (
+        b"Rx\nRx",
+        b"environ vocabularies V; begin \xC8",
+        "1:22 24 symbol repeated 2",
+    ),
+    (
+        b"Rc=",
+        b"environ vocabularies V; begin theorem for X,Y being set holds X c= Y;",
+        "1:65 31 unknown symbol",
+    ),
+    (
+        b"Rc=",
+        b"environ vocabularies V; begin definition let X,Y be set; pred X c= Y means X = Y; end;",
+        "1:31 10 not built",
+    ),
+];
+
+/// Adds a file to the list.
+fn add_file(
+    rt: &impl Abort,
+    alloc: Global,
+    files: &mut FileList,
+    kind: FileKind,
+    name: &[u8],
+    bytes: &[u8],
+) {
+    let name = Name::read(name).expect(rt, "a name");
+    let bytes = Text::from_slice(alloc, bytes).expect(rt, "memory");
+    files.push(File { kind, name, bytes }).expect(rt, "memory");
+}
+
+fn check_with_vocabulary<R: Abort + Threads + Wait + Sync>(
+    rt: &R,
+    alloc: Global,
+    vocabulary: &[u8],
+    text: &[u8],
+    line: &str,
+) {
+    let report = format!(in alloc;
+        "A rejected 1 faults\n  {line}\ntotal 0 accepted, 1 rejected, 0 blocked, 0 cyclic, 0 missing\n"
+    ).expect(rt, "memory");
+    let mut files = FileList::new(alloc);
+    add_file(
+        rt,
+        alloc,
+        &mut files,
+        FileKind::Vocabulary,
+        b"V",
+        vocabulary,
+    );
+    add_file(rt, alloc, &mut files, FileKind::Article, b"A", text);
+    let mut shelf = MemoryShelf::new(files, Numbers::new(alloc));
+    check_shelf(rt, alloc, &mut shelf, &report);
+    forget(shelf);
+    forget(report);
+}
+
+#[test]
+fn vocabularies_are_fetched_and_read(rt: HostRuntime) {
+    for (vocabulary, text, line) in &VOCABULARY_FAULTS {
+        check_with_vocabulary(&rt, rt.alloc(), vocabulary, text, line);
+    }
 }
 
 /// The front, and so often the piece behind it.
@@ -390,6 +535,34 @@ fn repeated(rt: &impl Abort, alloc: Global, front: &[u8], piece: &[u8], times: u
         text.extend_from_slice(piece).expect(rt, "memory");
     }
     text
+}
+
+/// Sixteen vocabularies of 1,048,576 bytes and the article's own text pass the limit of all texts.
+#[test]
+fn large_texts_are_refused_together(rt: HostRuntime) {
+    let alloc = rt.alloc();
+    let mut files = FileList::new(alloc);
+    let long = repeated(&rt, alloc, b"", b"\n", 1_048_576);
+    for name in [
+        b"VA", b"VB", b"VC", b"VD", b"VE", b"VF", b"VG", b"VH", b"VI", b"VJ", b"VK", b"VL", b"VM",
+        b"VN", b"VO", b"VP",
+    ] {
+        add_file(
+            &rt,
+            alloc,
+            &mut files,
+            FileKind::Vocabulary,
+            name,
+            long.as_slice(),
+        );
+    }
+    let text = b"environ vocabularies VA,VB,VC,VD,VE,VF,VG,VH,VI,VJ,VK,VL,VM,VN,VO,VP; begin";
+    add_file(&rt, alloc, &mut files, FileKind::Article, b"A", text);
+    let mut shelf = MemoryShelf::new(files, Numbers::new(alloc));
+    let status = check_shelf(&rt, alloc, &mut shelf, "");
+    forget(shelf);
+    forget(long);
+    assert!(rt; status == Status::TooLarge);
 }
 
 const DEEP_FAULTS: [(&[u8], &[u8], usize, &str); 3] = [
@@ -431,9 +604,9 @@ fn a_text_of_200000_tokens_is_parsed(rt: HostRuntime) {
     forget(text);
 }
 
-/// A text of the first form above 4,096 bytes is read like any other.
+/// Two hundred theorems one behind the other.
 #[test]
-fn the_first_form_has_no_length(rt: HostRuntime) {
+fn many_theorems_are_accepted(rt: HostRuntime) {
     let text = repeated(
         &rt,
         rt.alloc(),
@@ -443,82 +616,4 @@ fn the_first_form_has_no_length(rt: HostRuntime) {
     );
     check_accepted(&rt, rt.alloc(), text.as_slice(), 200);
     forget(text);
-}
-
-const SUBSETS: &[u8] = b"environ vocabularies SUBV; theorems TARSKI_0;
-begin
-reserve X,Y,Z for set;
-definition let X,Y be set;
- pred X c= Y means :Def1: for x being object st x in X holds x in Y;
- reflexivity;
-end;
-theorem X c= Y & Y c= Z implies X c= Z
-proof assume A1: X c= Y & Y c= Z;
- let x be object; assume x in X;
- then x in Y by A1,Def1;
- hence x in Z by A1,Def1;
-end;
-theorem X c= Y & Y c= X implies X = Y
-proof assume A1: X c= Y & Y c= X;
- then for x being object holds x in X iff x in Y by Def1;
- hence X = Y by TARSKI_0:2;
-end;
-";
-
-/// Without a directive, so that the grammar is asked.
-const PROVED: &[u8] = b"environ
-begin
-theorem for x,y being object holds x = x;
-definition let X,Y be set;
- pred X = Y means :D: for x being object st x in X holds x in Y;
-end;
-theorem X in Y & Y in Z implies X in Z
-proof assume A: X in Y;
- hence thesis by A,D;
-end;
-";
-
-/// Whether the place is that of a byte of the text, or just after its last byte.
-fn is_in(text: &[u8], place: Place) -> bool {
-    let mut line = 1u64;
-    let mut column = 1u64;
-    let mut found = place.line == 1 && place.column == 1;
-    for byte in text {
-        if *byte == b'\n' {
-            line = line.saturating_add(1);
-            column = 1;
-        } else {
-            column = column.saturating_add(1);
-        }
-        found = found || (place.line == line && place.column == column);
-    }
-    found
-}
-
-/// Whether the text is accepted, or each of its faults stands in it or just after its end.
-fn has_places(rt: &impl Abort, alloc: Global, text: &[u8]) -> bool {
-    match first_article(alloc, text).expect(rt, "memory") {
-        First::Accepted(_) => true,
-        First::Rejected(faults) => {
-            !faults.items.is_empty() && faults.items.iter().all(|fault| is_in(text, fault.place))
-        }
-    }
-}
-
-/// The text cut after each of its bytes has an outcome, whose places lie in what is left or just after its end.
-fn check_cuts(rt: &impl Abort, alloc: Global, text: &[u8]) {
-    for length in 0..=text.len() {
-        let within = has_places(rt, alloc, &text[..length]);
-        assert!(rt; within, "cut after {length} bytes");
-    }
-}
-
-#[test]
-fn cut_texts_with_directives_have_places_within(rt: HostRuntime) {
-    check_cuts(&rt, rt.alloc(), SUBSETS);
-}
-
-#[test]
-fn cut_texts_of_items_have_places_within(rt: HostRuntime) {
-    check_cuts(&rt, rt.alloc(), PROVED);
 }

@@ -1,5 +1,4 @@
 pub mod ClosedSound
 pub mod OneVerdict
-pub mod ConstantEquation
 pub mod ExamineLemmas
 pub mod LimitLemmas

@@ -1,4 +1,3 @@
 pub mod Verdict
 pub mod Examination
 pub mod Laws
-pub mod ConstantEquation

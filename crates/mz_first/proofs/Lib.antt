@@ -1,10 +1,1 @@
-pub mod SpellingLemmas
-pub mod TheoremLemmas
-pub mod FaultLemmas
-pub mod DerivedLemmas
-pub mod PartsLemmas
-pub mod TokenPlaceLemmas
-pub mod TreeLemmas
 pub mod OneHeadLemmas
-pub mod FrontLemmas
-pub mod PlaceLemmas

@@ -1,7 +1,1 @@
-pub mod FirstForm
-pub mod Reading
-pub mod Parts
 pub mod Faults
-pub mod Outcome
-pub mod Places
-pub mod Front

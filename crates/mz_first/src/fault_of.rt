@@ -1,4 +1,4 @@
-//! How refusals are told.
+//! Refusals of environment parts and tokens as faults of an article.
 ghost use Rattle.std.specs.Prelude.{◌≡◌};
 ghost use Rattle.mz_first.specs.Faults.{plain, head_told, lex_told};
 

@@ -1,0 +1,6 @@
+//! The outcome of an article.
+#![tactic(auto)]
+
+pub mod check;
+pub mod export;
+pub mod told;

@@ -1,0 +1,3 @@
+pub mod Told
+pub mod Front
+pub mod Laws

@@ -1,3 +1,0 @@
-pub mod ParseLemmas
-pub mod OutcomeLemmas
-pub mod PlaceLemmas
