@@ -1,0 +1,2 @@
+pub mod AcceptedProofs
+pub mod AloneProofs

@@ -1,0 +1,4 @@
+//! Laws of accepted articles: what is accepted keeps a sound library sound.
+#![tactic(auto)]
+
+pub mod laws;

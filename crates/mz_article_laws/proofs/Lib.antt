@@ -1,0 +1,4 @@
+pub mod Determined
+pub mod Outcomes
+pub mod OneItems
+pub mod OneOutcome

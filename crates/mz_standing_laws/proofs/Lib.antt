@@ -1,0 +1,4 @@
+pub mod GroundProofs
+pub mod ContextProofs
+pub mod ItemProofs
+pub mod AddedProofs

@@ -1,0 +1,3 @@
+pub mod Soundly
+pub mod Laws
+pub mod Added

@@ -1,0 +1,4 @@
+//! Laws of where the reading of an article's items stands: what is accepted keeps a sound library sound.
+#![tactic(auto)]
+
+pub mod laws;
