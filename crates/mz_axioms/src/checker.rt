@@ -1,5 +1,6 @@
 //! What checks articles.
 ghost use Rattle.std.specs.Prelude.{ℕ, List, IfOk};
+ghost use Rattle.std.specs.Thread.{IsSync};
 ghost use Rattle.mz_base.specs.NamedText.{NamedText};
 ghost use Rattle.mz_base.specs.declared.name.Name.{Name};
 ghost use Rattle.mz_core.specs.declared.export.Export.{Export};
@@ -34,7 +35,8 @@ pub trait Semantics {
 
 /// What checks an article.
 pub trait Checker: Semantics + Send + Sync {
-    /// The outcome of the article. Threads that it starts are to be ended when it returns.
+    /// The outcome of the article. Threads that it starts are to be ended when it returns. In a trait's method the
+    /// bound of its own type parameter is no fact, so `Sync` is said once more as a premise; each `R` with the bound meets it.
     ///
     /// # Errors
     /// `AllocError` where memory is wanting.
@@ -47,5 +49,6 @@ pub trait Checker: Semantics + Send + Sync {
         exports: &Exports,
         bytes: &[u8],
     ) -> Result<Outcome, AllocError>
+        requires { IsSync R.row }
         ensures { IfOk result (λ o. Self.is_outcome name vocabularies.now exports.now bytes.now o) };
 }

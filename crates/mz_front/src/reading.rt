@@ -17,7 +17,7 @@ use mz_lex::symbol_table::SymbolTable;
 use mz_lex::table::table;
 use mz_lex::tokens::tokens;
 use mz_pitem::parse::article;
-use mz_tree_item::article::ArticleTree;
+use mz_tree_item::article::{ArticleTree, end};
 use std::alloc::Global;
 
 /// The environment part.
@@ -120,7 +120,10 @@ fn with_environment(
             tree,
             environment,
         }),
-        Err(fault) => Err(fault),
+        Err(fault) => {
+            end(tree);
+            Err(fault)
+        }
     }
 }
 

@@ -113,6 +113,9 @@ pub struct ArticleTree {
     pub parts: Trees<ArticlePartTree>,
 }
 
+/// Lets go of the tree. It is a call, so that the drops of all its parts are proved once, in this crate.
+pub fn end(_tree: ArticleTree) {}
+
 impl Copied for ArticleTree {
     fn copy(&self, alloc: Global) -> Result<ArticleTree, AllocError> {
         let (directives, parts) = copied_pair(alloc, &self.directives, &self.parts)?;
