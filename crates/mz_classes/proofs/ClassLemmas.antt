@@ -13,7 +13,7 @@ use Rattle.mz_ground.specs.FactSet.{FactView, HasFacts}
 use Rattle.mz_ground.specs.declared.clause.Clause.{Clause}
 use Rattle.mz_ground.specs.declared.ground_atom.GroundAtom.{GroundAtom}
 use Rattle.mz_congruence.proofs.RootLemmas.{cases_lt}
-use Rattle.mz_congruence.proofs.ClosingLemmas.{both_left, both_right}
+use Rattle.mz_congruence.proofs.AndLemmas.{both_left, both_right}
 use Rattle.mz_classes.specs.Numbers.{first_of, list_at, numbers_where}
 use Rattle.mz_classes.specs.SymLists.{sym_list}
 use Rattle.mz_classes.specs.Indexed.{has_label, has_sym, has_sign, AreMemberLists, AreSignedLists, AreWithin}

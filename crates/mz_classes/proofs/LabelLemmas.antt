@@ -12,7 +12,8 @@ use Rattle.mz_congruence.specs.declared.rule.Rule.{Rule}
 use Rattle.mz_congruence.specs.Congruence.{Equal, AllEqual, reflexive, symmetric, transitive, congruent, applied, none, more, left_of, right_of}
 use Rattle.mz_congruence.specs.Classes.{after_steps, root, Descends}
 use Rattle.mz_congruence.specs.Closing.{same, below, pair_below, IsWithin, State}
-use Rattle.mz_congruence.proofs.ClosingLemmas.{both_left, both_right, contains_from}
+use Rattle.mz_congruence.proofs.AndLemmas.{both_left, both_right}
+use Rattle.mz_congruence.proofs.ClosingLemmas.{contains_from}
 use Rattle.mz_congruence.proofs.RootLemmas.{index_set_same, index_set_other, past_end, cases_lt}
 use Rattle.mz_classes.specs.Labels.{Labelled, Relabelled, LeadWithinClasses}
 

@@ -8,7 +8,7 @@ use Rattle.mz_logic.specs.declared.sym.Sym.{Sym}
 use Rattle.mz_congruence.specs.Signature.{sym_code, is_list, place_of}
 use Rattle.mz_congruence.proofs.ListLemmas.{some_same, none_some, get_left, get_right, get_some}
 use Rattle.mz_congruence.proofs.SignatureLemmas.{sym_equal, is_list_true, is_list_same}
-use Rattle.mz_congruence.proofs.ClosingLemmas.{both_left, both_right}
+use Rattle.mz_congruence.proofs.AndLemmas.{both_left, both_right}
 use Rattle.mz_classes.specs.declared.sym_lists.SymLists.{SymLists}
 use Rattle.mz_classes.specs.Numbers.{list_or_none, list_at}
 use Rattle.mz_classes.specs.SymLists.{list_of_place, sym_list, HasPlaces, HasList, HasOneMore}

@@ -6,7 +6,8 @@ use crate::definitions::{
     equals_definition_equal, functor_redefinition_equal, means_definition_equal,
     mode_redefinition_equal,
 };
-use crate::notations::{notation_equal, notations_equal};
+use crate::lists::{Compared, are_equal};
+use crate::notations::notation_equal;
 use crate::properties::property_equal;
 use crate::registrations::{
     conditional_equal, equation_equal, existential_equal, functorial_equal,
@@ -18,6 +19,7 @@ use mz_base::names::Names;
 use mz_core::export::Export;
 use mz_core::item::Item;
 use mz_core::items::Items;
+use mz_core::notations::Notations;
 
 /// Whether the items are equal.
 pub fn item_equal(a: &Item, b: &Item) -> bool
@@ -53,46 +55,44 @@ pub fn item_equal(a: &Item, b: &Item) -> bool
     }
 }
 
-/// Whether the lists of items are equal.
-pub fn items_equal(a: &Items, b: &Items) -> bool
-    ensures { IsTrue result ↔ (a.now ≡ b.now) }
-{
-    if a.items.len() != b.items.len() {
-        return false;
+impl Compared for Item {
+    fn is_equal(&self, other: &Item) -> bool {
+        item_equal(self, other)
     }
-    for i in 0..a.items.len() {
-        if !item_equal(&a.items[i], &b.items[i]) {
-            return false;
-        }
-    }
-    true
 }
 
-fn name_equal(a: &Name, b: &Name) -> bool
-    ensures { IsTrue result ↔ (a.now ≡ b.now) }
-{
-    *a == *b
+impl Compared for Name {
+    fn is_equal(&self, other: &Name) -> bool {
+        *self == *other
+    }
 }
 
+/// Whether the names are equal, in their order.
 fn names_equal(a: &Names, b: &Names) -> bool
     ensures { IsTrue result ↔ (a.now ≡ b.now) }
 {
-    if a.items.len() != b.items.len() {
-        return false;
-    }
-    for i in 0..a.items.len() {
-        if !name_equal(&a.items[i], &b.items[i]) {
-            return false;
-        }
-    }
-    true
+    are_equal(a.items.as_slice(), b.items.as_slice())
+}
+
+/// Whether the lists of items are equal.
+fn items_equal(a: &Items, b: &Items) -> bool
+    ensures { IsTrue result ↔ (a.now ≡ b.now) }
+{
+    are_equal(a.items.as_slice(), b.items.as_slice())
+}
+
+/// Whether the lists of notations are equal.
+fn notations_equal(a: &Notations, b: &Notations) -> bool
+    ensures { IsTrue result ↔ (a.now ≡ b.now) }
+{
+    are_equal(a.items.as_slice(), b.items.as_slice())
 }
 
 /// Whether the exports are equal.
 pub fn export_equal(a: &Export, b: &Export) -> bool
     ensures { IsTrue result ↔ (a.now ≡ b.now) }
 {
-    name_equal(&a.name, &b.name)
+    a.name.is_equal(&b.name)
         && names_equal(&a.dependencies, &b.dependencies)
         && items_equal(&a.items, &b.items)
         && notations_equal(&a.notations, &b.notations)

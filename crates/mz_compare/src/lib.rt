@@ -4,6 +4,7 @@
 pub mod cases;
 pub mod definitions;
 pub mod items;
+pub mod lists;
 pub mod notations;
 pub mod properties;
 pub mod registrations;

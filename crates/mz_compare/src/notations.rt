@@ -1,8 +1,8 @@
 //! Comparison of patterns and notations.
 ghost use Rattle.std.specs.Prelude.{◌≡◌, ◌↔◌, IsTrue};
 
+use crate::lists::Compared;
 use mz_core::notation::{Meaning, Notation};
-use mz_core::notations::Notations;
 use mz_core::pattern::Pattern;
 
 /// Whether the patterns are equal.
@@ -36,17 +36,8 @@ pub fn notation_equal(a: &Notation, b: &Notation) -> bool
     pattern_equal(&a.pattern, &b.pattern) && meaning_equal(&a.meaning, &b.meaning)
 }
 
-/// Whether the lists of notations are equal.
-pub fn notations_equal(a: &Notations, b: &Notations) -> bool
-    ensures { IsTrue result ↔ (a.now ≡ b.now) }
-{
-    if a.items.len() != b.items.len() {
-        return false;
+impl Compared for Notation {
+    fn is_equal(&self, other: &Notation) -> bool {
+        notation_equal(self, other)
     }
-    for i in 0..a.items.len() {
-        if !notation_equal(&a.items[i], &b.items[i]) {
-            return false;
-        }
-    }
-    true
 }

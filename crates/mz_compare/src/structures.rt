@@ -1,32 +1,15 @@
 //! Comparison of structures, set terms and choices.
 ghost use Rattle.std.specs.Prelude.{◌≡◌, ◌↔◌, IsTrue};
 
-use crate::notations::notations_equal;
+use crate::lists::{Compared, are_equal};
 use mz_core::field::Field;
-use mz_core::fields::Fields;
 use mz_core::set_term::{Choice, SetTerm};
 use mz_core::structure::Structure;
 
-/// Whether the fields are equal.
-pub fn field_equal(a: &Field, b: &Field) -> bool
-    ensures { IsTrue result ↔ (a.now ≡ b.now) }
-{
-    a.selector.is(b.selector) && a.ty.equals(&b.ty)
-}
-
-/// Whether the lists of fields are equal.
-pub fn fields_equal(a: &Fields, b: &Fields) -> bool
-    ensures { IsTrue result ↔ (a.now ≡ b.now) }
-{
-    if a.items.len() != b.items.len() {
-        return false;
+impl Compared for Field {
+    fn is_equal(&self, other: &Field) -> bool {
+        self.selector.is(other.selector) && self.ty.equals(&other.ty)
     }
-    for i in 0..a.items.len() {
-        if !field_equal(&a.items[i], &b.items[i]) {
-            return false;
-        }
-    }
-    true
 }
 
 /// Whether the structures are equal.
@@ -38,8 +21,8 @@ pub fn structure_equal(a: &Structure, b: &Structure) -> bool
         && a.strict.is(b.strict)
         && a.aggregate.is(b.aggregate)
         && a.ancestors.equals(&b.ancestors)
-        && fields_equal(&a.fields, &b.fields)
-        && notations_equal(&a.notations, &b.notations)
+        && are_equal(a.fields.items.as_slice(), b.fields.items.as_slice())
+        && are_equal(a.notations.items.as_slice(), b.notations.items.as_slice())
 }
 
 /// Whether the set terms are equal.

@@ -1,6 +1,6 @@
 -- Each step of the closing makes only equal nodes one, and where no step is left all equal nodes are one.
 use Rattle.std.proofs.Common.{◌≡◌, ◌<◌, ◌≤◌, ◌+◌, ◌*◌, ℕ, zero, suc, List, [], ◌∷◌, ◌++◌, length, map, refl, ap, sym, ◌∙◌, subst, arith, set, true, false, Bool, inl, inr}
-use Rattle.std.specs.Prelude.{slice_index, slice_get, slice_index_or, Some, None, Contains, nat_lt, ◌&&◌, if◌then◌else◌}
+use Rattle.std.specs.Prelude.{slice_index, slice_get, slice_index_or, Some, None, Contains, nat_lt, if◌then◌else◌}
 use Rattle.std.specs.List.{list_all}
 use Rattle.std.proofs.lemmas.Bool.{eqb-true, eq-eqb, ltb-true}
 use Rattle.std.proofs.lemmas.Bool.Decides.{eqb_tells}
@@ -15,6 +15,7 @@ use Rattle.mz_congruence.specs.Congruence.{Equal, AllEqual, reflexive, symmetric
 use Rattle.mz_congruence.specs.Classes.{root, Descends, Flat, total, Progress, Sound, United}
 use Rattle.mz_congruence.specs.Signature.{head_code, signature, place_of, is_list}
 use Rattle.mz_congruence.specs.Closing.{same, below, pair_below, IsWithin, Exact, State, Entry, Entries, Listed, ListedUnless, ListedBelow, Grows, Entered, Clean, CleanUnless, IsMet, MetUnless, MetBelow, RuleApplied, DoneUnless}
+use Rattle.mz_congruence.proofs.AndLemmas.{both_left, both_right}
 use Rattle.mz_congruence.proofs.RootLemmas.{root_own, root_fixed, root_le, root_flat, descends_set, total-set, replaced, replaced_same, replaced_other, root_link, past_end, cases_lt}
 use Rattle.mz_congruence.proofs.SignatureLemmas.{signature_parts, is_list_true, is_list_same}
 
@@ -67,14 +68,6 @@ united_sound true g c p q d s pr u e = u g s.len s.sound e
 united_sound false g c p q d s pr u e = subst (λ (x : List ℕ). Sound g x) (sym pr) s.sound
 
 -- lists of numbers and their roots
-pub both_left : (a b : Bool) → (a && b) ≡ true → a ≡ true
-both_left true b h = refl
-both_left false b h = h
-
-pub both_right : (a b : Bool) → (a && b) ≡ true → b ≡ true
-both_right true b h = h
-both_right false b h = cc
-
 all_roots : (g : Graph) (c : List ℕ) (n : ℕ) → n ≡ length g.nodes → Sound g c → (is : List ℕ) → list_all (below n) is ≡ true → AllEqual g is (map (root c) is)
 all_roots g c n en s [] h = none
 all_roots g c n en s (i ∷ is) h =

@@ -20,6 +20,7 @@ use Rattle.mz_ground.specs.declared.ground_term.GroundTerm.{GroundTerm}
 use Rattle.mz_ground.specs.declared.ground_term.GroundTerm.TheVariants as entry
 use Rattle.mz_congruence.specs.InstanceAt.{is_same_place, is_constant, has_symbol, entry_args, is_instance_at, args_are_instances_at, are_instances_at}
 use Rattle.mz_congruence.specs.Pairing.{AllWithin, terms_at}
+use Rattle.mz_congruence.proofs.AndLemmas.{both_left, both_right}
 use Rattle.mz_congruence.proofs.SignatureLemmas.{sym_equal}
 use Rattle.mz_congruence.proofs.ListLemmas.{some_same, none_some, get_map, get_some, get_contains, contains_head, contains_tail}
 use Rattle.mz_congruence.proofs.GroundLemmas.{term_entry, term_unique}
@@ -47,14 +48,6 @@ told_no_entry es args t i s us et at = rw (et, at) refl
 
 pub ruleset instance_at_rules = (told_app, told_other_symbol, told_constant_entry, told_no_entry)
 
-pub first_true : (a b : Bool) → (a && b) ≡ true → a ≡ true
-first_true true b h = refl
-first_true false b h = h
-
-pub second_true : (a b : Bool) → (a && b) ≡ true → b ≡ true
-second_true true b h = h
-second_true false b h = cc
-
 second_false : (a b : Bool) → b ≡ false → (a && b) ≡ false
 second_false true b h = h
 second_false false b h = refl
@@ -67,8 +60,8 @@ pointwise_more E (v ∷ us) (k ∷ ks) zero u lu lk at e h =
     let q : E v k ≡ true = ap (λ w. E w k) (some_same at) ∙ e in
     rw q refl
 pointwise_more E (v ∷ us) (k ∷ ks) (suc i) u lu lk at e h =
-    let a : E v k ≡ true = first_true (E v k) (pointwise E (take i us) (take i ks)) h in
-    rw a (pointwise_more E us ks i u (omega (arith, lu)) (omega (arith, lk)) at e (second_true (E v k) (pointwise E (take i us) (take i ks)) h))
+    let a : E v k ≡ true = both_left (E v k) (pointwise E (take i us) (take i ks)) h in
+    rw a (pointwise_more E us ks i u (omega (arith, lu)) (omega (arith, lk)) at e (both_right (E v k) (pointwise E (take i us) (take i ks)) h))
 
 pub pointwise_false : (E : Term → ℕ → Bool) (us : List Term) (ks : List ℕ) (i : ℕ) (u : Term) → i < length us → i < length ks → slice_get us i ≡ Some u → E u (get_or ks i 0) ≡ false → pointwise E us ks ≡ false
 pointwise_false E [] ks i u lu lk at e = absurd (omega (arith, lu))
@@ -111,10 +104,10 @@ false_true e = cc
 
 pub same_sym_true : (r s : Sym) → same_sym r s ≡ true → r ≡ s
 same_sym_true r s h =
-    let b : (nat_eq r.article s.article && nat_eq (kind_number r.kind) (kind_number s.kind)) ≡ true = first_true (nat_eq r.article s.article && nat_eq (kind_number r.kind) (kind_number s.kind)) (nat_eq r.number s.number) h in
-    let n : nat_eq r.number s.number ≡ true = second_true (nat_eq r.article s.article && nat_eq (kind_number r.kind) (kind_number s.kind)) (nat_eq r.number s.number) h in
-    let a : nat_eq r.article s.article ≡ true = first_true (nat_eq r.article s.article) (nat_eq (kind_number r.kind) (kind_number s.kind)) b in
-    let k : nat_eq (kind_number r.kind) (kind_number s.kind) ≡ true = second_true (nat_eq r.article s.article) (nat_eq (kind_number r.kind) (kind_number s.kind)) b in
+    let b : (nat_eq r.article s.article && nat_eq (kind_number r.kind) (kind_number s.kind)) ≡ true = both_left (nat_eq r.article s.article && nat_eq (kind_number r.kind) (kind_number s.kind)) (nat_eq r.number s.number) h in
+    let n : nat_eq r.number s.number ≡ true = both_right (nat_eq r.article s.article && nat_eq (kind_number r.kind) (kind_number s.kind)) (nat_eq r.number s.number) h in
+    let a : nat_eq r.article s.article ≡ true = both_left (nat_eq r.article s.article) (nat_eq (kind_number r.kind) (kind_number s.kind)) b in
+    let k : nat_eq (kind_number r.kind) (kind_number s.kind) ≡ true = both_right (nat_eq r.article s.article) (nat_eq (kind_number r.kind) (kind_number s.kind)) b in
     sym_equal r s (eqb-true r.article s.article a) (eqb-true (kind_number r.kind) (kind_number s.kind) k) (eqb-true r.number s.number n)
 
 pub same_sym_refl : (s : Sym) → same_sym s s ≡ true
@@ -185,8 +178,8 @@ mutual
   is_instance_at_sound d cs g gr args (App s us) i lt h =
       let p = get_some g.terms i lt in
       let q : (has_symbol s (Some p.0) && args_are_instances_at g.terms args us (entry_args (Some p.0))) ≡ true = ap (λ o. has_symbol s o && args_are_instances_at g.terms args us (entry_args o)) (sym p.1) ∙ h in
-      let a : has_symbol s (Some p.0) ≡ true = first_true (has_symbol s (Some p.0)) (args_are_instances_at g.terms args us (entry_args (Some p.0))) q in
-      let b : args_are_instances_at g.terms args us (entry_args (Some p.0)) ≡ true = second_true (has_symbol s (Some p.0)) (args_are_instances_at g.terms args us (entry_args (Some p.0))) q in
+      let a : has_symbol s (Some p.0) ≡ true = both_left (has_symbol s (Some p.0)) (args_are_instances_at g.terms args us (entry_args (Some p.0))) q in
+      let b : args_are_instances_at g.terms args us (entry_args (Some p.0)) ≡ true = both_right (has_symbol s (Some p.0)) (args_are_instances_at g.terms args us (entry_args (Some p.0))) q in
       app_sound s (substitute_args 0 (value_at (terms_at g args)) us) (ground_terms g) p.0 a (args_are_instances_at_sound d cs g gr args us (entry_args (Some p.0)) (args_within d cs g gr i p.0 p.1) b) ∙ sym (term_entry d cs g gr i p.0 p.1)
 
   pub args_are_instances_at_sound : (d : Disjunct) (cs : List Clause) (g : Ground) → IsGround d cs g → (args : List ℕ) (us : Terms) (ks : List ℕ) → AllWithin g ks → args_are_instances_at g.terms args us ks ≡ true → substitute_args 0 (value_at (terms_at g args)) us ≡ terms_of (map (term_at (ground_terms g)) ks)
@@ -194,8 +187,8 @@ mutual
   args_are_instances_at_sound d cs g gr args none (k ∷ ks) w h = absurd (false_true h)
   args_are_instances_at_sound d cs g gr args (more u us) [] w h = absurd (false_true h)
   args_are_instances_at_sound d cs g gr args (more u us) (k ∷ ks) w h =
-      let a : substitute 0 (value_at (terms_at g args)) u ≡ term_at (ground_terms g) k = is_instance_at_sound d cs g gr args u k (w k (contains_head k ks)) (first_true (is_instance_at g.terms args u k) (args_are_instances_at g.terms args us ks) h) in
-      let b : substitute_args 0 (value_at (terms_at g args)) us ≡ terms_of (map (term_at (ground_terms g)) ks) = args_are_instances_at_sound d cs g gr args us ks (λ j c. w j (contains_tail k j ks c)) (second_true (is_instance_at g.terms args u k) (args_are_instances_at g.terms args us ks) h) in
+      let a : substitute 0 (value_at (terms_at g args)) u ≡ term_at (ground_terms g) k = is_instance_at_sound d cs g gr args u k (w k (contains_head k ks)) (both_left (is_instance_at g.terms args u k) (args_are_instances_at g.terms args us ks) h) in
+      let b : substitute_args 0 (value_at (terms_at g args)) us ≡ terms_of (map (term_at (ground_terms g)) ks) = args_are_instances_at_sound d cs g gr args us ks (λ j c. w j (contains_tail k j ks c)) (both_right (is_instance_at g.terms args u k) (args_are_instances_at g.terms args us ks) h) in
       λ i. more (a i) (b i)
 
 bound_const : {m n : ℕ} → Bound m ≡ Const n → ⊥

@@ -1,3 +1,4 @@
+pub mod AndLemmas
 pub mod RootLemmas
 pub mod SignatureLemmas
 pub mod ClosingLemmas

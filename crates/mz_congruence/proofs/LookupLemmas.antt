@@ -27,21 +27,10 @@ use Rattle.mz_congruence.specs.Pairing.{AllWithin, terms_at}
 use Rattle.mz_congruence.specs.InstanceAt.{is_same_place, is_constant, is_instance_at, are_instances_at, is_atom_instance}
 use Rattle.mz_congruence.proofs.ListLemmas.{some_same, none_some, get_map, get_unmap, get_some, get_contains, not_contains_nil}
 use Rattle.mz_congruence.proofs.GroundLemmas.{term_entry, term_unique, equation_within}
+use Rattle.mz_congruence.proofs.AndLemmas.{both_left, both_right}
 use Rattle.mz_congruence.proofs.SignatureLemmas.{equation_equal}
-use Rattle.mz_congruence.proofs.InstanceAtLemmas.{is_instance_at_sound, is_instance_at_complete, each_sound, each_complete, same_sym_true, same_sym_refl, first_true, second_true, index_found, bound_complete, constant_complete}
-use Rattle.mz_congruence.proofs.UpLemmas.{app_place, within_term, within_atom}
-
-cons_nil : {t : Term} {ts : List Term} → t ∷ ts ≡ [] → ⊥
-cons_nil e = cc
-
-nil_cons : {t : Term} {ts : List Term} → [] ≡ t ∷ ts → ⊥
-nil_cons e = cc
-
-cons_head : {t u : Term} {ts us : List Term} → t ∷ ts ≡ u ∷ us → t ≡ u
-cons_head e = cc
-
-cons_tail : {t u : Term} {ts us : List Term} → t ∷ ts ≡ u ∷ us → ts ≡ us
-cons_tail e = cc
+use Rattle.mz_congruence.proofs.InstanceAtLemmas.{is_instance_at_sound, is_instance_at_complete, each_sound, each_complete, same_sym_true, same_sym_refl, index_found, bound_complete, constant_complete}
+use Rattle.mz_congruence.proofs.UpLemmas.{app_place, within_term, within_atom, cons_nil, nil_cons, cons_head, cons_tail}
 
 no_both : {b : Bool} → b ≡ true → b ≡ false → ⊥
 no_both p q = cc
@@ -57,8 +46,8 @@ all-no_values (u ∷ us) = λ i. substitute-no_values 0 u i ∷ all-no_values us
 pub atom_sound : (d : Disjunct) (cs : List Clause) (g : Ground) → IsGround d cs g → (args : List ℕ) (s : Sym) (us : List Term) (k : ℕ) (a : GroundAtom) → slice_get g.atoms k ≡ Some a → is_atom_instance g.terms args s us a ≡ true → IsAtomPlace g k s (map (substitute 0 (value_at (terms_at g args))) us)
 atom_sound d cs g gr args s us k a at h =
     let w : AllWithin g a.args = λ j c. gr.atoms_within a j (get_contains g.atoms k a at) c in
-    let p : same_sym a.sym s ≡ true = first_true (same_sym a.sym s) (are_instances_at g.terms args us a.args) h in
-    let q : are_instances_at g.terms args us a.args ≡ true = second_true (same_sym a.sym s) (are_instances_at g.terms args us a.args) h in
+    let p : same_sym a.sym s ≡ true = both_left (same_sym a.sym s) (are_instances_at g.terms args us a.args) h in
+    let q : are_instances_at g.terms args us a.args ≡ true = both_right (same_sym a.sym s) (are_instances_at g.terms args us a.args) h in
     (a, at, same_sym_true a.sym s p, sym (each_sound d cs g gr args us a.args w q))
 
 pub atom_complete : (d : Disjunct) (cs : List Clause) (g : Ground) → IsGround d cs g → (args : List ℕ) → AllWithin g args → (s : Sym) (us : List Term) (k : ℕ) → (h : IsAtomPlace g k s (map (substitute 0 (value_at (terms_at g args))) us)) → is_atom_instance g.terms args s us h.0 ≡ true

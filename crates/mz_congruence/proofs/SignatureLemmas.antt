@@ -1,6 +1,6 @@
 -- A signature tells the head and the classes of the arguments.
 use Rattle.std.proofs.Common.{◌≡◌, ℕ, List, [], ◌∷◌, ◌++◌, refl, ap, sym, ◌∙◌, subst, Bool, true, false}
-use Rattle.std.specs.Prelude.{◌&&◌, nat_eq, Some, if◌then◌else◌}
+use Rattle.std.specs.Prelude.{nat_eq, Some, if◌then◌else◌}
 use Rattle.std.specs.Map.{lookup, KeepsOthers}
 use Rattle.std.specs.HashMap.{HashMap, UpdatesBy}
 use Rattle.std.proofs.lemmas.Bool.{eqb-true, eq-eqb}
@@ -11,6 +11,7 @@ use Rattle.mz_logic.proofs.SymLemmas.{kind_number-inj}
 use Rattle.mz_congruence.specs.declared.head.Head.{Head}
 use Rattle.mz_congruence.specs.declared.head.Head.TheVariants.{Constant, Function, Positive, Negative, Disequal, Yes}
 use Rattle.mz_congruence.specs.Signature.{head_code, sym_code, number_code, equation_code, is_list}
+use Rattle.mz_congruence.proofs.AndLemmas.{both_left, both_right}
 
 pub sym_equal : (s t : Sym) → s.article ≡ t.article → kind_number s.kind ≡ kind_number t.kind → s.number ≡ t.number → s ≡ t
 sym_equal s t a k n = λ i. record { article = a i; kind = kind_number-inj s.kind t.kind k i; number = n i }
@@ -71,14 +72,6 @@ signature_parts Yes (Function t) rs ss e = cc
 signature_parts Yes (Positive t) rs ss e = cc
 signature_parts Yes (Negative t) rs ss e = cc
 signature_parts Yes (Disequal n) rs ss e = cc
-
-both_left : (a b : Bool) → (a && b) ≡ true → a ≡ true
-both_left true b h = refl
-both_left false b h = h
-
-both_right : (a b : Bool) → (a && b) ≡ true → b ≡ true
-both_right true b h = h
-both_right false b h = cc
 
 pub is_list_true : (s t : List ℕ) → is_list s t ≡ true → s ≡ t
 is_list_true [] [] h = refl

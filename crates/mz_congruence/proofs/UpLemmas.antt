@@ -134,16 +134,16 @@ app_place d cs g gr i s us h =
     let q = app_entry (ground_terms g) p.0 s us e in
     (q.0, p.1 ∙ ap Some q.1, q.2)
 
-cons_nil : {t : Term} {ts : List Term} → t ∷ ts ≡ [] → ⊥
+pub cons_nil : {t : Term} {ts : List Term} → t ∷ ts ≡ [] → ⊥
 cons_nil e = cc
 
-nil_cons : {t : Term} {ts : List Term} → [] ≡ t ∷ ts → ⊥
+pub nil_cons : {t : Term} {ts : List Term} → [] ≡ t ∷ ts → ⊥
 nil_cons e = cc
 
-cons_head : {t u : Term} {ts us : List Term} → t ∷ ts ≡ u ∷ us → t ≡ u
+pub cons_head : {t u : Term} {ts us : List Term} → t ∷ ts ≡ u ∷ us → t ≡ u
 cons_head e = cc
 
-cons_tail : {t u : Term} {ts us : List Term} → t ∷ ts ≡ u ∷ us → ts ≡ us
+pub cons_tail : {t u : Term} {ts us : List Term} → t ∷ ts ≡ u ∷ us → ts ≡ us
 cons_tail e = cc
 
 pub within_term : (d : Disjunct) (cs : List Clause) (g : Ground) → IsGround d cs g → (i : ℕ) (s : Sym) (args : List ℕ) → slice_get g.terms i ≡ Some (App s args) → AllWithin g args

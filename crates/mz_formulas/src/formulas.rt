@@ -208,37 +208,21 @@ fn read_unit(
     match node {
         UnitNode::Not(p, u) => {
             let q = read_unit(alloc, env, ctx, least, u)?;
-            let o = denied(alloc, *p, q)?;
-            Ok(o)
+            Ok(denied(alloc, *p, q)?)
         }
         UnitNode::Contradiction(_) => {
             let s = Statement::not(alloc, Statement::truth())?;
             Ok(Ok(s))
         }
-        UnitNode::Thesis(p) => {
-            let o = thesis_at(alloc, *p, &ctx.thesis)?;
-            Ok(o)
-        }
-        UnitNode::Quantified(q) => {
-            let o = read_quantified(alloc, env, ctx, least, q)?;
-            Ok(o)
-        }
-        UnitNode::Group(_, f, _) => {
-            let o = read_formula(alloc, env, ctx, least, f)?;
-            Ok(o)
-        }
-        UnitNode::Private(w, _, _) => {
-            let o = read_private(alloc, env, ctx, least, w, None)?;
-            Ok(o)
-        }
+        UnitNode::Thesis(p) => Ok(thesis_at(alloc, *p, &ctx.thesis)?),
+        UnitNode::Quantified(q) => Ok(read_quantified(alloc, env, ctx, least, q)?),
+        UnitNode::Group(_, f, _) => Ok(read_formula(alloc, env, ctx, least, f)?),
+        UnitNode::Private(w, _, _) => Ok(read_private(alloc, env, ctx, least, w, None)?),
         UnitNode::PrivateWith(w, _, ts, _) => {
             let o = read_private(alloc, env, ctx, least, w, Some(ts))?;
             Ok(o)
         }
-        UnitNode::Predicate(w) => {
-            let o = read_predicate(alloc, env, ctx, least, None, w, None)?;
-            Ok(o)
-        }
+        UnitNode::Predicate(w) => Ok(read_predicate(alloc, env, ctx, least, None, w, None)?),
         UnitNode::PredicateRight(w, us) => {
             let o = read_predicate(alloc, env, ctx, least, None, w, Some(us))?;
             Ok(o)

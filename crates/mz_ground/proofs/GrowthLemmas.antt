@@ -93,8 +93,9 @@ grows_both g h k Q R a b =
       complete = λ le p q. elim q [ inl s ↦ stored_grown h k a.numbered b.terms b.atoms b.equations p (a.complete (fits le) p s) | inr r ↦ b.complete le p r ];
     }
 
-pub grows_as : (g h : Ground) (Q R : GroundExpression → Type 0) → Grows g Q h → ((p : GroundExpression) → Q p → R p) → ((p : GroundExpression) → R p → Q p) → Grows g R h
-grows_as g h Q R a to from =
+-- the same for more expressions, where each of these is stored
+pub grows_within : (g h : Ground) (Q R : GroundExpression → Type 0) → Grows g Q h → ((p : GroundExpression) → Q p → R p) → (length h.terms ≤ most_terms → (p : GroundExpression) → R p → IsStored h p) → Grows g R h
+grows_within g h Q R a to all =
     record {
       numbered = a.numbered;
       terms = a.terms;
@@ -102,8 +103,11 @@ grows_as g h Q R a to from =
       equations = a.equations;
       ends = a.ends;
       sound = λ p w. elim (a.sound p w) [ inl v ↦ inl v | inr q ↦ inr (to p q) ];
-      complete = λ le p r. a.complete le p (from p r);
+      complete = all;
     }
+
+pub grows_as : (g h : Ground) (Q R : GroundExpression → Type 0) → Grows g Q h → ((p : GroundExpression) → Q p → R p) → ((p : GroundExpression) → R p → Q p) → Grows g R h
+grows_as g h Q R a to from = grows_within g h Q R a to (λ le p r. a.complete le p (from p r))
 
 -- terms
 abbrev pub IsTermOf : List Term → GroundExpression → Type 0

@@ -27,7 +27,7 @@ use Rattle.mz_ground.specs.declared.expression_place.ExpressionPlace.{Expression
 use Rattle.mz_ground.specs.declared.expression_place.ExpressionPlace.TheVariants as place
 use Rattle.mz_ground.proofs.ListLemmas.{contains_none, contains_first, contains_later, contains_cases, contains_get, extends-length, get_extended, get_some, get_map}
 use Rattle.mz_ground.proofs.TableLemmas.{entry_terms-length, term_at_grown}
-use Rattle.mz_ground.proofs.GrowthLemmas.{grows_nothing, grows_both, grows_as, terms_grown, atoms_extend, equations_extend, reads_in_grown}
+use Rattle.mz_ground.proofs.GrowthLemmas.{grows_nothing, grows_both, grows_as, grows_within, terms_grown, atoms_extend, equations_extend, reads_in_grown}
 use Rattle.mz_ground.proofs.ExpressionLemmas.{literals_more}
 use Rattle.mz_ground.proofs.HeadLemmas.{candidates_only, candidates_listed, trigger_places_kept}
 
@@ -102,16 +102,7 @@ instance_as c P Q p h i = record { terms = i.terms; arity = i.arity; trigger = h
 
 -- where there are more terms than the limit nothing is owed
 grows_full : (g h : Ground) (Q R : GroundExpression → Type 0) → Grows g Q h → most_terms < length h.terms → ((p : GroundExpression) → Q p → R p) → Grows g R h
-grows_full g h Q R a lt to =
-    record {
-      numbered = a.numbered;
-      terms = a.terms;
-      atoms = a.atoms;
-      equations = a.equations;
-      ends = a.ends;
-      sound = λ p w. elim (a.sound p w) [ inl v ↦ inl v | inr q ↦ inr (to p q) ];
-      complete = λ le p r. absurd (omega (arith, lt, le));
-    }
+grows_full g h Q R a lt to = grows_within g h Q R a to (λ le p r. absurd (omega (arith, lt, le)))
 
 pub numbered_after : (g h : Ground) (Q : GroundExpression → Type 0) → Grows g Q h → IsNumbered h
 numbered_after g h Q a = a.numbered

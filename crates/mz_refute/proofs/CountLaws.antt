@@ -1,6 +1,6 @@
 -- A table with the entries of facts counts them.
 use Rattle.std.proofs.Common.{◌≡◌, ◌<◌, ◌+◌, ◌⊎◌, inl, inr, ℕ, zero, suc, List, [], ◌∷◌, ◌++◌, map, length, refl, arith, ap, sym, ◌∙◌, subst, Bool, true, false}
-use Rattle.std.specs.Prelude.{slice_get, slice_index, slice_index_or, Some, Contains, AllPairs, ◌≢◌, ◌&&◌, if◌then◌else◌}
+use Rattle.std.specs.Prelude.{slice_get, slice_index, slice_index_or, Some, Contains, AllPairs, ◌≢◌, ◌↔◌, ◌&&◌, if◌then◌else◌}
 use Rattle.mz_logic.specs.declared.sym.Sym.{Sym}
 use Rattle.mz_logic.specs.Sym.{same_sym}
 use Rattle.mz_logic.specs.Term.{Term}
@@ -178,46 +178,28 @@ atom_terms ts a = map (term_at ts) a.args
 abbrev equation_terms : List Term → GroundEquation → Term × Term
 equation_terms ts e = (term_at ts e.left, term_at ts e.right)
 
-count_holds : (ts : List Term) (s : Sym) (classes : List ℕ) (ps ns : List Bool) (os : List GroundAtom) → length ns ≡ length os → count_for (Holds s) (atom_entries classes ps ns os) ≡ length (picked (atom_terms ts) (of_symbol s) ps os)
-count_holds ts s classes [] ns os l = refl
-count_holds ts s classes (p ∷ ps) [] [] l = refl
-count_holds ts s classes (p ∷ ps) [] (a ∷ os) l = absurd (omega (arith, l))
-count_holds ts s classes (p ∷ ps) (n ∷ ns) [] l = absurd (omega (arith, l))
-count_holds ts s classes (p ∷ ps) (n ∷ ns) (a ∷ os) l =
-    let args : List ℕ = map (slice_index classes) a.args in
-    let x = count-append (Holds s) (sign_entry p (Holds a.sym) args ++ sign_entry n (Fails a.sym) args) (atom_entries classes ps ns os) in
-    let y = count-append (Holds s) (sign_entry p (Holds a.sym) args) (sign_entry n (Fails a.sym) args) in
-    let z = flag_count p (Holds a.sym) (Holds s) args in
-    let w = no_flag n (Fails a.sym) (Holds s) args refl in
-    let u = picked_length (atom_terms ts) (of_symbol s) p ps a os in
-    omega (arith, x, y, z, w, u, count_holds ts s classes ps ns os (omega (arith, l)))
+picked_none : {X Y : Type 0} (f : X → Y) (bs : List Bool) (xs : List X) → length (picked f (λ x. false) bs xs) ≡ 0
+picked_none f [] xs = refl
+picked_none f (b ∷ bs) [] = refl
+picked_none f (true ∷ bs) (x ∷ xs) = picked_none f bs xs
+picked_none f (false ∷ bs) (x ∷ xs) = picked_none f bs xs
 
-count_fails : (ts : List Term) (s : Sym) (classes : List ℕ) (ps ns : List Bool) (os : List GroundAtom) → length ps ≡ length os → count_for (Fails s) (atom_entries classes ps ns os) ≡ length (picked (atom_terms ts) (of_symbol s) ns os)
-count_fails ts s classes [] [] os l = refl
-count_fails ts s classes [] (n ∷ ns) [] l = refl
-count_fails ts s classes [] (n ∷ ns) (a ∷ os) l = absurd (omega (arith, l))
-count_fails ts s classes (p ∷ ps) [] os l = refl
-count_fails ts s classes (p ∷ ps) (n ∷ ns) [] l = absurd (omega (arith, l))
-count_fails ts s classes (p ∷ ps) (n ∷ ns) (a ∷ os) l =
+count_atoms : {Y : Type 0} (f : GroundAtom → Y) (h : Head) (classes : List ℕ) (ps ns : List Bool) (os : List GroundAtom) → length ps ≡ length os → length ns ≡ length os → count_for h (atom_entries classes ps ns os) ≡ length (picked f (λ a. same_head (Holds a.sym) h) ps os) + length (picked f (λ a. same_head (Fails a.sym) h) ns os)
+count_atoms f h classes [] [] os l m = omega arith
+count_atoms f h classes [] (n ∷ ns) [] l m = omega arith
+count_atoms f h classes [] (n ∷ ns) (a ∷ os) l m = absurd (omega (arith, l))
+count_atoms f h classes (p ∷ ps) [] [] l m = omega arith
+count_atoms f h classes (p ∷ ps) [] (a ∷ os) l m = absurd (omega (arith, m))
+count_atoms f h classes (p ∷ ps) (n ∷ ns) [] l m = omega arith
+count_atoms f h classes (p ∷ ps) (n ∷ ns) (a ∷ os) l m =
     let args : List ℕ = map (slice_index classes) a.args in
-    let x = count-append (Fails s) (sign_entry p (Holds a.sym) args ++ sign_entry n (Fails a.sym) args) (atom_entries classes ps ns os) in
-    let y = count-append (Fails s) (sign_entry p (Holds a.sym) args) (sign_entry n (Fails a.sym) args) in
-    let z = flag_count n (Fails a.sym) (Fails s) args in
-    let w = no_flag p (Holds a.sym) (Fails s) args refl in
-    let u = picked_length (atom_terms ts) (of_symbol s) n ns a os in
-    omega (arith, x, y, z, w, u, count_fails ts s classes ps ns os (omega (arith, l)))
-
-no_atoms : (classes : List ℕ) (ps ns : List Bool) (os : List GroundAtom) → count_for Disequal (atom_entries classes ps ns os) ≡ 0
-no_atoms classes [] ns os = refl
-no_atoms classes (p ∷ ps) [] os = refl
-no_atoms classes (p ∷ ps) (n ∷ ns) [] = refl
-no_atoms classes (p ∷ ps) (n ∷ ns) (a ∷ os) =
-    let args : List ℕ = map (slice_index classes) a.args in
-    let x = count-append Disequal (sign_entry p (Holds a.sym) args ++ sign_entry n (Fails a.sym) args) (atom_entries classes ps ns os) in
-    let y = count-append Disequal (sign_entry p (Holds a.sym) args) (sign_entry n (Fails a.sym) args) in
-    let z = no_flag p (Holds a.sym) Disequal args refl in
-    let w = no_flag n (Fails a.sym) Disequal args refl in
-    omega (arith, x, y, z, w, no_atoms classes ps ns os)
+    let x = count-append h (sign_entry p (Holds a.sym) args ++ sign_entry n (Fails a.sym) args) (atom_entries classes ps ns os) in
+    let y = count-append h (sign_entry p (Holds a.sym) args) (sign_entry n (Fails a.sym) args) in
+    let z = flag_count p (Holds a.sym) h args in
+    let w = flag_count n (Fails a.sym) h args in
+    let u = picked_length f (λ b. same_head (Holds b.sym) h) p ps a os in
+    let v = picked_length f (λ b. same_head (Fails b.sym) h) n ns a os in
+    omega (arith, x, y, z, w, u, v, count_atoms f h classes ps ns os (omega (arith, l)) (omega (arith, m)))
 
 no_equations : (h : Head) → same_head Disequal h ≡ false → (classes : List ℕ) (bs : List Bool) (es : List GroundEquation) → count_for h (equation_entries classes bs es) ≡ 0
 no_equations h f classes [] es = refl
@@ -256,57 +238,45 @@ one_atom ts s a b p q e =
 one_equation : (ts : List Term) (a b : GroundEquation) → any_equation a ≡ true → any_equation b ≡ true → equation_terms ts a ≡ equation_terms ts b → equation_expression ts a ≡ equation_expression ts b
 one_equation ts a b p q e = λ i. EquationExpression ((e i).0) ((e i).1)
 
-holds_from : (d : Disjunct) (cs : List Clause) (g : Ground) (classes : List ℕ) (positive negative disequal : List Bool) → HoldsFacts d cs g classes positive negative disequal → (s : Sym) (us : List Term) → Contains (picked (atom_terms (ground_terms g)) (of_symbol s) positive g.atoms) us → IsSigned d cs true s us
-holds_from d cs g classes positive negative disequal h s us m =
-    let p = picked_found (atom_terms (ground_terms g)) (of_symbol s) positive g.atoms (λ y. y ≡ us) (some_of_member (λ y. y ≡ us) (picked (atom_terms (ground_terms g)) (of_symbol s) positive g.atoms) us m refl) in
-    let f : Fact d cs (Atom true p.member.sym (map (term_at (ground_terms g)) p.member.args)) = (h.holds p.place p.member p.at).0 p.has in
-    let k : Fact d cs (Atom true s us) = subst (λ (o : Sym). Fact d cs (Atom true o us)) (same_sym-true p.member.sym s p.kept) (subst (λ (xs : List Term). Fact d cs (Atom true p.member.sym xs)) p.fact f) in
-    record { ground = fact_atom d cs true s us k; fact = k }
+-- the flags are those of the facts with the sign
+abbrev AreFlags : Disjunct → List Clause → Ground → Bool → List Bool → Type 0
+AreFlags d cs g sign flags = (k : ℕ) (a : GroundAtom) → slice_get g.atoms k ≡ Some a → ((slice_get flags k ≡ Some true) ↔ Fact d cs (Atom sign a.sym (map (term_at (ground_terms g)) a.args)))
 
-holds_to : (d : Disjunct) (cs : List Clause) (g : Ground) (classes : List ℕ) (positive negative disequal : List Bool) → HoldsFacts d cs g classes positive negative disequal → (s : Sym) (us : List Term) → IsSigned d cs true s us → Contains (picked (atom_terms (ground_terms g)) (of_symbol s) positive g.atoms) us
-holds_to d cs g classes positive negative disequal h s us k =
+signed_from : (d : Disjunct) (cs : List Clause) (g : Ground) (sign : Bool) (flags : List Bool) → AreFlags d cs g sign flags → (s : Sym) (us : List Term) → Contains (picked (atom_terms (ground_terms g)) (of_symbol s) flags g.atoms) us → IsSigned d cs sign s us
+signed_from d cs g sign flags are s us m =
+    let p = picked_found (atom_terms (ground_terms g)) (of_symbol s) flags g.atoms (λ y. y ≡ us) (some_of_member (λ y. y ≡ us) (picked (atom_terms (ground_terms g)) (of_symbol s) flags g.atoms) us m refl) in
+    let f : Fact d cs (Atom sign p.member.sym (map (term_at (ground_terms g)) p.member.args)) = (are p.place p.member p.at).0 p.has in
+    let k : Fact d cs (Atom sign s us) = subst (λ (o : Sym). Fact d cs (Atom sign o us)) (same_sym-true p.member.sym s p.kept) (subst (λ (xs : List Term). Fact d cs (Atom sign p.member.sym xs)) p.fact f) in
+    record { ground = fact_atom d cs sign s us k; fact = k }
+
+signed_to : (d : Disjunct) (cs : List Clause) (g : Ground) (classes : List ℕ) (positive negative disequal : List Bool) → HoldsFacts d cs g classes positive negative disequal → (sign : Bool) (flags : List Bool) → AreFlags d cs g sign flags → (s : Sym) (us : List Term) → IsSigned d cs sign s us → Contains (picked (atom_terms (ground_terms g)) (of_symbol s) flags g.atoms) us
+signed_to d cs g classes positive negative disequal h sign flags are s us k =
     let a = atom_place d cs g classes positive negative disequal h s us k.ground in
-    let f : Fact d cs (Atom true a.atom.sym (map (term_at (ground_terms g)) a.atom.args)) = subst (λ (o : Sym). Fact d cs (Atom true o (map (term_at (ground_terms g)) a.atom.args))) (sym a.sym_is) (subst (λ (xs : List Term). Fact d cs (Atom true s xs)) (sym a.args_are) k.fact) in
-    member_of (picked (atom_terms (ground_terms g)) (of_symbol s) positive g.atoms) us
-    (picked_find (atom_terms (ground_terms g)) (of_symbol s) positive g.atoms (λ y. y ≡ us) a.place a.atom a.at ((h.holds a.place a.atom a.at).1 f) (sym-same a.atom.sym s a.sym_is) a.args_are)
+    let f : Fact d cs (Atom sign a.atom.sym (map (term_at (ground_terms g)) a.atom.args)) = subst (λ (o : Sym). Fact d cs (Atom sign o (map (term_at (ground_terms g)) a.atom.args))) (sym a.sym_is) (subst (λ (xs : List Term). Fact d cs (Atom sign s xs)) (sym a.args_are) k.fact) in
+    member_of (picked (atom_terms (ground_terms g)) (of_symbol s) flags g.atoms) us
+    (picked_find (atom_terms (ground_terms g)) (of_symbol s) flags g.atoms (λ y. y ≡ us) a.place a.atom a.at ((are a.place a.atom a.at).1 f) (sym-same a.atom.sym s a.sym_is) a.args_are)
+
+signed_count : (d : Disjunct) (cs : List Clause) (g : Ground) (classes : List ℕ) (positive negative disequal : List Bool) → HoldsFacts d cs g classes positive negative disequal → (table : Table) → HasEntries table (entries_of g classes positive negative disequal) → (sign : Bool) (flags : List Bool) → AreFlags d cs g sign flags → (s : Sym) (head : Head) → IsFactHead head → same_head Disequal head ≡ false → count_for head (atom_entries classes positive negative g.atoms) ≡ length (picked (atom_terms (ground_terms g)) (of_symbol s) flags g.atoms) → IsCount (IsSigned d cs sign s) (count_of table head)
+signed_count d cs g classes positive negative disequal h table k sign flags are s head f e n =
+    let x = rows_count table (entries_of g classes positive negative disequal) k head in
+    let y = all_counts head g classes positive negative disequal f in
+    let z = no_equations head e classes disequal g.equations in
+    record {
+      values = picked (atom_terms (ground_terms g)) (of_symbol s) flags g.atoms;
+      members = λ us. (signed_from d cs g sign flags are s us, signed_to d cs g classes positive negative disequal h sign flags are s us);
+      distinct = picked_distinct (atom_terms (ground_terms g)) (of_symbol s) (atom_expression (ground_terms g)) flags g.atoms h.ground.distinct_atoms (one_atom (ground_terms g) s);
+      number = omega (arith, x, y, z, n);
+    }
 
 holds_count : (d : Disjunct) (cs : List Clause) (g : Ground) (classes : List ℕ) (positive negative disequal : List Bool) → HoldsFacts d cs g classes positive negative disequal → (table : Table) → HasEntries table (entries_of g classes positive negative disequal) → (s : Sym) → IsCount (IsSigned d cs true s) (count_of table (Holds s))
 holds_count d cs g classes positive negative disequal h table k s =
-    let x = rows_count table (entries_of g classes positive negative disequal) k (Holds s) in
-    let y = all_counts (Holds s) g classes positive negative disequal tt in
-    let z = no_equations (Holds s) refl classes disequal g.equations in
-    record {
-      values = picked (atom_terms (ground_terms g)) (of_symbol s) positive g.atoms;
-      members = λ us. (holds_from d cs g classes positive negative disequal h s us, holds_to d cs g classes positive negative disequal h s us);
-      distinct = picked_distinct (atom_terms (ground_terms g)) (of_symbol s) (atom_expression (ground_terms g)) positive g.atoms h.ground.distinct_atoms (one_atom (ground_terms g) s);
-      number = omega (arith, x, y, z, count_holds (ground_terms g) s classes positive negative g.atoms h.negative_count);
-    }
-
-fails_from : (d : Disjunct) (cs : List Clause) (g : Ground) (classes : List ℕ) (positive negative disequal : List Bool) → HoldsFacts d cs g classes positive negative disequal → (s : Sym) (us : List Term) → Contains (picked (atom_terms (ground_terms g)) (of_symbol s) negative g.atoms) us → IsSigned d cs false s us
-fails_from d cs g classes positive negative disequal h s us m =
-    let p = picked_found (atom_terms (ground_terms g)) (of_symbol s) negative g.atoms (λ y. y ≡ us) (some_of_member (λ y. y ≡ us) (picked (atom_terms (ground_terms g)) (of_symbol s) negative g.atoms) us m refl) in
-    let f : Fact d cs (Atom false p.member.sym (map (term_at (ground_terms g)) p.member.args)) = (h.fails p.place p.member p.at).0 p.has in
-    let k : Fact d cs (Atom false s us) = subst (λ (o : Sym). Fact d cs (Atom false o us)) (same_sym-true p.member.sym s p.kept) (subst (λ (xs : List Term). Fact d cs (Atom false p.member.sym xs)) p.fact f) in
-    record { ground = fact_atom d cs false s us k; fact = k }
-
-fails_to : (d : Disjunct) (cs : List Clause) (g : Ground) (classes : List ℕ) (positive negative disequal : List Bool) → HoldsFacts d cs g classes positive negative disequal → (s : Sym) (us : List Term) → IsSigned d cs false s us → Contains (picked (atom_terms (ground_terms g)) (of_symbol s) negative g.atoms) us
-fails_to d cs g classes positive negative disequal h s us k =
-    let a = atom_place d cs g classes positive negative disequal h s us k.ground in
-    let f : Fact d cs (Atom false a.atom.sym (map (term_at (ground_terms g)) a.atom.args)) = subst (λ (o : Sym). Fact d cs (Atom false o (map (term_at (ground_terms g)) a.atom.args))) (sym a.sym_is) (subst (λ (xs : List Term). Fact d cs (Atom false s xs)) (sym a.args_are) k.fact) in
-    member_of (picked (atom_terms (ground_terms g)) (of_symbol s) negative g.atoms) us
-    (picked_find (atom_terms (ground_terms g)) (of_symbol s) negative g.atoms (λ y. y ≡ us) a.place a.atom a.at ((h.fails a.place a.atom a.at).1 f) (sym-same a.atom.sym s a.sym_is) a.args_are)
+    let n : count_for (Holds s) (atom_entries classes positive negative g.atoms) ≡ length (picked (atom_terms (ground_terms g)) (of_symbol s) positive g.atoms) + length (picked (atom_terms (ground_terms g)) (λ a. false) negative g.atoms) = count_atoms (atom_terms (ground_terms g)) (Holds s) classes positive negative g.atoms h.positive_count h.negative_count in
+    signed_count d cs g classes positive negative disequal h table k true positive h.holds s (Holds s) tt refl (omega (arith, n, picked_none (atom_terms (ground_terms g)) negative g.atoms))
 
 fails_count : (d : Disjunct) (cs : List Clause) (g : Ground) (classes : List ℕ) (positive negative disequal : List Bool) → HoldsFacts d cs g classes positive negative disequal → (table : Table) → HasEntries table (entries_of g classes positive negative disequal) → (s : Sym) → IsCount (IsSigned d cs false s) (count_of table (Fails s))
 fails_count d cs g classes positive negative disequal h table k s =
-    let x = rows_count table (entries_of g classes positive negative disequal) k (Fails s) in
-    let y = all_counts (Fails s) g classes positive negative disequal tt in
-    let z = no_equations (Fails s) refl classes disequal g.equations in
-    record {
-      values = picked (atom_terms (ground_terms g)) (of_symbol s) negative g.atoms;
-      members = λ us. (fails_from d cs g classes positive negative disequal h s us, fails_to d cs g classes positive negative disequal h s us);
-      distinct = picked_distinct (atom_terms (ground_terms g)) (of_symbol s) (atom_expression (ground_terms g)) negative g.atoms h.ground.distinct_atoms (one_atom (ground_terms g) s);
-      number = omega (arith, x, y, z, count_fails (ground_terms g) s classes positive negative g.atoms h.positive_count);
-    }
+    let n : count_for (Fails s) (atom_entries classes positive negative g.atoms) ≡ length (picked (atom_terms (ground_terms g)) (λ a. false) positive g.atoms) + length (picked (atom_terms (ground_terms g)) (of_symbol s) negative g.atoms) = count_atoms (atom_terms (ground_terms g)) (Fails s) classes positive negative g.atoms h.positive_count h.negative_count in
+    signed_count d cs g classes positive negative disequal h table k false negative h.fails s (Fails s) tt refl (omega (arith, n, picked_none (atom_terms (ground_terms g)) positive g.atoms))
 
 disequal_from : (d : Disjunct) (cs : List Clause) (g : Ground) (classes : List ℕ) (positive negative disequal : List Bool) → HoldsFacts d cs g classes positive negative disequal → (p : Term × Term) → Contains (picked (equation_terms (ground_terms g)) any_equation disequal g.equations) p → IsDisequal d cs p
 disequal_from d cs g classes positive negative disequal h p m =
@@ -329,12 +299,14 @@ disequal_count : (d : Disjunct) (cs : List Clause) (g : Ground) (classes : List 
 disequal_count d cs g classes positive negative disequal h table k =
     let x = rows_count table (entries_of g classes positive negative disequal) k Disequal in
     let y = all_counts Disequal g classes positive negative disequal tt in
-    let z = no_atoms classes positive negative g.atoms in
+    let z : count_for Disequal (atom_entries classes positive negative g.atoms) ≡ length (picked (atom_terms (ground_terms g)) (λ a. false) positive g.atoms) + length (picked (atom_terms (ground_terms g)) (λ a. false) negative g.atoms) = count_atoms (atom_terms (ground_terms g)) Disequal classes positive negative g.atoms h.positive_count h.negative_count in
+    let v = picked_none (atom_terms (ground_terms g)) positive g.atoms in
+    let w = picked_none (atom_terms (ground_terms g)) negative g.atoms in
     record {
       values = picked (equation_terms (ground_terms g)) any_equation disequal g.equations;
       members = λ p. (disequal_from d cs g classes positive negative disequal h p, disequal_to d cs g classes positive negative disequal h p);
       distinct = picked_distinct (equation_terms (ground_terms g)) any_equation (equation_expression (ground_terms g)) disequal g.equations h.ground.distinct_equations (one_equation (ground_terms g));
-      number = omega (arith, x, y, z, count_differ (ground_terms g) classes disequal g.equations);
+      number = omega (arith, x, y, z, v, w, count_differ (ground_terms g) classes disequal g.equations);
     }
 
 pub counted : (d : Disjunct) (cs : List Clause) (g : Ground) (classes : List ℕ) (positive negative disequal : List Bool) → HoldsFacts d cs g classes positive negative disequal → (table : Table) → HasEntries table (entries_of g classes positive negative disequal) → IsCounted d cs (count_of table) (length classes)

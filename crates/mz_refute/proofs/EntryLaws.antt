@@ -108,32 +108,24 @@ atom_found P classes (p ∷ ps) (n ∷ ns) (a ∷ os) k =
 bool_injective : (b c : Bool) → Some b ≡ Some c → b ≡ c
 bool_injective b c e = cc
 
-pub holds_find : (P : Entry → Type 0) (classes : List ℕ) (ps ns : List Bool) (os : List GroundAtom) (k : ℕ) (a : GroundAtom) → length ns ≡ length os → slice_get os k ≡ Some a → slice_get ps k ≡ Some true → P (holds_entry classes a) → SomeOf P (atom_entries classes ps ns os)
-holds_find P classes [] ns os k a l x y z = cc
-holds_find P classes (p ∷ ps) ns [] k a l x y z = cc
-holds_find P classes (p ∷ ps) [] (b ∷ os) k a l x y z = absurd (omega (arith, l))
-holds_find P classes (p ∷ ps) (n ∷ ns) (b ∷ os) zero a l x y z =
+pub atom_find : (P : Entry → Type 0) (classes : List ℕ) (ps ns : List Bool) (os : List GroundAtom) (k : ℕ) (a : GroundAtom) → length ps ≡ length os → length ns ≡ length os → slice_get os k ≡ Some a → ((slice_get ps k ≡ Some true) × P (holds_entry classes a)) ⊎ ((slice_get ns k ≡ Some true) × P (fails_entry classes a)) → SomeOf P (atom_entries classes ps ns os)
+atom_find P classes [] ns [] k a l m x y = cc
+atom_find P classes [] ns (b ∷ os) k a l m x y = absurd (omega (arith, l))
+atom_find P classes (p ∷ ps) [] [] k a l m x y = cc
+atom_find P classes (p ∷ ps) [] (b ∷ os) k a l m x y = absurd (omega (arith, m))
+atom_find P classes (p ∷ ps) (n ∷ ns) [] k a l m x y = cc
+atom_find P classes (p ∷ ps) (n ∷ ns) (b ∷ os) zero a l m x y =
     let q : b ≡ a = cc in
     let args : List ℕ = map (slice_index classes) b.args in
-    some_left P (sign_entry p (Holds b.sym) args ++ sign_entry n (Fails b.sym) args) (atom_entries classes ps ns os)
-    (some_left P (sign_entry p (Holds b.sym) args) (sign_entry n (Fails b.sym) args) (sign_find P p (Holds b.sym) args (bool_injective p true y) (subst (λ (c : GroundAtom). P (holds_entry classes c)) (sym q) z)))
-holds_find P classes (p ∷ ps) (n ∷ ns) (b ∷ os) (suc k) a l x y z =
+    let here : SomeOf P (sign_entry p (Holds b.sym) args ++ sign_entry n (Fails b.sym) args) =
+    elim y [
+      | inl z ↦ some_left P (sign_entry p (Holds b.sym) args) (sign_entry n (Fails b.sym) args) (sign_find P p (Holds b.sym) args (bool_injective p true z.0) (subst (λ (c : GroundAtom). P (holds_entry classes c)) (sym q) z.1))
+      | inr z ↦ some_right P (sign_entry p (Holds b.sym) args) (sign_entry n (Fails b.sym) args) (sign_find P n (Fails b.sym) args (bool_injective n true z.0) (subst (λ (c : GroundAtom). P (fails_entry classes c)) (sym q) z.1))
+    ] in
+    some_left P (sign_entry p (Holds b.sym) args ++ sign_entry n (Fails b.sym) args) (atom_entries classes ps ns os) here
+atom_find P classes (p ∷ ps) (n ∷ ns) (b ∷ os) (suc k) a l m x y =
     let args : List ℕ = map (slice_index classes) b.args in
-    some_right P (sign_entry p (Holds b.sym) args ++ sign_entry n (Fails b.sym) args) (atom_entries classes ps ns os) (holds_find P classes ps ns os k a (omega (arith, l)) x y z)
-
-pub fails_find : (P : Entry → Type 0) (classes : List ℕ) (ps ns : List Bool) (os : List GroundAtom) (k : ℕ) (a : GroundAtom) → length ps ≡ length os → slice_get os k ≡ Some a → slice_get ns k ≡ Some true → P (fails_entry classes a) → SomeOf P (atom_entries classes ps ns os)
-fails_find P classes [] ns [] k a l x y z = cc
-fails_find P classes [] ns (b ∷ os) k a l x y z = absurd (omega (arith, l))
-fails_find P classes (p ∷ ps) [] os k a l x y z = cc
-fails_find P classes (p ∷ ps) (n ∷ ns) [] k a l x y z = cc
-fails_find P classes (p ∷ ps) (n ∷ ns) (b ∷ os) zero a l x y z =
-    let q : b ≡ a = cc in
-    let args : List ℕ = map (slice_index classes) b.args in
-    some_left P (sign_entry p (Holds b.sym) args ++ sign_entry n (Fails b.sym) args) (atom_entries classes ps ns os)
-    (some_right P (sign_entry p (Holds b.sym) args) (sign_entry n (Fails b.sym) args) (sign_find P n (Fails b.sym) args (bool_injective n true y) (subst (λ (c : GroundAtom). P (fails_entry classes c)) (sym q) z)))
-fails_find P classes (p ∷ ps) (n ∷ ns) (b ∷ os) (suc k) a l x y z =
-    let args : List ℕ = map (slice_index classes) b.args in
-    some_right P (sign_entry p (Holds b.sym) args ++ sign_entry n (Fails b.sym) args) (atom_entries classes ps ns os) (fails_find P classes ps ns os k a (omega (arith, l)) x y z)
+    some_right P (sign_entry p (Holds b.sym) args ++ sign_entry n (Fails b.sym) args) (atom_entries classes ps ns os) (atom_find P classes ps ns os k a (omega (arith, l)) (omega (arith, m)) x y)
 
 -- of an equation
 abbrev pub differ_entry : List ℕ → GroundEquation → Entry

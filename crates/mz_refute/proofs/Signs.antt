@@ -84,28 +84,20 @@ are_congruent_signed d cs false false x y a b e h =
     subst (λ (z : Formula). FormulasEqualModuloFacts d cs z (negated y)) (sym (negated_head x a)) (subst (λ (z : Formula). FormulasEqualModuloFacts d cs (Not x) z) (sym (negated_head y b)) (negations x y h))
 
 -- a negation is congruent to negations only
-left_not : (d : Disjunct) (cs : List Clause) (x y z : Formula) → FormulasEqualModuloFacts d cs x y → x ≡ Not z → IsHead y → ⊥
-left_not d cs x y z truths e b = cc
-left_not d cs x y z (equations t u v w h k) e b = cc
-left_not d cs x y z (atoms s ts us h) e b = cc
-left_not d cs x y z (negations f g h) e b = b
-left_not d cs x y z (conjunctions f g h k a c) e b = cc
-left_not d cs x y z (universals f g h) e b = cc
-
-right_not : (d : Disjunct) (cs : List Clause) (x y z : Formula) → FormulasEqualModuloFacts d cs x y → y ≡ Not z → IsHead x → ⊥
-right_not d cs x y z truths e b = cc
-right_not d cs x y z (equations t u v w h k) e b = cc
-right_not d cs x y z (atoms s ts us h) e b = cc
-right_not d cs x y z (negations f g h) e b = b
-right_not d cs x y z (conjunctions f g h k a c) e b = cc
-right_not d cs x y z (universals f g h) e b = cc
+heads_alike : (d : Disjunct) (cs : List Clause) (x y : Formula) → FormulasEqualModuloFacts d cs x y → (IsHead x → IsHead y) × (IsHead y → IsHead x)
+heads_alike d cs x y truths = (λ a. a, λ a. a)
+heads_alike d cs x y (equations t u v w h k) = (λ a. a, λ a. a)
+heads_alike d cs x y (atoms s ts us h) = (λ a. a, λ a. a)
+heads_alike d cs x y (negations f g h) = (λ a. a, λ a. a)
+heads_alike d cs x y (conjunctions f g h k a c) = (λ a. a, λ a. a)
+heads_alike d cs x y (universals f g h) = (λ a. a, λ a. a)
 
 both_not : (d : Disjunct) (cs : List Clause) (x y : Formula) → FormulasEqualModuloFacts d cs (Not x) (Not y) → FormulasEqualModuloFacts d cs x y
 both_not d cs x y (negations f g h) = h
 
 pub signed_parts : (d : Disjunct) (cs : List Clause) (p q : Bool) (x y : Formula) → IsHead x → IsHead y → FormulasEqualModuloFacts d cs (signed_as p x) (signed_as q y) → (p ≡ q) × FormulasEqualModuloFacts d cs x y
 signed_parts d cs true true x y a b h = (refl, h)
-signed_parts d cs true false x y a b h = absurd (right_not d cs x (negated y) y h (negated_head y b) a)
-signed_parts d cs false true x y a b h = absurd (left_not d cs (negated x) y x h (negated_head x a) b)
+signed_parts d cs true false x y a b h = absurd (subst (λ (z : Formula). IsHead z) (negated_head y b) ((heads_alike d cs x (negated y) h).0 a))
+signed_parts d cs false true x y a b h = absurd (subst (λ (z : Formula). IsHead z) (negated_head x a) ((heads_alike d cs (negated x) y h).1 b))
 signed_parts d cs false false x y a b h =
     (refl, both_not d cs x y (subst (λ (z : Formula). FormulasEqualModuloFacts d cs (Not x) z) (negated_head y b) (subst (λ (z : Formula). FormulasEqualModuloFacts d cs z (negated y)) (negated_head x a) h)))

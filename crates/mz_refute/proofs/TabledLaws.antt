@@ -32,7 +32,7 @@ use Rattle.mz_match.proofs.SomeLemmas.{some_left, some_right, some_cases}
 use Rattle.mz_match.proofs.HeadLemmas.{same_head-true, same_head-self}
 use Rattle.mz_refute.proofs.ListLaws.{member_at, get_within, get_once, get_index, index_get, get_member, member_get, map_get, map_same, find_place, some_get}
 use Rattle.mz_refute.proofs.PlaceLaws.{ground_length, ground_entry, place_term, ground_has, place_ground, atom_has, equation_has, class_at}
-use Rattle.mz_refute.proofs.EntryLaws.{rows_found, rows_find, term_found, term_find, holds_entry, fails_entry, atom_found, holds_find, fails_find, differ_entry, equation_found, equation_find}
+use Rattle.mz_refute.proofs.EntryLaws.{rows_found, rows_find, term_found, term_find, holds_entry, fails_entry, atom_found, atom_find, differ_entry, equation_found, equation_find}
 use Rattle.mz_refute.proofs.GroundLaws.{equal_ground}
 use Rattle.mz_refute.proofs.RefutedUp.{some_of_member}
 
@@ -248,25 +248,28 @@ atom_place d cs g classes positive negative disequal h s us k =
     let e : AtomExpression x.member.sym (map (term_at (ground_terms g)) x.member.args) ≡ AtomExpression s us = x.is in
     record { place = m.0; atom = x.member; at = x.at; sym_is = cc; args_are = cc }
 
-holds_rows : (d : Disjunct) (cs : List Clause) (g : Ground) (classes : List ℕ) (positive negative disequal : List Bool) → HoldsFacts d cs g classes positive negative disequal → (table : Table) → HasEntries table (entries_of g classes positive negative disequal) → (s : Sym) (us : List Term) → Fact d cs (Atom true s us) → SomeOf (λ r. r.args.items ≡ map (class_in (ground_terms g) classes) us) (rows_of table (Holds s))
-holds_rows d cs g classes positive negative disequal h table k s us f =
-    let a = atom_place d cs g classes positive negative disequal h s us (fact_atom d cs true s us f) in
-    let w : Fact d cs (Atom true a.atom.sym (map (term_at (ground_terms g)) a.atom.args)) = subst (λ (o : Sym). Fact d cs (Atom true o (map (term_at (ground_terms g)) a.atom.args))) (sym a.sym_is) (subst (λ (xs : List Term). Fact d cs (Atom true s xs)) (sym a.args_are) f) in
-    let P : List ℕ × ℕ → Type 0 = λ p. p.0 ≡ map (class_in (ground_terms g) classes) us in
-    rows_find table (entries_of g classes positive negative disequal) k (Holds s) P
-    (in_atoms (λ e. (same_head e.head (Holds s) ≡ true) × P (e.args, e.value)) g classes positive negative disequal
-    (holds_find (λ e. (same_head e.head (Holds s) ≡ true) × P (e.args, e.value)) classes positive negative g.atoms a.place a.atom h.negative_count a.at ((h.holds a.place a.atom a.at).1 w)
-    (subst (λ (o : Sym). same_head (Holds a.atom.sym) (Holds o) ≡ true) a.sym_is (same_head-self (Holds a.atom.sym)), atom_args d cs g classes positive negative disequal h a.place a.atom a.at ∙ ap (map (class_in (ground_terms g) classes)) a.args_are)))
+-- the rows of an atom with the sign
+abbrev signed_head : Bool → Sym → Head
+signed_head true s = Holds s
+signed_head false s = Fails s
 
-fails_rows : (d : Disjunct) (cs : List Clause) (g : Ground) (classes : List ℕ) (positive negative disequal : List Bool) → HoldsFacts d cs g classes positive negative disequal → (table : Table) → HasEntries table (entries_of g classes positive negative disequal) → (s : Sym) (us : List Term) → Fact d cs (Atom false s us) → SomeOf (λ r. r.args.items ≡ map (class_in (ground_terms g) classes) us) (rows_of table (Fails s))
-fails_rows d cs g classes positive negative disequal h table k s us f =
-    let a = atom_place d cs g classes positive negative disequal h s us (fact_atom d cs false s us f) in
-    let w : Fact d cs (Atom false a.atom.sym (map (term_at (ground_terms g)) a.atom.args)) = subst (λ (o : Sym). Fact d cs (Atom false o (map (term_at (ground_terms g)) a.atom.args))) (sym a.sym_is) (subst (λ (xs : List Term). Fact d cs (Atom false s xs)) (sym a.args_are) f) in
+abbrev signed_entry : Bool → List ℕ → GroundAtom → Entry
+signed_entry positive classes a = record { head = signed_head positive a.sym; args = map (slice_index classes) a.args; value = 0 }
+
+flag_of : (d : Disjunct) (cs : List Clause) (g : Ground) (classes : List ℕ) (positive negative disequal : List Bool) → HoldsFacts d cs g classes positive negative disequal → (Q : Entry → Type 0) (sign : Bool) (k : ℕ) (a : GroundAtom) → slice_get g.atoms k ≡ Some a → Fact d cs (Atom sign a.sym (map (term_at (ground_terms g)) a.args)) → Q (signed_entry sign classes a) → ((slice_get positive k ≡ Some true) × Q (holds_entry classes a)) ⊎ ((slice_get negative k ≡ Some true) × Q (fails_entry classes a))
+flag_of d cs g classes positive negative disequal h Q true k a e f q = inl ((h.holds k a e).1 f, q)
+flag_of d cs g classes positive negative disequal h Q false k a e f q = inr ((h.fails k a e).1 f, q)
+
+signed_rows : (d : Disjunct) (cs : List Clause) (g : Ground) (classes : List ℕ) (positive negative disequal : List Bool) → HoldsFacts d cs g classes positive negative disequal → (table : Table) → HasEntries table (entries_of g classes positive negative disequal) → (sign : Bool) (s : Sym) (us : List Term) → Fact d cs (Atom sign s us) → SomeOf (λ r. r.args.items ≡ map (class_in (ground_terms g) classes) us) (rows_of table (signed_head sign s))
+signed_rows d cs g classes positive negative disequal h table k sign s us f =
+    let a = atom_place d cs g classes positive negative disequal h s us (fact_atom d cs sign s us f) in
+    let w : Fact d cs (Atom sign a.atom.sym (map (term_at (ground_terms g)) a.atom.args)) = subst (λ (o : Sym). Fact d cs (Atom sign o (map (term_at (ground_terms g)) a.atom.args))) (sym a.sym_is) (subst (λ (xs : List Term). Fact d cs (Atom sign s xs)) (sym a.args_are) f) in
     let P : List ℕ × ℕ → Type 0 = λ p. p.0 ≡ map (class_in (ground_terms g) classes) us in
-    rows_find table (entries_of g classes positive negative disequal) k (Fails s) P
-    (in_atoms (λ e. (same_head e.head (Fails s) ≡ true) × P (e.args, e.value)) g classes positive negative disequal
-    (fails_find (λ e. (same_head e.head (Fails s) ≡ true) × P (e.args, e.value)) classes positive negative g.atoms a.place a.atom h.positive_count a.at ((h.fails a.place a.atom a.at).1 w)
-    (subst (λ (o : Sym). same_head (Fails a.atom.sym) (Fails o) ≡ true) a.sym_is (same_head-self (Fails a.atom.sym)), atom_args d cs g classes positive negative disequal h a.place a.atom a.at ∙ ap (map (class_in (ground_terms g) classes)) a.args_are)))
+    let Q : Entry → Type 0 = λ e. (same_head e.head (signed_head sign s) ≡ true) × P (e.args, e.value) in
+    let q : Q (signed_entry sign classes a.atom) =
+    (subst (λ (o : Sym). same_head (signed_head sign a.atom.sym) (signed_head sign o) ≡ true) a.sym_is (same_head-self (signed_head sign a.atom.sym)), atom_args d cs g classes positive negative disequal h a.place a.atom a.at ∙ ap (map (class_in (ground_terms g) classes)) a.args_are) in
+    rows_find table (entries_of g classes positive negative disequal) k (signed_head sign s) P
+    (in_atoms Q g classes positive negative disequal (atom_find Q classes positive negative g.atoms a.place a.atom h.positive_count h.negative_count a.at (flag_of d cs g classes positive negative disequal h Q sign a.place a.atom a.at w q)))
 
 -- a ground equation at its place
 pub record EquationPlace (g : Ground) (v w : Term) : Type 0 where
@@ -344,8 +347,8 @@ tabled d cs g classes positive negative disequal h table k values m =
       means = rows_mean d cs g classes positive negative disequal h table k;
       constants = constants_rows d cs g classes positive negative disequal h table k;
       functors = functors_rows d cs g classes positive negative disequal h table k;
-      holds = holds_rows d cs g classes positive negative disequal h table k;
-      fails = fails_rows d cs g classes positive negative disequal h table k;
+      holds = signed_rows d cs g classes positive negative disequal h table k true;
+      fails = signed_rows d cs g classes positive negative disequal h table k false;
       differ = differ_rows d cs g classes positive negative disequal h table k;
       value = λ t a. (m (class_in (ground_terms g) classes t)).1 (value_has d cs g classes positive negative disequal h t a);
       term = λ v c.

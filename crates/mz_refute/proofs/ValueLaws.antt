@@ -14,7 +14,8 @@ use Rattle.mz_ground.specs.Facts.{Fact, reflexive, symmetric, transitive, congru
 use Rattle.mz_ground.specs.Facts as facts
 use Rattle.mz_refute.specs.Valued.{IsValued, as_ground, by_arguments, AreValued, no_values, and_values}
 use Rattle.mz_refute.specs.EqualModuloFacts.{EqualModuloFacts, as_written, in_value, one_index, one_symbol, AllEqualModuloFacts, no_terms, and_terms}
-use Rattle.mz_refute.proofs.GroundLaws.{both_left, both_right, member_head, member_tail, ground_closed, AllGround, parts_ground, equal_ground}
+use Rattle.mz_match.proofs.CongruentLemmas.{and_cases}
+use Rattle.mz_refute.proofs.GroundLaws.{member_head, member_tail, ground_closed, AllGround, parts_ground, equal_ground}
 
 pub value_self : (d : Disjunct) (cs : List Clause) (t : Term) → IsGroundTerm d cs t → IsValued d cs t t
 value_self d cs t h = as_ground t t h (reflexive t h)
@@ -118,5 +119,5 @@ mutual
   pub all_congruent_value : (d : Disjunct) (cs : List Clause) (ts us : List Term) → AllEqualModuloFacts d cs ts us → AreFilled d cs us → args_below 0 (terms_of us) ≡ true → AreValued d cs ts us
   all_congruent_value d cs ts us no_terms h c = no_values
   all_congruent_value d cs ts us (and_terms t u vs ws a b) h c =
-      and_values t u vs ws (congruent_value d cs t u a (filled_first d cs u ws h) (both_left (closed u) (args_below 0 (terms_of ws)) c))
-      (all_congruent_value d cs vs ws b (filled_rest d cs u ws h) (both_right (closed u) (args_below 0 (terms_of ws)) c))
+      and_values t u vs ws (congruent_value d cs t u a (filled_first d cs u ws h) (and_cases (closed u) (args_below 0 (terms_of ws)) c).0)
+      (all_congruent_value d cs vs ws b (filled_rest d cs u ws h) (and_cases (closed u) (args_below 0 (terms_of ws)) c).1)

@@ -194,18 +194,9 @@ pub fn close_base(
     ensures { IfOk result (λ o. Closes env.now ctx.now least (base_of node.now) ts o) }
 {
     match node {
-        BaseNode::Identifier(w) => {
-            let o = identifier(alloc, ctx, least, w)?;
-            Ok(o)
-        }
-        BaseNode::Subject(p) => {
-            let o = subject(alloc, ctx, *p)?;
-            Ok(o)
-        }
-        BaseNode::Argument(p, k) => {
-            let o = numbered(alloc, ctx, *p, *k)?;
-            Ok(o)
-        }
+        BaseNode::Identifier(w) => Ok(identifier(alloc, ctx, least, w)?),
+        BaseNode::Subject(p) => Ok(subject(alloc, ctx, *p)?),
+        BaseNode::Argument(p, k) => Ok(numbered(alloc, ctx, *p, *k)?),
         BaseNode::Group(_, _, _) => Ok(Ok(ts)),
         BaseNode::Call(w, _, _) => {
             let o = call(alloc, env, ctx, least, w, ts)?;
