@@ -13,7 +13,6 @@ use std::alloc::Global;
 use std::mem::forget;
 use std::process::Abort;
 use std::sync::Wait;
-use std::test::Fail;
 use std::thread::Threads;
 
 /// A run over one article A, or none: its words, which calls fail, and what it must write and answer.
@@ -50,43 +49,36 @@ fn ample_row(
     }
 }
 
-/// A shelf with the article A alone.
-fn shelf_with(alloc: Global, text: &str, failing: u64) -> Result<MemoryShelf, Fail> {
-    let name = Name::read(b"a").map_err(|_| "no name")?;
+/// A shelf with the article A alone, of whose calls the one with the number fails.
+fn shelf_with(rt: &impl Abort, alloc: Global, text: &str, failing: u64) -> MemoryShelf {
     let mut files = FileList::new(alloc);
-    files.push(File {
-        kind: FileKind::Article,
-        name,
-        bytes: Text::from_slice(alloc, text.as_bytes())?,
-    })?;
-    Ok(MemoryShelf::new(files, Numbers::from_slice(alloc, &[failing])?))
+    let text = text.as_bytes();
+    add_file(rt, alloc, &mut files, FileKind::Article, b"a", text);
+    let fail = Numbers::from_slice(alloc, &[failing]).expect(rt, "memory");
+    MemoryShelf::new(files, fail)
 }
 
-fn check_row<R: Abort + Threads + Wait + Sync>(
-    rt: &R,
-    alloc: Global,
-    row: &Row,
-) -> Result<(), Fail> {
+fn check_row<R: Abort + Threads + Wait + Sync>(rt: &R, alloc: Global, row: &Row) {
     let mut words = Vec::new(alloc);
     for word in row.words {
-        words.push(String::from_str(alloc, word)?)?;
+        let word = String::from_str(alloc, word).expect(rt, "memory");
+        words.push(word).expect(rt, "memory");
     }
-    let mut shelf = shelf_with(alloc, row.text, row.failing_fetch)?;
+    let mut shelf = shelf_with(rt, alloc, row.text, row.failing_fetch);
+    let fail = Numbers::from_slice(alloc, &[row.failing_write]).expect(rt, "memory");
     assert!(rt; row.step >= 1);
-    let mut out = MemorySink::new(
-        alloc,
-        row.step,
-        Numbers::from_slice(alloc, &[row.failing_write])?,
-    )?;
+    let mut out = MemorySink::new(alloc, row.step, fail).expect(rt, "memory");
     let status = run(rt, alloc, words, &mut shelf, &mut out, &OpenGate);
+    let same = out.bytes() == row.report.as_bytes();
+    forget(shelf);
+    forget(out);
     assert!(rt; status == row.status, "at {}", row.text);
-    assert!(rt; out.bytes() == row.report.as_bytes(), "at {}", row.text);
-    Ok(())
+    assert!(rt; same, "at {}", row.text);
 }
 
 /// Whole runs, with their bytes and statuses written by hand. Memory is ample, so no row is answered by the want of it.
 #[test]
-fn runs_write_their_reports(rt: HostRuntime) -> Result<(), Fail> {
+fn runs_write_their_reports(rt: HostRuntime) {
     let open =
         "A rejected 1 faults\n  1:55 61 open 1\ntotal 0 accepted, 1 rejected, 0 blocked, 0 cyclic, 0 missing\n";
     let empty =
@@ -119,33 +111,27 @@ fn runs_write_their_reports(rt: HostRuntime) -> Result<(), Fail> {
         ample_row(&["NOFILE"], FIRST, missing, Status::Rejected),
     ];
     for row in &rows {
-        check_row(&rt, rt.alloc(), row)?;
+        check_row(&rt, rt.alloc(), row);
     }
-    Ok(())
 }
 
 /// A text of one byte more than the limit writes nothing; at the limit it is read.
 #[test]
-fn long_texts_are_refused(rt: HostRuntime) -> Result<(), Fail> {
-    let alloc = rt.alloc();
-    for (length, status) in [(1_048_576, Status::Rejected), (1_048_577, Status::TooLarge)] {
-        let name = Name::read(b"A").map_err(|_| "no name")?;
-        let mut files = FileList::new(alloc);
-        files.push(File {
-            kind: FileKind::Article,
-            name,
-            bytes: Text {
-                items: vec![in alloc; b' '; length]?,
-            },
-        })?;
-        let mut words = Vec::new(alloc);
-        words.push(String::from_str(alloc, "A")?)?;
-        let mut shelf = MemoryShelf::new(files, Numbers::new(alloc));
-        let mut out = MemorySink::new(alloc, 64, Numbers::new(alloc))?;
-        let answer = run(&rt, alloc, words, &mut shelf, &mut out, &OpenGate);
-        assert!(rt; answer == status);
+fn long_texts_are_refused(rt: HostRuntime) {
+    let early =
+        "A rejected 1 faults\n  1:1048577 16 ends early\ntotal 0 accepted, 1 rejected, 0 blocked, 0 cyclic, 0 missing\n";
+    let rows = [
+        (1_048_576, early, Status::Rejected),
+        (1_048_577, "", Status::TooLarge),
+    ];
+    for (length, report, status) in rows {
+        let text = repeated(&rt, rt.alloc(), b"", b" ", length);
+        let mut shelf = shelf_of(&rt, rt.alloc(), text.as_slice());
+        let answer = check_shelf(&rt, rt.alloc(), &mut shelf, report);
+        forget(shelf);
+        forget(text);
+        assert!(rt; answer == status, "at {length}");
     }
-    Ok(())
 }
 
 /// A shelf with the article A alone.
@@ -616,4 +602,21 @@ fn many_theorems_are_accepted(rt: HostRuntime) {
     );
     check_accepted(&rt, rt.alloc(), text.as_slice(), 200);
     forget(text);
+}
+
+/// Twenty thousand obligations, and one more.
+#[test]
+fn obligations_are_limited(rt: HostRuntime) {
+    let front = b"environ begin reserve x for object;";
+    let most = repeated(&rt, rt.alloc(), front, b"\nx=x;", 20_000);
+    check_accepted(&rt, rt.alloc(), most.as_slice(), 0);
+    let more = repeated(&rt, rt.alloc(), front, b"\nx=x;", 20_001);
+    check_fault(
+        &rt,
+        rt.alloc(),
+        more.as_slice(),
+        "20002:4 44 too many obligations",
+    );
+    forget(most);
+    forget(more);
 }

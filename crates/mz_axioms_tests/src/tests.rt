@@ -13,7 +13,6 @@ use mz_logic::texts::formula_text;
 use std::alloc::Global;
 use std::process::Abort;
 use std::sync::Arc;
-use std::test::Fail;
 
 const OBJECTS_ARE_SETS: &str = "(all true)";
 
@@ -150,10 +149,10 @@ fn names_of_the_exports(rt: HostRuntime) {
 }
 
 #[test]
-fn an_export_at_its_place(rt: HostRuntime) -> Result<(), Fail> {
+fn an_export_at_its_place(rt: HostRuntime) {
     let mut exports = built_in(rt.alloc()).expect(&rt, "memory");
     assert!(rt; exports.len() == 3);
-    let name = Name::read(b"M").map_err(|_| "no name")?;
+    let name = Name::read(b"M").expect(&rt, "a name");
     let export = Export {
         name,
         dependencies: Names::new(rt.alloc()),
@@ -166,5 +165,4 @@ fn an_export_at_its_place(rt: HostRuntime) -> Result<(), Fail> {
     assert!(rt; is_export(&rt, rt.alloc(), exports.get(1), "M", 0));
     assert!(rt; is_export(&rt, rt.alloc(), exports.get(2), "TARSKI_0", 6));
     assert!(rt; exports.as_slice().len() == 4);
-    Ok(())
 }

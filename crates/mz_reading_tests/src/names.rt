@@ -8,11 +8,11 @@ use mz_names::names::{
     argument, functor_letter, is_only_reserved, labelled_as, private_functor, reserved_type,
 };
 use std::alloc::Global;
+use std::mem::forget;
 use std::process::Abort;
-use std::test::Fail;
 
 #[test]
-fn the_latest_constant_in_force_counts(rt: HostRuntime) -> Result<(), Fail> {
+fn the_latest_constant_in_force_counts(rt: HostRuntime) {
     let alloc = rt.alloc();
     let mut ctx = empty(alloc);
     put(&rt, alloc, &mut ctx, b"x");
@@ -26,11 +26,11 @@ fn the_latest_constant_in_force_counts(rt: HostRuntime) -> Result<(), Fail> {
         ctx.release(3);
     }
     assert!(rt; stands_for(&rt, 0, &ctx, b"x", 1));
-    Ok(())
+    forget(ctx);
 }
 
 #[test]
-fn a_constant_below_the_least_number_is_found_and_not_used(rt: HostRuntime) -> Result<(), Fail> {
+fn a_constant_below_the_least_number_is_found_and_not_used(rt: HostRuntime) {
     let alloc = rt.alloc();
     let mut ctx = empty(alloc);
     put(&rt, alloc, &mut ctx, b"x");
@@ -39,11 +39,11 @@ fn a_constant_below_the_least_number_is_found_and_not_used(rt: HostRuntime) -> R
     assert!(rt; stands_for(&rt, 2, &ctx, b"x", 0));
     assert!(rt; stands_for(&rt, 2, &ctx, b"y", 2));
     assert!(rt; !is_only_reserved(2, &ctx, b"x"));
-    Ok(())
+    forget(ctx);
 }
 
 #[test]
-fn the_latest_reserved_type_counts(rt: HostRuntime) -> Result<(), Fail> {
+fn the_latest_reserved_type_counts(rt: HostRuntime) {
     let alloc = rt.alloc();
     let mut ctx = empty(alloc);
     put(&rt, alloc, &mut ctx, b"a");
@@ -62,11 +62,11 @@ fn the_latest_reserved_type_counts(rt: HostRuntime) -> Result<(), Fail> {
     assert!(rt; reserved_type(0, &ctx, b"x").is_some());
     assert!(rt; reserved_type(2, &ctx, b"x").is_none());
     assert!(rt; !is_only_reserved(2, &ctx, b"x"));
-    Ok(())
+    forget(ctx);
 }
 
 #[test]
-fn other_names_are_found(rt: HostRuntime) -> Result<(), Fail> {
+fn other_names_are_found(rt: HostRuntime) {
     let alloc = rt.alloc();
     let mut ctx = empty(alloc);
     define(&rt, alloc, &mut ctx, b"F", Term::constant(1));
@@ -79,18 +79,19 @@ fn other_names_are_found(rt: HostRuntime) -> Result<(), Fail> {
     assert!(rt; argument(&ctx, 1).is_some_and(|t| t.is_const(7)));
     assert!(rt; argument(&ctx, 2).is_none());
     assert!(rt; labelled_as(&ctx, b"A").is_none());
-    Ok(())
+    forget(ctx);
 }
 
 #[test]
-fn variables_are_put_into_force(rt: HostRuntime) -> Result<(), Fail> {
+fn variables_are_put_into_force(rt: HostRuntime) {
     let alloc = rt.alloc();
     let mut ctx = empty(alloc);
     put(&rt, alloc, &mut ctx, b"a");
     let vs = two_variables(&rt, alloc, 2);
     put_variables(alloc, &mut ctx, vs.items.as_slice()).expect(&rt, "memory");
     assert!(rt; stands_for(&rt, 0, &ctx, b"y", 3));
-    Ok(())
+    forget(vs);
+    forget(ctx);
 }
 
 /// For all x being set and y being `Elm of x` x = y.
@@ -105,7 +106,7 @@ fn opened() -> Statement {
 }
 
 #[test]
-fn variables_become_indices(rt: HostRuntime) -> Result<(), Fail> {
+fn variables_become_indices(rt: HostRuntime) {
     let alloc = rt.alloc();
     let vs = two_variables(&rt, alloc, 2);
     let all = for_all(alloc, 2, vs.items.as_slice(), opened()).expect(&rt, "memory");
@@ -114,5 +115,8 @@ fn variables_become_indices(rt: HostRuntime) -> Result<(), Fail> {
     let some = there_are(alloc, 2, &vs, denied).expect(&rt, "memory");
     let expected = Statement::not(alloc, closed(&rt, alloc)).expect(&rt, "memory");
     assert!(rt; some.equals(&expected));
-    Ok(())
+    forget(vs);
+    forget(all);
+    forget(some);
+    forget(expected);
 }

@@ -3,8 +3,8 @@ use mz_grouping::grouping::{grouped, has_neighbours};
 use mz_grouping::part::Part;
 use mz_grouping::step::Step;
 use std::alloc::Global;
+use std::mem::forget;
 use std::process::Abort;
-use std::test::Fail;
 
 const OPERAND: Part = Part::Operand;
 
@@ -36,25 +36,23 @@ fn steps_of(rt: &impl Abort, alloc: Global, parts: &[Part]) -> Vec<Step> {
 }
 
 #[test]
-fn equal_priorities_group_to_the_left(rt: HostRuntime) -> Result<(), Fail> {
+fn equal_priorities_group_to_the_left(rt: HostRuntime) {
     let alloc = rt.alloc();
     let parts = [OPERAND, AFTER_64, OPERAND, AFTER_64, OPERAND];
     assert!(rt; order(&rt, alloc, parts.as_slice()).as_slice() == [1, 3].as_slice());
-    Ok(())
 }
 
 #[test]
-fn the_least_priority_is_applied_last(rt: HostRuntime) -> Result<(), Fail> {
+fn the_least_priority_is_applied_last(rt: HostRuntime) {
     let alloc = rt.alloc();
     let parts = [OPERAND, AFTER_64, OPERAND, AFTER_66, OPERAND];
     assert!(rt; order(&rt, alloc, parts.as_slice()).as_slice() == [3, 1].as_slice());
     let parts = [OPERAND, AFTER_66, OPERAND, AFTER_64, OPERAND];
     assert!(rt; order(&rt, alloc, parts.as_slice()).as_slice() == [1, 3].as_slice());
-    Ok(())
 }
 
 #[test]
-fn symbols_in_a_row(rt: HostRuntime) -> Result<(), Fail> {
+fn symbols_in_a_row(rt: HostRuntime) {
     let alloc = rt.alloc();
     // Of postfix symbols in a row only the first stands directly after an operand.
     let parts = [OPERAND, AFTER_64, ALONE_64];
@@ -64,11 +62,10 @@ fn symbols_in_a_row(rt: HostRuntime) -> Result<(), Fail> {
     assert!(rt; order(&rt, alloc, parts.as_slice()).as_slice() == [1, 0].as_slice());
     let parts = [OPERAND, OPERAND, AFTER_64];
     assert!(rt; order(&rt, alloc, parts.as_slice()).len() == 0);
-    Ok(())
 }
 
 #[test]
-fn what_stands_beside_a_symbol(rt: HostRuntime) -> Result<(), Fail> {
+fn what_stands_beside_a_symbol(rt: HostRuntime) {
     let alloc = rt.alloc();
     let parts = [OPERAND, AFTER_64];
     let steps = steps_of(&rt, alloc, parts.as_slice());
@@ -76,11 +73,10 @@ fn what_stands_beside_a_symbol(rt: HostRuntime) -> Result<(), Fail> {
     let parts = [ALONE_64, OPERAND];
     let steps = steps_of(&rt, alloc, parts.as_slice());
     assert!(rt; steps.as_slice() == [Step::Take(1), Step::Apply(0, false, true)].as_slice());
-    Ok(())
 }
 
 #[test]
-fn a_long_run_is_grouped(rt: HostRuntime) -> Result<(), Fail> {
+fn a_long_run_is_grouped(rt: HostRuntime) {
     let alloc = rt.alloc();
     let mut parts = Vec::new(alloc);
     for k in 0..190000u64 {
@@ -89,6 +85,6 @@ fn a_long_run_is_grouped(rt: HostRuntime) -> Result<(), Fail> {
             .expect(&rt, "memory");
     }
     let count = order(&rt, alloc, parts.as_slice()).len();
+    forget(parts);
     assert!(rt; count == 190000);
-    Ok(())
 }

@@ -7,7 +7,6 @@ use mz_logic::term::Term;
 use std::alloc::Global;
 use std::mem::forget;
 use std::process::Abort;
-use std::test::Fail;
 
 /// Terms, and the texts of what they are read to.
 const READ: [(&str, &str); 20] = [
@@ -106,7 +105,7 @@ fn check_refused(
 }
 
 #[test]
-fn terms_are_read(rt: HostRuntime) -> Result<(), Fail> {
+fn terms_are_read(rt: HostRuntime) {
     let alloc = rt.alloc();
     let env = environment(&rt, alloc);
     let ctx = context(&rt, alloc);
@@ -115,11 +114,10 @@ fn terms_are_read(rt: HostRuntime) -> Result<(), Fail> {
     }
     forget(env);
     forget(ctx);
-    Ok(())
 }
 
 #[test]
-fn terms_are_refused_at_the_first_fault(rt: HostRuntime) -> Result<(), Fail> {
+fn terms_are_refused_at_the_first_fault(rt: HostRuntime) {
     let alloc = rt.alloc();
     let env = environment(&rt, alloc);
     let ctx = context(&rt, alloc);
@@ -128,7 +126,6 @@ fn terms_are_refused_at_the_first_fault(rt: HostRuntime) -> Result<(), Fail> {
     }
     forget(env);
     forget(ctx);
-    Ok(())
 }
 
 fn check_type(
@@ -167,7 +164,7 @@ fn check_refused_type(
 }
 
 #[test]
-fn types_are_read(rt: HostRuntime) -> Result<(), Fail> {
+fn types_are_read(rt: HostRuntime) {
     let alloc = rt.alloc();
     let env = environment(&rt, alloc);
     let mut ctx = context(&rt, alloc);
@@ -179,5 +176,4 @@ fn types_are_read(rt: HostRuntime) -> Result<(), Fail> {
     }
     forget(env);
     forget(ctx);
-    Ok(())
 }
