@@ -1,3 +1,4 @@
+//! Whole runs over small articles, with their reports worked out by hand.
 use crate::run::run;
 use mz_base::name::Name;
 use mz_base::numbers::Numbers;

@@ -1,3 +1,4 @@
+//! Articles, and how many faults the checker finds in them.
 use crate::article_checker::ArticleChecker;
 use mz_axioms::built_in::built_in;
 use mz_axioms::checker::Checker;

@@ -50,6 +50,7 @@ const CITABLE: [(&str, bool, u64, u32); 6] = [
     ("XBOOLE_0", false, 1, 20),
 ];
 
+/// An environment in which all of these may be cited.
 pub fn environment(alloc: Global) -> Result<Environment, AllocError> {
     let mut env = Environment::new(alloc);
     for (article, is_definition, number, name) in &CITABLE {
@@ -67,6 +68,7 @@ pub fn environment(alloc: Global) -> Result<Environment, AllocError> {
 /// Labels and what they stand for, the latest last.
 const LABELS: [(&str, u32); 3] = [("A1", 1), ("A2", 2), ("A1", 3)];
 
+/// A context with these labels.
 pub fn context(alloc: Global) -> Result<Context, AllocError> {
     let counts = SymbolCounts {
         modes: 0,

@@ -13,6 +13,7 @@ use mz_io::memory_shelf::MemoryShelf;
 use std::alloc::Global;
 use std::process::Abort;
 
+/// The name that the word spells.
 pub fn name_of<R: Abort>(rt: &R, word: &str) -> Name {
     Name::read(word.as_bytes()).expect(rt, "a name")
 }
@@ -33,6 +34,7 @@ pub fn is_line<R: Abort>(rt: &R, alloc: Global, names: &[Name], line: &str) -> b
     names == names_of(rt, alloc, line).as_slice()
 }
 
+/// Adds a file to the list.
 pub fn add<R: Abort>(
     rt: &R,
     alloc: Global,

@@ -14,6 +14,7 @@ use std::thread::Threads;
 /// An article by its name, its direct dependencies and its text.
 pub type Article = (&'static str, &'static str, &'static str);
 
+/// The name that the word spells.
 pub fn name<R: Abort>(rt: &R, word: &str) -> Name {
     name_of(word).expect(rt, "a name")
 }

@@ -40,6 +40,7 @@ fn name(rt: &impl Abort, word: &str) -> Name {
     Name::read(word.as_bytes()).expect(rt, "a name")
 }
 
+/// The word's text.
 pub fn text_of(rt: &impl Abort, alloc: Global, word: &str) -> Text {
     Text::from_slice(alloc, word.as_bytes()).expect(rt, "memory")
 }

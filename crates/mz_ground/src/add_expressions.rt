@@ -1,4 +1,4 @@
-// Closed terms, atoms and equations put into a ground part.
+//! Closed terms, atoms and equations put into a ground part.
 ghost use Rattle.std.specs.Prelude.{List, map, OnOk};
 ghost use Rattle.mz_logic.specs.Formula.{Eq, Atom};
 ghost use Rattle.mz_logic.specs.Literal.{literal_formula};

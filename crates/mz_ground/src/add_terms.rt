@@ -1,4 +1,4 @@
-// Closed terms put among the ground terms.
+//! Closed terms put among the ground terms.
 ghost use Rattle.std.specs.Prelude.{◌≡◌, List, None, Some, Contains, map, slice_get, IfOk, MatchOption};
 ghost use Rattle.mz_logic.specs.Term.{Term};
 ghost use Rattle.mz_ground.specs.Table.{Reads, AddsTerm, AddsTerms};

@@ -1,4 +1,4 @@
-// Clauses.
+//! Clauses.
 ghost use Rattle.std.specs.Prelude.{◌≡◌, false, IsTrue, IfOk, MatchOption};
 ghost use Rattle.mz_ground.specs.Variables.{has_all_below};
 

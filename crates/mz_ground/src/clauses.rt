@@ -1,4 +1,4 @@
-// Lists of clauses.
+//! Lists of clauses.
 ghost use Rattle.std.specs.Prelude.{◌≡◌, ◌<◌, [], ◌∷◌, ◌++◌, length, slice_get, take, Some, IfOk, OnOk, OnErr};
 
 use crate::clause::Clause;

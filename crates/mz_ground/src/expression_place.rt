@@ -1,4 +1,4 @@
-// Places of ground terms and atoms.
+//! Places of ground terms and atoms.
 ghost use Rattle.std.specs.Prelude.{◌≡◌};
 ghost use Rattle.mz_ground.specs.Instances.{place_like};
 

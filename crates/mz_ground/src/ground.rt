@@ -1,4 +1,4 @@
-// The ground part of a disjunct under clauses, layer by layer.
+//! The ground part of a disjunct under clauses, layer by layer.
 ghost use Rattle.std.specs.Prelude.{◌≡◌, List, MatchResult, IfOk, OnOk, IfErr};
 ghost use Rattle.mz_ground.specs.Ground.{GroundFails, IsGroundWithinLimits};
 ghost use Rattle.mz_ground.specs.Growth.{IsNumbered, Grows};

@@ -1,4 +1,4 @@
-// Ground atoms, by the places of their arguments.
+//! Ground atoms, by the places of their arguments.
 ghost use Rattle.std.specs.Prelude.{◌≡◌, ◌↔◌, IsTrue, IfOk};
 ghost use Rattle.mz_ground.specs.Hash.{atom_hash};
 

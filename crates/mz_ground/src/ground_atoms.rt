@@ -1,4 +1,4 @@
-// Lists of ground atoms.
+//! Lists of ground atoms.
 ghost use Rattle.std.specs.Prelude.{◌≡◌, ◌<◌, ℕ, [], ◌∷◌, ◌++◌, length, slice_get, Some, MatchOption, IfOk, OnOk, OnErr, IsTrue};
 ghost use Rattle.mz_ground.specs.Hash.{atom_hash};
 ghost use Rattle.mz_ground.specs.Table.{IsPlaced};

@@ -1,4 +1,4 @@
-// Ground equations, by the places of their sides.
+//! Ground equations, by the places of their sides.
 ghost use Rattle.std.specs.Prelude.{◌≡◌, ◌↔◌, IsTrue};
 ghost use Rattle.mz_ground.specs.Hash.{equation_hash};
 

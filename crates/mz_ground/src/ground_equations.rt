@@ -1,4 +1,4 @@
-// Lists of ground equations.
+//! Lists of ground equations.
 ghost use Rattle.std.specs.Prelude.{◌≡◌, ◌<◌, ℕ, [], ◌∷◌, ◌++◌, length, slice_get, Some, MatchOption, IfOk, OnOk, OnErr, IsTrue};
 ghost use Rattle.mz_ground.specs.Table.{IsPlaced};
 

@@ -1,4 +1,4 @@
-// Why there is no ground part.
+//! Why there is no ground part.
 ghost use Rattle.std.specs.Prelude.{◌≡◌};
 ghost use Rattle.mz_ground.specs.declared.ground_fault.GroundFault.TheVariants.{Memory};
 

@@ -1,4 +1,4 @@
-// Ground parts.
+//! Ground parts.
 ghost use Rattle.std.specs.Prelude.{◌≡◌, IfOk};
 
 use crate::ground_atoms::GroundAtoms;

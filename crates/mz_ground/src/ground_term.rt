@@ -1,4 +1,4 @@
-// Ground terms, by the places of their arguments.
+//! Ground terms, by the places of their arguments.
 ghost use Rattle.std.specs.Prelude.{◌≡◌, ◌↔◌, IsTrue, IfOk};
 ghost use Rattle.mz_ground.specs.Hash.{term_hash};
 

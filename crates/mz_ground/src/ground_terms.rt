@@ -1,4 +1,4 @@
-// Lists of ground terms.
+//! Lists of ground terms.
 ghost use Rattle.std.specs.Prelude.{◌≡◌, ◌<◌, ℕ, [], ◌∷◌, ◌++◌, length, slice_get, Some, MatchOption, IfOk, OnOk, OnErr, IsTrue};
 ghost use Rattle.mz_ground.specs.Hash.{term_hash};
 ghost use Rattle.mz_ground.specs.Table.{IsPlaced};

@@ -1,5 +1,5 @@
-// Places by hashes: as long as the hashes of different items differ, how long a look-up takes doesn't grow with the
-// number of places.
+//! Places by hashes: as long as the hashes of different items differ, how long a look-up takes doesn't grow with the
+//! number of places.
 ghost use Rattle.std.specs.Prelude.{◌≡◌, ℕ, None, Some, OnOk, OnErr, if◌then◌else◌, nat_eq};
 ghost use Rattle.std.specs.Option.{option_copied};
 ghost use Rattle.mz_ground.specs.Hash.{hash_with, hash_with_all, hash_with_symbol, place_of};

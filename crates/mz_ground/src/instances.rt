@@ -1,4 +1,4 @@
-// The expressions of instances of clauses put into a ground part.
+//! The expressions of instances of clauses put into a ground part.
 ghost use Rattle.std.specs.Prelude.{◌≡◌, ◌∷◌, ◌++◌, [], ℕ, List, Contains, OnOk};
 ghost use Rattle.mz_logic.specs.Term.{Term};
 ghost use Rattle.mz_ground.specs.Heads.{AreTriggerPlaces};

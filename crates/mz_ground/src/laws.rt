@@ -1,5 +1,5 @@
-// Laws of clauses and facts, each the contract of a function that does nothing. A proof of a crate above cites
-// the lemma of `proofs/` that `docs/PROOFS.md` names beside the law.
+//! Laws of clauses and facts, each the contract of a function that does nothing. A proof of a crate above cites
+//! the lemma of `proofs/` that `docs/PROOFS.md` names beside the law.
 ghost use Rattle.mz_ground.specs.Laws.{ClauseInstanceLaw, FactsLaw, ContradictionLaw};
 
 /// An instance of a clause at closed terms derives from the clause.

@@ -1,4 +1,4 @@
-// Ends of layers.
+//! Ends of layers.
 
 /// How many terms, atoms and equations stand in a layer and in those before it.
 #[derive(Clone, Copy, Debug, PartialEq, Eq)]

@@ -1,4 +1,4 @@
-// Lists of ends of layers.
+//! Lists of ends of layers.
 ghost use Rattle.std.specs.Prelude.{◌≡◌, ◌<◌, [], ◌∷◌, ◌++◌, length, slice_get, Some, IfOk, OnOk, OnErr};
 
 use crate::layer_end::LayerEnd;

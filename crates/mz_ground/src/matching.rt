@@ -1,4 +1,4 @@
-// The terms at which a trigger has a ground instance.
+//! The terms at which a trigger has a ground instance.
 ghost use Rattle.std.specs.Prelude.{◌≡◌, ◌↔◌, ◌<◌, ℕ, map, length, Contains, IsTrue};
 ghost use Rattle.mz_ground.specs.Ground.{term_at};
 ghost use Rattle.mz_logic.specs.Substitution.{substitute, value_at};

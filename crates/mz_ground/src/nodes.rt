@@ -1,4 +1,4 @@
-// Whether instances have no more nodes than may be added.
+//! Whether instances have no more nodes than may be added.
 ghost use Rattle.std.specs.Prelude.{◌↔◌, ◌<◌, ◌≤◌, ℕ, length, map, Contains, IsTrue};
 ghost use Rattle.mz_logic.specs.Term.{terms_of};
 ghost use Rattle.mz_ground.specs.Ground.{term_at};

@@ -1,4 +1,4 @@
-// Lists of places.
+//! Lists of places.
 ghost use Rattle.std.specs.Prelude.{◌≡◌, ◌↔◌, [], ◌∷◌, ◌++◌, IfOk, OnOk, OnErr, IsTrue};
 
 use std::alloc::{AllocError, Global};

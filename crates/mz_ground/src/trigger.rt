@@ -1,4 +1,4 @@
-// Triggers of clauses.
+//! Triggers of clauses.
 ghost use Rattle.std.specs.Prelude.{◌≡◌, IfOk};
 ghost use Rattle.std.specs.List.{list_any};
 ghost use Rattle.mz_ground.specs.Variables.{has_index, trigger_has, has_all_below};

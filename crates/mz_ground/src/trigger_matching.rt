@@ -1,4 +1,4 @@
-// The instances of a clause with a given trigger.
+//! The instances of a clause with a given trigger.
 ghost use Rattle.std.specs.Prelude.{◌≡◌, ◌↔◌, ◌<◌, ℕ, length, map, Contains, IfOk, IsTrue};
 ghost use Rattle.mz_ground.specs.Ground.{term_at, ground_terms};
 ghost use Rattle.mz_ground.specs.Instance.{trigger_at};

@@ -143,16 +143,15 @@ impl<'r, R: Files> Shelf for FolderShelf<'r, R> {
 mod tests {
     use super::*;
     use std::fs;
-    use std::test::Fail;
 
     #[test]
-    fn reads_files(rt: HostRuntime) -> Result<(), Fail> {
-        fs::write(&rt, "shelf1.miz", "environ begin")?;
-        let long = vec![in rt.alloc(); b' '; 1_048_577]?;
-        fs::write(&rt, "shelf2.voc", long.as_slice())?;
-        let first = Name::read(b"SHELF1").map_err(|_| "no name")?;
-        let second = Name::read(b"SHELF2").map_err(|_| "no name")?;
-        let folder = Text::from_slice(rt.alloc(), b".")?;
+    fn reads_files(rt: HostRuntime) {
+        fs::write(&rt, "shelf1.miz", "environ begin").expect(&rt, "a file");
+        let long = vec![in rt.alloc(); b' '; 1_048_577].expect(&rt, "memory");
+        fs::write(&rt, "shelf2.voc", long.as_slice()).expect(&rt, "a file");
+        let first = Name::read(b"SHELF1").expect(&rt, "a name");
+        let second = Name::read(b"SHELF2").expect(&rt, "a name");
+        let folder = Text::from_slice(rt.alloc(), b".").expect(&rt, "memory");
         let mut shelf = FolderShelf::new(&rt, folder);
         match shelf.fetch(rt.alloc(), FileKind::Article, &first) {
             Ok(Some(text)) => assert!(rt; text.as_slice() == b"environ begin".as_slice()),
@@ -168,13 +167,12 @@ mod tests {
         assert!(rt; matches!(answer, Err(FetchFault::TooLong)));
         assert!(rt; shelf.faults == 0);
         assert!(rt; shelf.amount == 1_048_590);
-        let folder = Text::from_slice(rt.alloc(), b"shelf1.miz")?;
+        let folder = Text::from_slice(rt.alloc(), b"shelf1.miz").expect(&rt, "memory");
         let mut shelf = FolderShelf::new(&rt, folder);
         let answer = shelf.fetch(rt.alloc(), FileKind::Article, &first);
         assert!(rt; matches!(answer, Err(FetchFault::Failed)));
         assert!(rt; shelf.faults == 1);
-        fs::remove_file(&rt, "shelf1.miz")?;
-        fs::remove_file(&rt, "shelf2.voc")?;
-        Ok(())
+        fs::remove_file(&rt, "shelf1.miz").expect(&rt, "no file");
+        fs::remove_file(&rt, "shelf2.voc").expect(&rt, "no file");
     }
 }

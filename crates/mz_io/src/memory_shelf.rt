@@ -102,24 +102,36 @@ impl Shelf for MemoryShelf {
 mod tests {
     use super::*;
     use crate::file::File;
-    use std::test::Fail;
+    use std::mem::forget;
+    use std::process::Abort;
 
-    fn file(alloc: Global, kind: FileKind, name: &[u8], bytes: &[u8]) -> Result<File, Fail> {
-        Ok(File {
-            kind,
-            name: Name::read(name).map_err(|_| "no name")?,
-            bytes: Text::from_slice(alloc, bytes)?,
-        })
+    /// Adds a file to the list.
+    fn add(
+        rt: &impl Abort,
+        alloc: Global,
+        files: &mut FileList,
+        kind: FileKind,
+        name: &[u8],
+        bytes: &[u8],
+    ) {
+        let name = Name::read(name).expect(rt, "a name");
+        let bytes = Text::from_slice(alloc, bytes).expect(rt, "memory");
+        files.push(File { kind, name, bytes }).expect(rt, "memory");
     }
 
     #[test]
-    fn gives_the_first_file(rt: HostRuntime) -> Result<(), Fail> {
+    fn gives_the_first_file(rt: HostRuntime) {
+        let on_shelf: [(FileKind, &[u8], &[u8]); 4] = [
+            (FileKind::Vocabulary, b"A", b"RP"),
+            (FileKind::Article, b"A", b"environ begin"),
+            (FileKind::Article, b"A", b"later"),
+            (FileKind::Article, b"B", b"environ"),
+        ];
         let mut files = FileList::new(rt.alloc());
-        files.push(file(rt.alloc(), FileKind::Vocabulary, b"A", b"RP")?)?;
-        files.push(file(rt.alloc(), FileKind::Article, b"A", b"environ begin")?)?;
-        files.push(file(rt.alloc(), FileKind::Article, b"A", b"later")?)?;
-        files.push(file(rt.alloc(), FileKind::Article, b"B", b"environ")?)?;
-        let fail = Numbers::from_slice(rt.alloc(), &[3, 5])?;
+        for (kind, name, bytes) in on_shelf {
+            add(&rt, rt.alloc(), &mut files, kind, name, bytes);
+        }
+        let fail = Numbers::from_slice(rt.alloc(), &[3, 5]).expect(&rt, "memory");
         let mut shelf = MemoryShelf::new(files, fail);
         let rows: [(FileKind, &[u8], Result<Option<&[u8]>, FetchFault>, u64, u64); 6] = [
             (FileKind::Article, b"A", Ok(Some(b"environ begin")), 0, 13),
@@ -130,7 +142,7 @@ mod tests {
             (FileKind::Article, b"B", Ok(Some(b"environ")), 2, 22),
         ];
         for (kind, name, expected, faults, amount) in rows {
-            let name = Name::read(name).map_err(|_| "no name")?;
+            let name = Name::read(name).expect(&rt, "a name");
             match (shelf.fetch(rt.alloc(), kind, &name), expected) {
                 (Ok(Some(text)), Ok(Some(bytes))) => assert!(rt; text.as_slice() == bytes),
                 (Ok(None), Ok(None)) => {}
@@ -140,16 +152,23 @@ mod tests {
             assert!(rt; shelf.faults == faults);
             assert!(rt; shelf.amount == amount);
         }
-        Ok(())
+        forget(shelf);
     }
 
     #[test]
-    fn refuses_one_byte_too_many(rt: HostRuntime) -> Result<(), Fail> {
-        let name = Name::read(b"A").map_err(|_| "no name")?;
+    fn refuses_one_byte_too_many(rt: HostRuntime) {
+        let name = Name::read(b"A").expect(&rt, "a name");
         for (len, amount) in [(1_048_576, 1_048_576), (1_048_577, 1_048_577)] {
-            let bytes = vec![in rt.alloc(); b' '; len]?;
+            let bytes = vec![in rt.alloc(); b' '; len].expect(&rt, "memory");
             let mut files = FileList::new(rt.alloc());
-            files.push(file(rt.alloc(), FileKind::Article, b"A", bytes.as_slice())?)?;
+            add(
+                &rt,
+                rt.alloc(),
+                &mut files,
+                FileKind::Article,
+                b"A",
+                bytes.as_slice(),
+            );
             let mut shelf = MemoryShelf::new(files, Numbers::new(rt.alloc()));
             match shelf.fetch(rt.alloc(), FileKind::Article, &name) {
                 Ok(Some(text)) => {
@@ -160,7 +179,8 @@ mod tests {
                 _ => panic!(rt; "another answer"),
             }
             assert!(rt; shelf.amount == amount);
+            forget(shelf);
+            forget(bytes);
         }
-        Ok(())
     }
 }

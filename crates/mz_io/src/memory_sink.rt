@@ -99,27 +99,29 @@ impl Sink for MemorySink {
 mod tests {
     use super::*;
     use crate::sink::write_all;
-    use std::test::Fail;
+    use std::mem::forget;
 
     #[test]
-    fn takes_steps(rt: HostRuntime) -> Result<(), Fail> {
-        let fail = Numbers::from_slice(rt.alloc(), &[2])?;
-        let mut sink = MemorySink::new(rt.alloc(), 10, fail)?;
+    fn takes_steps(rt: HostRuntime) {
+        let fail = Numbers::from_slice(rt.alloc(), &[2]).expect(&rt, "memory");
+        let mut sink = MemorySink::new(rt.alloc(), 10, fail).expect(&rt, "memory");
         assert!(rt; write_all(&mut sink, b"A accepted 1 theorems").is_err());
         assert!(rt; sink.bytes() == b"A accepted".as_slice());
         assert!(rt; sink.faults == 1);
         assert!(rt; write_all(&mut sink, b" 1 theorems").is_ok());
         assert!(rt; sink.bytes() == b"A accepted 1 theorems".as_slice());
-        Ok(())
+        forget(sink);
     }
 
     #[test]
-    fn has_room_for_one_mebibyte(rt: HostRuntime) -> Result<(), Fail> {
-        let mut sink = MemorySink::new(rt.alloc(), 1_000_000, Numbers::new(rt.alloc()))?;
-        let piece = vec![in rt.alloc(); b' '; 1_048_577]?;
+    fn has_room_for_one_mebibyte(rt: HostRuntime) {
+        let none = Numbers::new(rt.alloc());
+        let mut sink = MemorySink::new(rt.alloc(), 1_000_000, none).expect(&rt, "memory");
+        let piece = vec![in rt.alloc(); b' '; 1_048_577].expect(&rt, "memory");
         assert!(rt; write_all(&mut sink, piece.as_slice()).is_err());
         assert!(rt; sink.bytes().len() == 1_048_576);
         assert!(rt; sink.write(&[]) == Ok(0));
-        Ok(())
+        forget(piece);
+        forget(sink);
     }
 }

@@ -74,18 +74,17 @@ mod tests {
     use crate::sink::write_all;
     use std::fs;
     use std::fs::File;
-    use std::test::Fail;
 
     #[test]
-    fn writes_to_a_file(rt: HostRuntime) -> Result<(), Fail> {
-        let mut sink = StreamSink::new(File::create(&rt, "stream.txt")?);
+    fn writes_to_a_file(rt: HostRuntime) {
+        let mut sink = StreamSink::new(File::create(&rt, "stream.txt").expect(&rt, "a file"));
         assert!(rt; write_all(&mut sink, b"NOFILE missing\n").is_ok());
         assert!(rt; sink.faults == 0);
-        assert!(rt; fs::read_to_string(&rt, "stream.txt")?.as_str() == "NOFILE missing\n");
-        let mut closed = StreamSink::new(File::open(&rt, "stream.txt")?);
+        let text = fs::read_to_string(&rt, "stream.txt").expect(&rt, "a text");
+        assert!(rt; text.as_str() == "NOFILE missing\n");
+        let mut closed = StreamSink::new(File::open(&rt, "stream.txt").expect(&rt, "a file"));
         assert!(rt; write_all(&mut closed, b"more").is_err());
         assert!(rt; closed.faults == 1);
-        fs::remove_file(&rt, "stream.txt")?;
-        Ok(())
+        fs::remove_file(&rt, "stream.txt").expect(&rt, "no file");
     }
 }

@@ -17,6 +17,7 @@ use mz_logic::term::{Term, Terms};
 use std::alloc::Global;
 use std::process::Abort;
 
+/// The symbol of this kind and number.
 pub fn sym(kind: Kind, number: u32) -> Sym {
     Sym {
         article: 0x4100_0000_0000_0000,

@@ -36,88 +36,90 @@ fn found(rt: &impl Abort, alloc: Global, text: &str) -> Vec<u8> {
     out
 }
 
-/// What is obvious of small problems, and their disjuncts.
+/// Small problems, and what is obvious of them: their disjuncts.
+const SMALL: [(&str, &str); 22] = [
+    // Premises in order, and then the negated conclusion.
+    ("A.R1, A.R2 |- A.R3", "A.R1 A.R2 (not A.R3) /;"),
+    ("|- true", ""),
+    ("|- (not true)", "/;"),
+    // Double negations vanish at every depth.
+    (
+        "(not (not A.R1)), (not (not (not A.R2))) |- (not A.R3)",
+        "A.R1 (not A.R2) A.R3 /;",
+    ),
+    // All pairs, the left one slowest; the negated left part before the negated right part.
+    (
+        "(not (and A.R1 A.R2)), (not (and A.R3 A.R4)) |- (not true)",
+        "(not A.R1) (not A.R3) /;(not A.R1) (not A.R4) /;(not A.R2) (not A.R3) /;(not A.R2) (not A.R4) /;",
+    ),
+    (
+        "(and (and A.R1 A.R2) (not (and A.R3 A.R4))) |- (not true)",
+        "A.R1 A.R2 (not A.R3) /;A.R1 A.R2 (not A.R4) /;",
+    ),
+    ("A.R1 |- A.R1", "A.R1 (not A.R1) /;"),
+    (
+        "A.R1 |- (and A.R1 A.R1)",
+        "A.R1 (not A.R1) /;A.R1 (not A.R1) /;",
+    ),
+    // Truth in a conjunction, and in a negated one.
+    ("(and true A.R1) |- (and A.R1 true)", "A.R1 (not A.R1) /;"),
+    ("(and A.R1 (not true)) |- A.R2", ""),
+    // Negated universals in both parts of a conjunction, and in both of a negated one.
+    (
+        "(and (not (all (A.R5 b0))) (not (all (A.R5 b0)))) |- (not true)",
+        "(not (A.R5 c1)) (not (A.R5 c2)) /;",
+    ),
+    (
+        "|- (and (all (A.R5 b0)) (all (A.R5 b0)))",
+        "(not (A.R5 c1)) /;(not (A.R5 c2)) /;",
+    ),
+    // The same constant in each disjunct that comes from it; none that the problem has.
+    (
+        "(and (not (all (A.R5 b0))) (not (and A.R1 A.R2))) |- (not true)",
+        "(not (A.R5 c1)) (not A.R1) /;(not (A.R5 c1)) (not A.R2) /;",
+    ),
+    (
+        "(A.R5 c1), (A.R5 c3) |- (and (all (A.R5 b0)) (all (A.R5 b0)))",
+        "(A.R5 c1) (A.R5 c3) (not (A.R5 c2)) /;(A.R5 c1) (A.R5 c3) (not (A.R5 c4)) /;",
+    ),
+    (
+        "(and (A.R5 c2) (not (all (A.R5 b0)))) |- (A.R6 c0 c2)",
+        "(A.R5 c2) (not (A.R5 c1)) (not (A.R6 c0 c2)) /;",
+    ),
+    // A place takes its constant in each disjunct, also where that doesn't have it.
+    (
+        "(A.R5 c1), (not (and (not A.R1) (all (A.R5 b0)))) |- (all (A.R5 b0))",
+        "(A.R5 c1) A.R1 (not (A.R5 c3)) /;(A.R5 c1) (not (A.R5 c2)) (not (A.R5 c3)) /;",
+    ),
+    // An outer one before those in its body.
+    ("|- (all (all (A.R6 b1 b0)))", "(not (A.R6 c1 c2)) /;"),
+    (
+        "|- (and (all (all (A.R6 b1 b0))) (all (A.R5 b0)))",
+        "(not (A.R6 c1 c2)) /;(not (A.R5 c3)) /;",
+    ),
+    // A part without disjuncts takes its constant.
+    (
+        "(not (and (not (and (not (all (A.R5 b0))) (not true))) (not A.R2))) |- (all (A.R5 b0))",
+        "A.R2 (not (A.R5 c2)) /;",
+    ),
+    (
+        "(not (and (not (and (not true) (not (all (A.R5 b0))))) (not A.R2))) |- (all (A.R5 b0))",
+        "A.R2 (not (A.R5 c2)) /;",
+    ),
+    // A universal is listed as it is written.
+    (
+        "(not (not (all (not (not (A.R5 b0)))))) |- A.R2",
+        "(not A.R2) / (all (not (not (A.R5 b0))));",
+    ),
+    (
+        "(all (A.R5 b0)) |- (not (all (not (A.R5 b0))))",
+        "/ (all (A.R5 b0)) (all (not (A.R5 b0)));",
+    ),
+];
+
 #[test]
 fn small_problems(rt: HostRuntime) {
-    for (text, want) in [
-        // Premises in order, and then the negated conclusion.
-        ("A.R1, A.R2 |- A.R3", "A.R1 A.R2 (not A.R3) /;"),
-        ("|- true", ""),
-        ("|- (not true)", "/;"),
-        // Double negations vanish at every depth.
-        (
-            "(not (not A.R1)), (not (not (not A.R2))) |- (not A.R3)",
-            "A.R1 (not A.R2) A.R3 /;",
-        ),
-        // All pairs, the left one slowest; the negated left part before the negated right part.
-        (
-            "(not (and A.R1 A.R2)), (not (and A.R3 A.R4)) |- (not true)",
-            "(not A.R1) (not A.R3) /;(not A.R1) (not A.R4) /;(not A.R2) (not A.R3) /;(not A.R2) (not A.R4) /;",
-        ),
-        (
-            "(and (and A.R1 A.R2) (not (and A.R3 A.R4))) |- (not true)",
-            "A.R1 A.R2 (not A.R3) /;A.R1 A.R2 (not A.R4) /;",
-        ),
-        ("A.R1 |- A.R1", "A.R1 (not A.R1) /;"),
-        (
-            "A.R1 |- (and A.R1 A.R1)",
-            "A.R1 (not A.R1) /;A.R1 (not A.R1) /;",
-        ),
-        // Truth in a conjunction, and in a negated one.
-        ("(and true A.R1) |- (and A.R1 true)", "A.R1 (not A.R1) /;"),
-        ("(and A.R1 (not true)) |- A.R2", ""),
-        // Negated universals in both parts of a conjunction, and in both of a negated one.
-        (
-            "(and (not (all (A.R5 b0))) (not (all (A.R5 b0)))) |- (not true)",
-            "(not (A.R5 c1)) (not (A.R5 c2)) /;",
-        ),
-        (
-            "|- (and (all (A.R5 b0)) (all (A.R5 b0)))",
-            "(not (A.R5 c1)) /;(not (A.R5 c2)) /;",
-        ),
-        // The same constant in each disjunct that comes from it; none that the problem has.
-        (
-            "(and (not (all (A.R5 b0))) (not (and A.R1 A.R2))) |- (not true)",
-            "(not (A.R5 c1)) (not A.R1) /;(not (A.R5 c1)) (not A.R2) /;",
-        ),
-        (
-            "(A.R5 c1), (A.R5 c3) |- (and (all (A.R5 b0)) (all (A.R5 b0)))",
-            "(A.R5 c1) (A.R5 c3) (not (A.R5 c2)) /;(A.R5 c1) (A.R5 c3) (not (A.R5 c4)) /;",
-        ),
-        (
-            "(and (A.R5 c2) (not (all (A.R5 b0)))) |- (A.R6 c0 c2)",
-            "(A.R5 c2) (not (A.R5 c1)) (not (A.R6 c0 c2)) /;",
-        ),
-        // A place takes its constant in each disjunct, also where that doesn't have it.
-        (
-            "(A.R5 c1), (not (and (not A.R1) (all (A.R5 b0)))) |- (all (A.R5 b0))",
-            "(A.R5 c1) A.R1 (not (A.R5 c3)) /;(A.R5 c1) (not (A.R5 c2)) (not (A.R5 c3)) /;",
-        ),
-        // An outer one before those in its body.
-        ("|- (all (all (A.R6 b1 b0)))", "(not (A.R6 c1 c2)) /;"),
-        (
-            "|- (and (all (all (A.R6 b1 b0))) (all (A.R5 b0)))",
-            "(not (A.R6 c1 c2)) /;(not (A.R5 c3)) /;",
-        ),
-        // A part without disjuncts takes its constant.
-        (
-            "(not (and (not (and (not (all (A.R5 b0))) (not true))) (not A.R2))) |- (all (A.R5 b0))",
-            "A.R2 (not (A.R5 c2)) /;",
-        ),
-        (
-            "(not (and (not (and (not true) (not (all (A.R5 b0))))) (not A.R2))) |- (all (A.R5 b0))",
-            "A.R2 (not (A.R5 c2)) /;",
-        ),
-        // A universal is listed as it is written.
-        (
-            "(not (not (all (not (not (A.R5 b0)))))) |- A.R2",
-            "(not A.R2) / (all (not (not (A.R5 b0))));",
-        ),
-        (
-            "(all (A.R5 b0)) |- (not (all (not (A.R5 b0))))",
-            "/ (all (A.R5 b0)) (all (not (A.R5 b0)));",
-        ),
-    ] {
+    for (text, want) in &SMALL {
         let found = found(&rt, rt.alloc(), text);
         assert!(rt; found.as_slice() == want.as_bytes(), "at {text}");
     }

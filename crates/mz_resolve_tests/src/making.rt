@@ -32,8 +32,10 @@ use std::alloc::Global;
 use std::mem::forget;
 use std::process::Abort;
 
+/// The type `object`.
 pub const OBJECT: T = ("HIDDEN.M1", "");
 
+/// The type `set`.
 pub const SET: T = ("HIDDEN.M2", "");
 
 /// A pattern: its symbol, its loci, and the places of the visible loci before and behind it.
@@ -57,26 +59,32 @@ pub enum ItemRow {
     Cluster(T),
 }
 
+/// The word's text.
 pub fn text_of(rt: &impl Abort, alloc: Global, word: &str) -> Text {
     Text::from_slice(alloc, word.as_bytes()).expect(rt, "memory")
 }
 
+/// The symbol of the word.
 pub fn sym_of(rt: &impl Abort, word: &str) -> Sym {
     symbol(word).expect(rt, "a symbol")
 }
 
+/// The term of the text.
 pub fn term_of(rt: &impl Abort, alloc: Global, text: &str) -> Term {
     term(alloc, text).expect(rt, "a term")
 }
 
+/// The type of the texts.
 pub fn type_of(rt: &impl Abort, alloc: Global, t: T) -> SoftType {
     ty(alloc, t).expect(rt, "a type")
 }
 
+/// The types of the texts.
 pub fn types_of(rt: &impl Abort, alloc: Global, ts: &[T]) -> SoftTypes {
     types(alloc, ts).expect(rt, "types")
 }
 
+/// The pattern of the kind.
 pub fn pattern(rt: &impl Abort, alloc: Global, kind: Kind, p: P) -> Pattern {
     Pattern {
         symbol: text_of(rt, alloc, p.0),
@@ -264,6 +272,7 @@ pub fn put_functor(
     pushed.expect(rt, "memory");
 }
 
+/// Puts private functors into force; their bodies are terms.
 pub fn put_functors(rt: &impl Abort, alloc: Global, ctx: &mut Context, rows: &[Private]) {
     for (word, places, body) in rows {
         let body = term_of(rt, alloc, body);
@@ -279,6 +288,7 @@ fn statement_of(rt: &impl Abort, alloc: Global, text: &str) -> Statement {
     s
 }
 
+/// Puts private predicates into force; their bodies are literals.
 pub fn put_predicates(rt: &impl Abort, alloc: Global, ctx: &mut Context, rows: &[Private]) {
     for (word, places, body) in rows {
         let name = text_of(rt, alloc, word);
@@ -301,6 +311,7 @@ fn letter(rt: &impl Abort, alloc: Global, row: Letter) -> SchemeLetter {
     }
 }
 
+/// Puts letters into force.
 pub fn put_letters(rt: &impl Abort, alloc: Global, ctx: &mut Context, rows: &[Letter]) {
     for row in rows {
         let name = text_of(rt, alloc, row.0);

@@ -98,6 +98,7 @@ fn connected(alloc: Global, head: Head, formulas: &mut Formulas) -> Result<Formu
 }
 
 impl Reader {
+    /// A reader before the first word.
     pub fn new(alloc: Global) -> Reader {
         Reader {
             terms: Terms::new(alloc),

@@ -21,6 +21,7 @@ pub type S = (&'static str, &'static [T]);
 /// An unfolding: the types of its loci, its head, an atom or a term, and its definiens.
 pub type U = (&'static [T], &'static str, S);
 
+/// The type `set`.
 pub const SET: T = ("HIDDEN.M2", "");
 
 /// A type that says more than `set`.

@@ -151,6 +151,7 @@ fn structure(rt: &impl Abort, alloc: Global, full: bool) -> StructureTree {
     }
 }
 
+/// The heading of the row.
 pub fn heading(rt: &impl Abort, alloc: Global, row: usize) -> HeadingTree {
     let redefine = Place::start();
     match row {

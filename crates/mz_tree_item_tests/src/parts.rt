@@ -98,6 +98,7 @@ fn types(rt: &impl Abort, alloc: Global, full: bool) -> Option<Separated<TypeTre
     }
 }
 
+/// `x ( set ) -> set`, with the types of its places or without them
 pub fn functor_letter(rt: &impl Abort, alloc: Global, full: bool) -> ParameterTree {
     let at = Place::start();
     ParameterTree::Functor {
@@ -110,6 +111,7 @@ pub fn functor_letter(rt: &impl Abort, alloc: Global, full: bool) -> ParameterTr
     }
 }
 
+/// `x [ set ]`, with the types of its places or without them
 pub fn predicate_letter(rt: &impl Abort, alloc: Global, full: bool) -> ParameterTree {
     let at = Place::start();
     ParameterTree::Predicate {

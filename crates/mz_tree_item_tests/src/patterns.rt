@@ -66,6 +66,7 @@ fn attribute(rt: &impl Abort, alloc: Global, full: bool) -> AttributePatternTree
     }
 }
 
+/// `M of x`, or `M` alone
 pub fn mode(rt: &impl Abort, alloc: Global, full: bool) -> ModePatternTree {
     let loci = if full {
         Some(ModeLociTree {

@@ -33,8 +33,10 @@ use std::alloc::Global;
 use std::mem::{forget, replace};
 use std::process::Abort;
 
+/// The type `object`.
 pub const OBJECT: T = ("HIDDEN.M1", "");
 
+/// The type `set`.
 pub const SET: T = ("HIDDEN.M2", "");
 
 const NO_SYMBOLS: SymbolCounts = SymbolCounts {
@@ -63,22 +65,27 @@ pub fn in_force(rt: &impl Abort, alloc: Global, ks: &[K]) -> Context {
 /// A pattern: its symbol, its loci, and the places of the visible loci before and behind it.
 pub type P = (&'static str, &'static [T], &'static [u64], &'static [u64]);
 
+/// The symbol of the text.
 pub fn sym_of(rt: &impl Abort, text: &str) -> Sym {
     symbol(text).expect(rt, "a symbol")
 }
 
+/// The word's text.
 pub fn text_of(rt: &impl Abort, alloc: Global, t: &str) -> Text {
     Text::from_slice(alloc, t.as_bytes()).expect(rt, "memory")
 }
 
+/// The term of the text.
 pub fn term_of(rt: &impl Abort, alloc: Global, text: &str) -> Term {
     term(alloc, text).expect(rt, "a term")
 }
 
+/// The type of the texts.
 pub fn type_of(rt: &impl Abort, alloc: Global, t: T) -> SoftType {
     ty(alloc, t).expect(rt, "a type")
 }
 
+/// The types of the texts.
 pub fn types_of(rt: &impl Abort, alloc: Global, ts: &[T]) -> SoftTypes {
     types(alloc, ts).expect(rt, "types")
 }
@@ -102,6 +109,7 @@ fn plain() -> FormulaDefiniens {
     FormulaDefiniens::Plain(Statement::truth())
 }
 
+/// The definition of a predicate.
 pub fn predicate(rt: &impl Abort, alloc: Global, s: &str, p: P) -> Item {
     Item::Predicate(AtomDefinition {
         pattern: pattern(rt, alloc, Kind::Predicate, p),
@@ -110,6 +118,7 @@ pub fn predicate(rt: &impl Abort, alloc: Global, s: &str, p: P) -> Item {
     })
 }
 
+/// The definition of an attribute with this subject.
 pub fn attribute(rt: &impl Abort, alloc: Global, s: &str, p: P, subject: u32) -> Item {
     Item::Attribute(AttributeDefinition {
         pattern: pattern(rt, alloc, Kind::Attribute, p),
@@ -128,10 +137,12 @@ fn means(rt: &impl Abort, alloc: Global, kind: Kind, s: &str, p: P, t: T) -> Mea
     }
 }
 
+/// The definition of a mode with this type.
 pub fn mode(rt: &impl Abort, alloc: Global, s: &str, p: P, t: T) -> Item {
     Item::ModeMeans(means(rt, alloc, Kind::Mode, s, p, t))
 }
 
+/// The definition of a functor with this type.
 pub fn functor(rt: &impl Abort, alloc: Global, s: &str, p: P, t: T) -> Item {
     Item::FunctorMeans(means(rt, alloc, Kind::Functor, s, p, t))
 }
@@ -164,6 +175,7 @@ fn adjectives_of(rt: &impl Abort, alloc: Global, text: &'static str) -> Adjectiv
     adjectives
 }
 
+/// The registration of adjectives for a type on these loci.
 pub fn existential(rt: &impl Abort, alloc: Global, loci: &[T], xs: &'static str, t: T) -> Item {
     Item::Existential(ExistentialRegistration {
         loci: types_of(rt, alloc, loci),
@@ -172,6 +184,7 @@ pub fn existential(rt: &impl Abort, alloc: Global, loci: &[T], xs: &'static str,
     })
 }
 
+/// The registration that adjectives bring others with them, without a locus.
 pub fn conditional(
     rt: &impl Abort,
     alloc: Global,
@@ -187,6 +200,7 @@ pub fn conditional(
     })
 }
 
+/// The registration of a term's adjectives on these loci.
 pub fn functorial(rt: &impl Abort, alloc: Global, loci: &[T], t: &str, xs: &'static str) -> Item {
     Item::Functorial(FunctorialRegistration {
         loci: types_of(rt, alloc, loci),

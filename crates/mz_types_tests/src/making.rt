@@ -23,6 +23,7 @@ fn terms_of(rt: &impl Abort, alloc: Global, text: &str) -> Terms {
     terms(alloc, text).expect(rt, "terms")
 }
 
+/// The application of the row.
 pub fn applied(rt: &impl Abort, alloc: Global, a: A) -> Applied {
     Applied {
         symbol: text_of(rt, alloc, a.0),

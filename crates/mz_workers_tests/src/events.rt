@@ -14,6 +14,7 @@ pub struct Event {
 }
 
 impl Event {
+    /// An event that has not happened.
     pub fn new() -> Event {
         Event {
             happened: AtomicU64::new(0),
@@ -21,10 +22,12 @@ impl Event {
         }
     }
 
+    /// The event happens.
     pub fn happen(&self) {
         self.happened.store(1, Ordering::SeqCst);
     }
 
+    /// Waits until the event has happened, for `MOST` turns at most.
     pub fn wait(&self) {
         for _ in 0..MOST {
             if self.happened.load(Ordering::SeqCst) == 1 {
@@ -48,6 +51,7 @@ pub struct Hold {
 }
 
 impl Hold {
+    /// The gate before the first row.
     pub fn new() -> Hold {
         Hold {
             entered: Event::new(),

@@ -23,6 +23,7 @@ const ARTICLES: [&str; 4] = ["DD", "DB", "DC", "DA"];
 /// The library where all of them are accepted, in the order of names.
 pub const LIBRARY: [&str; 7] = ["DA", "DB", "DC", "DD", "HIDDEN", "TARSKI_0", "TARSKI_A"];
 
+/// The name that the word spells.
 pub fn name<R: Abort>(rt: &R, word: &str) -> Name {
     name_of(word).expect(rt, "a name")
 }

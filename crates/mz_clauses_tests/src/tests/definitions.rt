@@ -1,3 +1,4 @@
+//! Clauses of definitions, redefinitions, choices and letters.
 use crate::tests::parts::{
     adjective, element, mode, one_set, pattern, single, sym, two_elements, typed,
 };

@@ -1,3 +1,4 @@
+//! Clauses of an export with an item of each kind.
 use crate::tests::definitions::{
     equal_functor, functor, mode_by_means, redefined, redefined_abbreviation,
 };

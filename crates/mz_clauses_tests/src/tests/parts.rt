@@ -14,6 +14,7 @@ use mz_samples::forms::terms;
 use std::alloc::Global;
 use std::process::Abort;
 
+/// The symbol of this kind and number.
 pub fn sym(kind: Kind, number: u32) -> Sym {
     Sym {
         article: 0x4100_0000_0000_0000,

@@ -1,3 +1,4 @@
+//! Clauses of properties.
 use crate::tests::adds;
 use crate::tests::parts::{element, mode, two_elements};
 use mz_core::item::Item;

@@ -1,3 +1,4 @@
+//! Clauses of registrations.
 use crate::tests::parts::{adjective, element, mode, one_set, single};
 use crate::tests::{adds, types};
 use mz_core::adjectives::Adjectives;

@@ -1,3 +1,4 @@
+//! Clauses of a structure.
 use crate::tests::gives;
 use crate::tests::parts::{mode, one_set, sym, typed};
 use mz_core::adjectives::Adjectives;
