@@ -5,7 +5,7 @@ use Rattle.mz_base.specs.NamedText.{NamedText}
 use Rattle.mz_base.specs.declared.name.Name.{Name}
 use Rattle.mz_base.specs.declared.head.Directive.{Directive}
 use Rattle.mz_items.specs.Exports.{HasNotationsOfItems}
-use Rattle.mz_core.specs.declared.export.Export.{Export}
+use Rattle.mz_core.specs.declared.outcome.Export.{Export}
 use Rattle.mz_core.specs.declared.fault.Fault.{Fault}
 use Rattle.mz_core.specs.declared.outcome.Outcome.{Outcome}
 use Rattle.mz_core.specs.declared.outcome.Outcome.TheVariants.{Accepted, Rejected}

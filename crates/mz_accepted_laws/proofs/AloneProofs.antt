@@ -8,7 +8,7 @@ use Rattle.mz_logic.specs.Formula.{Formula}
 use Rattle.mz_logic.proofs.Each.{derives_more}
 use Rattle.mz_core.specs.Erasure.{erase}
 use Rattle.mz_core.specs.declared.item.Item.{Item}
-use Rattle.mz_core.specs.declared.export.Export.{Export}
+use Rattle.mz_core.specs.declared.outcome.Export.{Export}
 use Rattle.mz_ground.proofs.ListLemmas.{contains_none, contains_one, contains_cases, contains_first, contains_later}
 use Rattle.mz_items.specs.Items.{owes, grants}
 use Rattle.mz_items.specs.Exports.{statements_of}

@@ -3,7 +3,7 @@ use Rattle.std.specs.Prelude.{◌≡◌, ℕ, false, List}
 use Rattle.mz_base.specs.Name.{is_built_in}
 use Rattle.mz_base.specs.NamedText.{NamedText}
 use Rattle.mz_base.specs.declared.name.Name.{Name}
-use Rattle.mz_core.specs.declared.export.Export.{Export}
+use Rattle.mz_core.specs.declared.outcome.Export.{Export}
 use Rattle.mz_core.specs.declared.outcome.Outcome.TheVariants.{Accepted}
 use Rattle.mz_axioms.specs.AxiomList.{axioms}
 use Rattle.mz_axioms.specs.BuiltIn.{built_in_exports}

@@ -4,7 +4,7 @@ use Rattle.std.specs.Prelude.{◌↔◌, IsTrue, All, Contains, Option, slice_ge
 use Rattle.std.proofs.lemmas.List.Elements.{All-append, All-nil}
 use Rattle.std.proofs.lemmas.Option.{slice_get_within, get_or_from_slice_get}
 use Rattle.mz_logic.specs.declared.literal.Literal.{Literal}
-use Rattle.mz_context.specs.declared.constant.Constant.{Constant}
+use Rattle.mz_context.specs.declared.constants.Constant.{Constant}
 use Rattle.mz_ground.specs.declared.clause.Clause.{Clause}
 use Rattle.mz_fits.specs.Fits.{LiteralFits}
 use Rattle.mz_fits.proofs.FitLemmas.{told_all_fit, told_one_unfit, told_one_fits, told_none_asked}

@@ -1,7 +1,7 @@
 -- Answers about what fits, kept.
 use Rattle.std.specs.Prelude.{Bool, List, [], ◌∷◌, ◌++◌, Option, ◌↔◌, IsTrue, All, Contains}
 use Rattle.mz_logic.specs.declared.literal.Literal.{Literal}
-use Rattle.mz_context.specs.declared.constant.Constant.{Constant}
+use Rattle.mz_context.specs.declared.constants.Constant.{Constant}
 use Rattle.mz_ground.specs.declared.clause.Clause.{Clause}
 use Rattle.mz_fits.specs.Fits.{LiteralFits}
 use Rattle.mz_answers.specs.declared.answer.Answer.{Answer}

@@ -1,6 +1,6 @@
 //! Lists of answers.
 ghost use Rattle.std.specs.Prelude.{◌≡◌, List, [], Option, ⊤, MatchOption};
-ghost use Rattle.mz_context.specs.declared.constant.Constant.{Constant};
+ghost use Rattle.mz_context.specs.declared.constants.Constant.{Constant};
 ghost use Rattle.mz_ground.specs.declared.clause.Clause.{Clause};
 ghost use Rattle.mz_answers.specs.Answers.{answer, AreRight, Has, MayHave};
 

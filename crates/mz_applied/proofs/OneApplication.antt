@@ -16,8 +16,8 @@ use Rattle.mz_types.specs.Known.{typing}
 use Rattle.mz_names.specs.Names.{private_functor, private_predicate, functor_letter, predicate_letter}
 use Rattle.mz_names.specs.declared.refusal.Refusal.{Refusal}
 use Rattle.mz_names.specs.declared.refusal.Refusal.TheVariants.{UnknownVariable, NoNotation, UnfitArgument}
-use Rattle.mz_choice.specs.declared.applied.Applied.{Applied}
-use Rattle.mz_choice.specs.declared.wanted.Wanted.{Wanted}
+use Rattle.mz_choice.specs.declared.choice.Applied.{Applied}
+use Rattle.mz_choice.specs.declared.choice.Wanted.{Wanted}
 use Rattle.mz_choice.proofs.OneChoice.{one_resolution_law}
 use Rattle.mz_sizes.specs.Sizes.{term_keeps, statement_keeps}
 use Rattle.mz_applied.specs.Within.{within}

@@ -8,7 +8,7 @@ use Rattle.mz_logic.specs.Substitution.{substitute, argument_at}
 use Rattle.mz_core.specs.Statement.{Statement}
 use Rattle.mz_core.specs.TypeSubstitution.{substitute_statement}
 use Rattle.mz_core.specs.declared.soft_type.SoftType.{SoftType}
-use Rattle.mz_context.specs.declared.constant.Constant.{Constant}
+use Rattle.mz_context.specs.declared.constants.Constant.{Constant}
 use Rattle.mz_context.specs.declared.context.Context.{Context}
 use Rattle.mz_context.specs.declared.letters.NamedLetter.{NamedLetter}
 use Rattle.mz_context.specs.declared.private.PrivateFunctor.{PrivateFunctor}

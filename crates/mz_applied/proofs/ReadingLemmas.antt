@@ -7,9 +7,9 @@ use Rattle.mz_context.specs.declared.context.Context.{Context}
 use Rattle.mz_environment.specs.declared.environment.Environment.{Environment}
 use Rattle.mz_types.specs.Known.{typing}
 use Rattle.mz_names.specs.declared.refusal.Refusal.{Refusal}
-use Rattle.mz_choice.specs.declared.applied.Applied.{Applied}
-use Rattle.mz_choice.specs.declared.wanted.Wanted.{Wanted}
-use Rattle.mz_choice.specs.declared.resolution.Resolution.{Resolution}
+use Rattle.mz_choice.specs.declared.choice.Applied.{Applied}
+use Rattle.mz_choice.specs.declared.choice.Wanted.{Wanted}
+use Rattle.mz_choice.specs.declared.resolve.Resolution.{Resolution}
 use Rattle.mz_choice.specs.Resolution.{Resolves}
 use Rattle.mz_applied.specs.Meant.{meant}
 use Rattle.mz_applied.specs.Reading as re

@@ -3,7 +3,7 @@ use Rattle.std.specs.Prelude.{ℕ, List, [], ◌∷◌}
 use Rattle.mz_logic.specs.declared.kind.Kind.{Kind}
 use Rattle.mz_logic.specs.declared.kind.Kind.TheVariants.{Attribute}
 use Rattle.mz_logic.specs.Term.{Term}
-use Rattle.mz_choice.specs.declared.applied.Applied.{Applied}
+use Rattle.mz_choice.specs.declared.choice.Applied.{Applied}
 
 -- a symbol of the kind, with arguments on both sides
 abbrev pub application : Kind → List ℕ → List Term → List Term → Applied

@@ -13,8 +13,8 @@ use Rattle.mz_core.specs.declared.notation.Meaning.{Meaning}
 use Rattle.mz_core.specs.declared.notation.Meaning.TheVariants.{OfTerm, OfLiteral, OfType}
 use Rattle.mz_names.specs.declared.refusal.Refusal.{Refusal}
 use Rattle.mz_names.specs.declared.refusal.Refusal.TheVariants as refusal
-use Rattle.mz_choice.specs.declared.resolution.Resolution.{Resolution}
-use Rattle.mz_choice.specs.declared.resolution.Resolution.TheVariants as resolution
+use Rattle.mz_choice.specs.declared.resolve.Resolution.{Resolution}
+use Rattle.mz_choice.specs.declared.resolve.Resolution.TheVariants as resolution
 use Rattle.mz_sizes.specs.Sizes.{term_keeps, adjective_keeps, statement_keeps}
 use Rattle.mz_applied.specs.Within.{within}
 

@@ -3,7 +3,7 @@ ghost use Rattle.std.specs.Prelude.{◌≡◌, IfOk};
 ghost use Rattle.mz_applied.specs.Application.{application, bracketed, attribute_of};
 
 use mz_base::text::Text;
-use mz_choice::applied::Applied;
+use mz_choice::choice::Applied;
 use mz_logic::kind::Kind;
 use mz_logic::term::{Term, Terms};
 use std::alloc::{AllocError, Global};

@@ -2,8 +2,8 @@
 #![tactic(auto)]
 
 pub mod application;
+pub mod applied;
 pub mod laws;
 pub mod meant;
 pub mod private;
-pub mod reading;
 pub mod within;

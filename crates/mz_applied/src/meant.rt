@@ -4,7 +4,7 @@ ghost use Rattle.mz_applied.specs.Meant.{meant, as_term, as_type, as_statement, 
 
 use crate::within::{within_adjective, within_statement, within_term};
 use mz_base::place::Place;
-use mz_choice::resolution::Resolution;
+use mz_choice::resolve::Resolution;
 use mz_core::adjective::Adjective;
 use mz_core::notation::Meaning;
 use mz_core::soft_type::SoftType;

@@ -3,7 +3,7 @@ use Rattle.std.specs.Prelude.{ℕ, List, [], ◌∷◌, flat_map, length, Result
 use Rattle.mz_base.specs.NamedText.{NamedText}
 use Rattle.mz_base.specs.declared.name.Name.{Name}
 use Rattle.mz_base.specs.declared.head.Directive.{Directive}
-use Rattle.mz_core.specs.declared.export.Export.{Export}
+use Rattle.mz_core.specs.declared.outcome.Export.{Export}
 use Rattle.mz_core.specs.declared.fault.Fault.{Fault}
 use Rattle.mz_core.specs.declared.item.Item.{Item}
 use Rattle.mz_core.specs.declared.outcome.Outcome.{Outcome}

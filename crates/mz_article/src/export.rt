@@ -5,12 +5,11 @@ ghost use Rattle.mz_article.specs.Outcome.{export_of, outcome_by, rejected};
 
 use mz_base::head::Head;
 use mz_base::name::Name;
-use mz_core::export::Export;
 use mz_core::fault::{Fault, Faults};
 use mz_core::item::Item;
 use mz_core::items::Items;
 use mz_core::notations::Notations;
-use mz_core::outcome::Outcome;
+use mz_core::outcome::{Export, Outcome};
 use mz_corpus::directives::dependencies_of;
 use mz_items::notations_of::notations_of;
 use std::alloc::{AllocError, Global};

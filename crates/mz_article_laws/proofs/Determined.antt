@@ -1,7 +1,7 @@
 -- What is read and what reasonings make is determined.
 use Rattle.std.proofs.Common.{ℕ, Bool, List}
 use Rattle.mz_base.specs.declared.place.Place.{Place}
-use Rattle.mz_core.specs.declared.left.Left.{Left}
+use Rattle.mz_core.specs.declared.outcome.Left.{Left}
 use Rattle.mz_context.specs.declared.context.Context.{Context}
 use Rattle.mz_environment.specs.declared.environment.Environment.{Environment}
 use Rattle.mz_formulas.specs.declared.sentence.Sentence.{Sentence}

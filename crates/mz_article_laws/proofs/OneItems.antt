@@ -2,7 +2,7 @@
 use Rattle.std.proofs.Common.{◌≡◌, false, List, [], refl, sym, ap, subst, ◌∙◌, Some}
 use Rattle.std.specs.Prelude.{Ok, Err}
 use Rattle.mz_base.specs.declared.place.Place.{Place}
-use Rattle.mz_core.specs.declared.left.Left.{Left}
+use Rattle.mz_core.specs.declared.outcome.Left.{Left}
 use Rattle.mz_context.specs.Context.{next}
 use Rattle.mz_context.specs.declared.context.Context.{Context}
 use Rattle.mz_formulas.specs.declared.sentence.Sentence.{Sentence}

@@ -2,7 +2,7 @@
 use mz_base::token::Tokens;
 use mz_parser_samples::answer::{Answer, refused, taken};
 use mz_parser_samples::texts::article_tokens;
-use mz_pexpr::marking::marked_tokens;
+use mz_pexpr::marked_tokens::marked_tokens;
 use mz_pitem::parse::article;
 use mz_tree::tree::Spell;
 use std::alloc::Global;

@@ -10,7 +10,7 @@ use Rattle.mz_base.proofs.NameEqual.{Name-equal}
 use Rattle.mz_logic.specs.Formula.{Formula}
 use Rattle.mz_logic.proofs.SetLaws.{larger}
 use Rattle.mz_logic.specs.declared.sequent.Sequent.{Sequent}
-use Rattle.mz_core.specs.declared.export.Export.{Export}
+use Rattle.mz_core.specs.declared.outcome.Export.{Export}
 use Rattle.mz_core.specs.declared.item.Item.{Item}
 use Rattle.mz_items.specs.Items.{owes}
 use Rattle.mz_items.specs.Exports.{HasNotationsOfItems}

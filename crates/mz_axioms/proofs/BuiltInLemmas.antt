@@ -7,7 +7,7 @@ use Rattle.std.proofs.lemmas.Option.{slice_get_within, get_or_from_slice_get}
 use Rattle.mz_base.specs.Name.{number_of, text_of, is_built_in}
 use Rattle.mz_base.specs.declared.name.Name.{Name}
 use Rattle.mz_base.proofs.NameEqual.{Name-equal}
-use Rattle.mz_core.specs.declared.export.Export.{Export}
+use Rattle.mz_core.specs.declared.outcome.Export.{Export}
 use Rattle.mz_core.specs.declared.item.Item.{Item}
 use Rattle.mz_core.specs.declared.item.Item.TheVariants.{Primitive}
 use Rattle.mz_core.specs.declared.notation.Notation.{Notation}

@@ -10,7 +10,7 @@ use Rattle.mz_core.specs.Statement.{Statement, Truth, Eq, Atom, And, For}
 use Rattle.mz_core.specs.StatementForms.{opposite, disjunction, implication, equivalence, for_some}
 use Rattle.mz_core.specs.Hidden.{object_type, set_type}
 use Rattle.mz_core.specs.declared.scheme.Scheme.{Scheme}
-use Rattle.mz_core.specs.declared.scheme_letter.SchemeLetter.TheVariants.{OfFunctor, OfPredicate}
+use Rattle.mz_core.specs.declared.scheme.SchemeLetter.TheVariants.{OfFunctor, OfPredicate}
 
 -- t in u
 abbrev pub member : Term → Term → Statement

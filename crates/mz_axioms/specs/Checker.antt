@@ -2,7 +2,7 @@
 use Rattle.std.specs.Prelude.{◌≡◌, ℕ, List}
 use Rattle.mz_base.specs.declared.name.Name.{Name}
 use Rattle.mz_base.specs.NamedText.{NamedText}
-use Rattle.mz_core.specs.declared.export.Export.{Export}
+use Rattle.mz_core.specs.declared.outcome.Export.{Export}
 use Rattle.mz_core.specs.declared.outcome.Outcome.{Outcome}
 use Rattle.mz_core.specs.declared.outcome.Outcome.TheVariants.{Accepted}
 use Rattle.mz_axioms.specs.Library.{HasName, Sound, AreExportsOf, added}

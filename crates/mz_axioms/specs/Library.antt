@@ -7,7 +7,7 @@ use Rattle.mz_logic.specs.Formula.{Formula}
 use Rattle.mz_logic.specs.DerivesFrom.{DerivesFrom}
 use Rattle.mz_logic.specs.declared.sequent.Sequent.{Sequent}
 use Rattle.mz_core.specs.declared.item.Item.{Item}
-use Rattle.mz_core.specs.declared.export.Export.{Export}
+use Rattle.mz_core.specs.declared.outcome.Export.{Export}
 use Rattle.mz_items.specs.Items.{owes, grants}
 use Rattle.mz_items.specs.Exports.{HasNotationsOfItems, is_primitive}
 use Rattle.mz_items.specs.Closed.{item_closed}

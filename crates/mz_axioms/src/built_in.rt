@@ -10,10 +10,10 @@ use crate::replacement::replacement;
 use crate::universes::universes;
 use mz_base::name::Name;
 use mz_base::names::Names;
-use mz_core::export::Export;
 use mz_core::item::Item;
 use mz_core::items::Items;
 use mz_core::notations::Notations;
+use mz_core::outcome::Export;
 use std::alloc::{AllocError, Global};
 use std::sync::Arc;
 

@@ -3,7 +3,7 @@ ghost use Rattle.std.specs.Prelude.{ℕ, List, IfOk};
 ghost use Rattle.std.specs.Thread.{IsSync};
 ghost use Rattle.mz_base.specs.NamedText.{NamedText};
 ghost use Rattle.mz_base.specs.declared.name.Name.{Name};
-ghost use Rattle.mz_core.specs.declared.export.Export.{Export};
+ghost use Rattle.mz_core.specs.declared.outcome.Export.{Export};
 ghost use Rattle.mz_core.specs.declared.outcome.Outcome.{Outcome};
 ghost use Rattle.mz_axioms.specs.Checker.{OutcomeRelation, HasOneOutcome, AnswersName, KeepsSound};
 

@@ -5,7 +5,7 @@ ghost use Rattle.std.specs.Arc.{arc_value};
 ghost use Rattle.mz_axioms.specs.Library.{added, place_in};
 
 use mz_base::name::Name;
-use mz_core::export::Export;
+use mz_core::outcome::Export;
 use std::alloc::{AllocError, Global};
 use std::marker::Model;
 use std::sync::Arc;
@@ -25,8 +25,8 @@ impl Model for Exports {
     ghost use Rattle.std.specs.Prelude.{List, map, ◌≤◌, vec_capacity};
     ghost use Rattle.std.specs.Arc.{arc_value};
     ghost use Rattle.std.specs.Coded.{coded_list};
-    ghost use Rattle.mz_core.specs.declared.export.Export.{Export};
-    ghost use Rattle.mz_core.specs.contracts.export.Export.{the_row};
+    ghost use Rattle.mz_core.specs.declared.outcome.Export.{Export};
+    ghost use Rattle.mz_core.specs.contracts.outcome.Export.{the_row};
 
     ghost Value = { List Export };
 

@@ -5,9 +5,7 @@ ghost use Rattle.mz_axioms.specs.Axioms.{functor_letter, predicate_letter, belon
 use crate::axioms::{belongs, each_object, equal, is_member, some_object, some_set};
 use mz_base::name::Name;
 use mz_core::hidden::{object_type, set_type};
-use mz_core::scheme::Scheme;
-use mz_core::scheme_letter::SchemeLetter;
-use mz_core::scheme_letters::SchemeLetters;
+use mz_core::scheme::{Scheme, SchemeLetter, SchemeLetters};
 use mz_core::soft_types::SoftTypes;
 use mz_core::statement::Statement;
 use mz_core::statement_forms::{equivalence, implication};

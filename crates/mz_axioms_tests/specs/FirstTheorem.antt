@@ -13,7 +13,7 @@ use Rattle.mz_core.specs.Statement.{Statement, Eq, For}
 use Rattle.mz_core.specs.Hidden.{object_type}
 use Rattle.mz_items.specs.Items.{owes}
 use Rattle.mz_core.specs.declared.item.Item.TheVariants.{Theorem}
-use Rattle.mz_core.specs.declared.export.Export.{Export}
+use Rattle.mz_core.specs.declared.outcome.Export.{Export}
 use Rattle.mz_core.specs.declared.outcome.Outcome.{Outcome}
 use Rattle.mz_core.specs.declared.outcome.Outcome.TheVariants.{Accepted}
 use Rattle.mz_axioms.specs.Library.{IsBefore, IsDerivable, OwesDerivable, HasName, Sound, MayBeAdded, added}

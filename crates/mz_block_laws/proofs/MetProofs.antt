@@ -21,9 +21,9 @@ use Rattle.mz_context.specs.declared.labelled.LabelledStatement.{LabelledStateme
 use Rattle.mz_ground.specs.ClauseFormula.{clause_formula}
 use Rattle.mz_ground.specs.declared.clause.Clause.{Clause}
 use Rattle.mz_environment.specs.Keys.{of_article}
-use Rattle.mz_environment.specs.declared.cited_statement.CitedStatement.{CitedStatement}
+use Rattle.mz_environment.specs.declared.cited.CitedStatement.{CitedStatement}
 use Rattle.mz_environment.specs.declared.environment.Environment.{Environment}
-use Rattle.mz_environment.specs.declared.item_unfolding.Unfolding.{Unfolding}
+use Rattle.mz_environment.specs.declared.unfoldings.Unfolding.{Unfolding}
 use Rattle.mz_names.specs.Names.{has_label, labelled_as}
 use Rattle.mz_tree_proof.specs.declared.references.NumberTree.{NumberTree}
 use Rattle.mz_tree_proof.specs.declared.references.NumberTree.TheVariants.{Theorem, Definition}

@@ -23,7 +23,7 @@ use Rattle.mz_context.specs.Changes.{with_constant}
 use Rattle.mz_context.specs.declared.context.Context.{Context}
 use Rattle.mz_ground.specs.ClauseFormula.{clause_formula}
 use Rattle.mz_ground.specs.declared.clause.Clause.{Clause}
-use Rattle.mz_environment.specs.declared.item_unfolding.Unfolding.{Unfolding}
+use Rattle.mz_environment.specs.declared.unfoldings.Unfolding.{Unfolding}
 use Rattle.mz_names.specs.Closing.{constant_of, with_variables, for_all, there_are}
 use Rattle.mz_names.specs.declared.variable.Variable.{Variable}
 use Rattle.mz_thesis_laws.specs.RowLaws.{AreInForce}

@@ -6,12 +6,12 @@ use Rattle.mz_logic.proofs.Each.{Each, cut_each, each_itself, each_append, each_
 use Rattle.mz_core.specs.Statement.{Statement}
 use Rattle.mz_core.specs.Erasure.{erase}
 use Rattle.mz_context.specs.Context.{next}
-use Rattle.mz_context.specs.declared.constant.Constant.{Constant}
+use Rattle.mz_context.specs.declared.constants.Constant.{Constant}
 use Rattle.mz_context.specs.declared.context.Context.{Context}
 use Rattle.mz_context.specs.declared.labelled.LabelledStatement.{LabelledStatement}
 use Rattle.mz_context.specs.Changes.{with_constant}
 use Rattle.mz_ground.specs.declared.clause.Clause.{Clause}
-use Rattle.mz_environment.specs.declared.item_unfolding.Unfolding.{Unfolding}
+use Rattle.mz_environment.specs.declared.unfoldings.Unfolding.{Unfolding}
 use Rattle.mz_names.specs.Closing.{constant_of, with_variables}
 use Rattle.mz_names.specs.declared.variable.Variable.{Variable}
 use Rattle.mz_now.specs.Stated.{stated_by}
@@ -22,8 +22,8 @@ use Rattle.mz_steps.specs.Rows.{thesis_step, with_constants, constant_for, owed,
 use Rattle.mz_steps.specs.Effects.{Led, ActsBy, may_be_said}
 use Rattle.mz_steps.specs.Changes.{block_after, with_thesis, context_after}
 use Rattle.mz_steps.specs.declared.block.Block.TheVariants.{Proof, Now}
-use Rattle.mz_steps.specs.declared.effect.Effect.{Effect}
-use Rattle.mz_steps.specs.declared.effect.Effect.TheVariants as effect
+use Rattle.mz_steps.specs.declared.effects.Effect.{Effect}
+use Rattle.mz_steps.specs.declared.effects.Effect.TheVariants as effect
 use Rattle.mz_steps.specs.declared.read_step.ReadStep.{ReadStep}
 use Rattle.mz_steps.specs.declared.read_step.ReadStep.TheVariants.{Let, Assume, Given, Thus, Take, Consider, Reconsider, Set, State}
 use Rattle.mz_steps_laws.specs.Facts.{facts, Rests}

@@ -10,7 +10,7 @@ use Rattle.mz_context.specs.Context.{next}
 use Rattle.mz_context.specs.declared.context.Context.{Context}
 use Rattle.mz_context.specs.declared.labelled.LabelledStatement.{LabelledStatement}
 use Rattle.mz_ground.specs.declared.clause.Clause.{Clause}
-use Rattle.mz_environment.specs.declared.item_unfolding.Unfolding.{Unfolding}
+use Rattle.mz_environment.specs.declared.unfoldings.Unfolding.{Unfolding}
 use Rattle.mz_names.specs.Closing.{with_variables, for_all}
 use Rattle.mz_names.specs.declared.variable.Variable.{Variable}
 use Rattle.mz_now.specs.Stated.{stated_by}
@@ -23,7 +23,7 @@ use Rattle.mz_steps.specs.Changes.{block_after, statement_of, with_stated, conte
 use Rattle.mz_steps.specs.Equalities.{neighbours, ends_equal}
 use Rattle.mz_steps.specs.declared.block.Block.{Block}
 use Rattle.mz_steps.specs.declared.block.Block.TheVariants.{Proof, Now}
-use Rattle.mz_steps.specs.declared.effect.Effect.{Effect}
+use Rattle.mz_steps.specs.declared.effects.Effect.{Effect}
 use Rattle.mz_steps.specs.declared.read_step.ReadStep.{ReadStep}
 use Rattle.mz_steps_laws.specs.Facts.{facts}
 use Rattle.mz_steps_laws.specs.StepLaws.{gained, OwedDerives}

@@ -11,9 +11,9 @@ use Rattle.mz_context.specs.Context.{next}
 use Rattle.mz_context.specs.declared.context.Context.{Context}
 use Rattle.mz_ground.specs.ClauseFormula.{clause_formula}
 use Rattle.mz_ground.specs.declared.clause.Clause.{Clause}
-use Rattle.mz_environment.specs.declared.cited_statement.CitedStatement.{CitedStatement}
+use Rattle.mz_environment.specs.declared.cited.CitedStatement.{CitedStatement}
 use Rattle.mz_environment.specs.declared.environment.Environment.{Environment}
-use Rattle.mz_environment.specs.declared.item_unfolding.Unfolding.{Unfolding}
+use Rattle.mz_environment.specs.declared.unfoldings.Unfolding.{Unfolding}
 use Rattle.mz_tree_proof.specs.declared.references.ReferenceTree.{ReferenceTree}
 use Rattle.mz_cited.specs.Cited.{cites}
 use Rattle.mz_steps.specs.Premises.{given}

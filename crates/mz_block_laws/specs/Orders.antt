@@ -15,7 +15,7 @@ use Rattle.mz_context.specs.Context.{next}
 use Rattle.mz_context.specs.declared.context.Context.{Context}
 use Rattle.mz_ground.specs.ClauseFormula.{clause_formula}
 use Rattle.mz_ground.specs.declared.clause.Clause.{Clause}
-use Rattle.mz_environment.specs.declared.item_unfolding.Unfolding.{Unfolding}
+use Rattle.mz_environment.specs.declared.unfoldings.Unfolding.{Unfolding}
 use Rattle.mz_names.specs.declared.variable.Variable.{Variable}
 use Rattle.mz_thesis_laws.specs.RowLaws.{AreInForce}
 use Rattle.mz_thesis_laws.specs.StepLaws.{AreUnfoldings}

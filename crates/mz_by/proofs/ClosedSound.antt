@@ -11,8 +11,8 @@ use Rattle.mz_ground.specs.ClauseFormula.{clause_formula}
 use Rattle.mz_ground.specs.Laws.{IsGranted}
 use Rattle.mz_refute.specs.Laws.{AreGranted}
 use Rattle.mz_refute.proofs.RefutedSound.{closed_derives}
-use Rattle.mz_by.specs.declared.by_verdict.ByVerdict.{ByVerdict}
-use Rattle.mz_by.specs.declared.by_verdict.ByVerdict.TheVariants.{Closed}
+use Rattle.mz_by.specs.declared.by.ByVerdict.{ByVerdict}
+use Rattle.mz_by.specs.declared.by.ByVerdict.TheVariants.{Closed}
 use Rattle.mz_by.specs.Verdict.{IsClosedWithin, DecidesAll, Decides, IsVerdict, all_closed, decided, passed, by_terms, by_atoms, by_work, is_open, too_many, on_disjuncts}
 use Rattle.std.proofs.lemmas.List.Elements.{Contains-append_left, Contains-append_right}
 use Rattle.mz_nf.specs.Splits.{AreDisjuncts}

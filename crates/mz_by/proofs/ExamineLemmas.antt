@@ -17,7 +17,7 @@ use Rattle.mz_refute.specs.declared.answer.Answer.TheVariants.{Yes, No, Over}
 use Rattle.mz_refute.proofs.WorkLemmas.{one_work}
 use Rattle.mz_by.specs.Verdict.{HasFirstWork, this, later}
 use Rattle.mz_by.specs.Examination.{IsNoneRefuted, IsFirstWork, IsExamination, IsSoFar}
-use Rattle.mz_by.specs.declared.examination.Examination.TheVariants as examinations
+use Rattle.mz_by.specs.declared.examine.Examination.TheVariants as examinations
 
 one_member : (x y : Formula) → Contains (x ∷ []) y → x ≡ y
 one_member x y (zero, lt, e) = e

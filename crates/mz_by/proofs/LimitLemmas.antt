@@ -23,12 +23,12 @@ use Rattle.mz_ground.specs.Layers.{InLayer, further_layers}
 use Rattle.mz_ground.specs.Facts.{IsContradictory}
 use Rattle.mz_ground.specs.Ground.{IsDistinct, IsGround, IsGroundWithinLimits, IsWithinTerms, IsWithinAtoms, GroundFails, terms_after, term_of_entry, ground_terms, ground_atoms, atom_expression, end_of, most_terms, most_atoms}
 use Rattle.mz_refute.specs.Closes.{IsClosed, contradiction, refutation}
-use Rattle.mz_by.specs.declared.by_verdict.ByVerdict.{ByVerdict}
-use Rattle.mz_by.specs.declared.by_verdict.ByVerdict.TheVariants.{Closed, Open, Over}
+use Rattle.mz_by.specs.declared.by.ByVerdict.{ByVerdict}
+use Rattle.mz_by.specs.declared.by.ByVerdict.TheVariants.{Closed, Open, Over}
 use Rattle.mz_by.specs.Verdict.{KeepsLimits, IsClosedWithin, Decides, DecidesAll, IsVerdict, by_terms, by_atoms, by_work, is_open, all_closed, decided, passed, too_many, on_disjuncts}
 use Rattle.mz_by.specs.Examination.{IsExamination, IsNoneRefuted}
-use Rattle.mz_by.specs.declared.examination.Examination.{Examination}
-use Rattle.mz_by.specs.declared.examination.Examination.TheVariants as examinations
+use Rattle.mz_by.specs.declared.examine.Examination.{Examination}
+use Rattle.mz_by.specs.declared.examine.Examination.TheVariants as examinations
 
 length-terms_after : (before : List term.Term) (es : List GroundTerm) → length (terms_after before es) ≡ length before + length es
 length-terms_after before [] = omega arith

@@ -17,8 +17,8 @@ use Rattle.mz_refute.specs.Work.{most_work}
 use Rattle.mz_refute.specs.Answered.{IsWithinWork}
 use Rattle.mz_refute.proofs.CountLemmas.{length-le_distinct}
 use Rattle.mz_refute.proofs.WorkLemmas.{one_work}
-use Rattle.mz_by.specs.declared.by_verdict.ByVerdict.{ByVerdict}
-use Rattle.mz_by.specs.declared.by_verdict.ByVerdict.TheVariants.{Over}
+use Rattle.mz_by.specs.declared.by.ByVerdict.{ByVerdict}
+use Rattle.mz_by.specs.declared.by.ByVerdict.TheVariants.{Over}
 use Rattle.mz_by.specs.Verdict.{KeepsLimits, IsClosedWithin, HasFirstWork, Decides, DecidesAll, IsVerdict, this, later, all_closed, decided, passed, by_terms, by_atoms, by_work, is_open, too_many, on_disjuncts}
 
 -- a layer doesn't both keep and pass a limit

@@ -6,8 +6,8 @@ use Rattle.mz_ground.specs.declared.clause.Clause.{Clause}
 use Rattle.mz_refute.specs.Closes.{IsRefutedWithin}
 use Rattle.mz_refute.specs.Answered.{IsWithinWork}
 use Rattle.mz_by.specs.Verdict.{HasFirstWork}
-use Rattle.mz_by.specs.declared.examination.Examination.{Examination}
-use Rattle.mz_by.specs.declared.examination.Examination.TheVariants.{Refuted, Over, Open}
+use Rattle.mz_by.specs.declared.examine.Examination.{Examination}
+use Rattle.mz_by.specs.declared.examine.Examination.TheVariants.{Refuted, Over, Open}
 
 -- none of the universals is refuted with work within the limit
 abbrev pub IsNoneRefuted : Disjunct → List Clause → List Formula → Type 0

@@ -6,7 +6,7 @@ use Rattle.mz_logic.specs.Derives.{Derives}
 use Rattle.mz_nf.specs.declared.problem.Problem.{Problem}
 use Rattle.mz_ground.specs.declared.clause.Clause.{Clause}
 use Rattle.mz_ground.specs.ClauseFormula.{clause_formula}
-use Rattle.mz_by.specs.declared.by_verdict.ByVerdict.{ByVerdict}
+use Rattle.mz_by.specs.declared.by.ByVerdict.{ByVerdict}
 use Rattle.mz_by.specs.Verdict.{IsVerdict}
 
 -- no clause, read as a formula, has a constant

@@ -12,8 +12,8 @@ use Rattle.mz_ground.specs.Ground.{IsWithinTerms, IsWithinAtoms, HasTooManyTerms
 use Rattle.mz_refute.specs.Work.{IsWork, most_work}
 use Rattle.mz_refute.specs.Closes.{IsClosed}
 use Rattle.mz_refute.specs.Answered.{IsWithinWork}
-use Rattle.mz_by.specs.declared.by_verdict.ByVerdict.{ByVerdict}
-use Rattle.mz_by.specs.declared.by_verdict.ByVerdict.TheVariants.{Closed, Open, Over}
+use Rattle.mz_by.specs.declared.by.ByVerdict.{ByVerdict}
+use Rattle.mz_by.specs.declared.by.ByVerdict.TheVariants.{Closed, Open, Over}
 
 -- each layer of the ground part keeps both limits
 abbrev pub KeepsLimits : Disjunct → List Clause → Type 0

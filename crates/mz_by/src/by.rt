@@ -4,9 +4,7 @@ ghost use Rattle.mz_by.specs.Laws.{HaveNoConstants, IsDerived};
 ghost use Rattle.mz_by.specs.Verdict.{IsClosedWithin, Decides, DecidesAll, IsVerdict};
 ghost use Rattle.mz_ground.specs.Ground.{IsGroundWithinLimits};
 
-use crate::by_verdict::ByVerdict;
-use crate::examination::Examination;
-use crate::examine::examine;
+use crate::examine::{Examination, examine};
 use mz_base::limit::Limit;
 use mz_classes::close_classes::close_classes;
 use mz_ground::clause::Clause;
@@ -21,6 +19,17 @@ use mz_nf::disjuncts::disjuncts;
 use mz_nf::nf_fault::NfFault;
 use mz_nf::problem::Problem;
 use std::alloc::{AllocError, Global};
+
+/// Whether a conclusion is obvious from its premises.
+#[derive(Clone, Copy, Debug, PartialEq, Eq)]
+pub enum ByVerdict {
+    /// It is.
+    Closed,
+    /// It isn't: this disjunct, counted from 1, is the first that isn't closed.
+    Open { disjunct: u32 },
+    /// A limit was passed, by this number.
+    Over { limit: Limit, number: u64 },
+}
 
 /// Decides a problem by clauses (`docs/LANGUAGE.md`, "What `by` can do").
 ///

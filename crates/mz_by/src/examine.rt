@@ -6,12 +6,22 @@ ghost use Rattle.mz_ground.specs.FactSet.{HasFacts};
 ghost use Rattle.mz_refute.specs.FactIndex.{IsFactIndex};
 ghost use Rattle.mz_by.specs.Examination.{IsExamination};
 
-use crate::examination::Examination;
 use mz_ground::fact_set::FactSet;
 use mz_logic::disjunct::Disjunct;
 use mz_refute::answer::Answer;
 use mz_refute::fact_index::FactIndex;
 use std::alloc::{AllocError, Global};
+
+/// What the facts of a disjunct say of its universals.
+#[derive(Clone, Copy, Debug, PartialEq, Eq)]
+pub enum Examination {
+    /// One is refuted, with work within the limit.
+    Refuted,
+    /// None is refuted, and this is the first work that passes the limit.
+    Over { work: u64 },
+    /// None is refuted, and no work passes the limit.
+    Open,
+}
 
 /// Whether some universal of the disjunct is refuted, and else the first work that passes the limit.
 /// The rows of the facts are made once for all of them.

@@ -2,7 +2,5 @@
 #![tactic(auto)]
 
 pub mod by;
-pub mod by_verdict;
-pub mod examination;
 pub mod examine;
 pub mod laws;

@@ -1,11 +1,10 @@
 //! A chain of registrations: what is `one` is `two`, what is `two` is `three`, what is `three` is `four`, and each
 //! value of the functor is `one`. They have no type in their premises.
-use mz_by::by::by_first;
-use mz_by::by_verdict::ByVerdict;
+use mz_by::by::{ByVerdict, by_first};
 use mz_ground::clause::Clause;
 use mz_ground::clauses::Clauses;
 use mz_ground::ground::ground;
-use mz_ground::layer_end::LayerEnd;
+use mz_ground::layer_ends::LayerEnd;
 use mz_ground::trigger::Trigger;
 use mz_logic::literal::Literal;
 use mz_logic::term::Term;

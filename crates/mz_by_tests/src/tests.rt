@@ -1,7 +1,6 @@
 //! Problems as texts: the premises, `|-` and the conclusion.
 use mz_base::limit::Limit;
-use mz_by::by::by;
-use mz_by::by_verdict::ByVerdict;
+use mz_by::by::{ByVerdict, by};
 use mz_ground::clauses::Clauses;
 use mz_nf::problem::Problem;
 use mz_samples::parts::sequent;

@@ -6,7 +6,7 @@ use Rattle.std.proofs.lemmas.List.Elements.{Contains-append_left, Contains-appen
 use Rattle.mz_logic.specs.Term.{Bound}
 use Rattle.mz_logic.specs.declared.literal.Literal.{Literal}
 use Rattle.mz_core.specs.declared.structure.Structure.{Structure}
-use Rattle.mz_core.specs.declared.export.Export.{Export}
+use Rattle.mz_core.specs.declared.outcome.Export.{Export}
 use Rattle.mz_ground.specs.declared.clause.Clause.{Clause}
 use Rattle.mz_items.specs.Closed.{structure_closed}
 use Rattle.mz_clauses.specs.Guards.{loci_guards, guard_at_object}
@@ -17,7 +17,7 @@ use Rattle.mz_context.specs.declared.context.Context.{Context}
 use Rattle.mz_context.specs.declared.letters.NamedLetter.{NamedLetter}
 use Rattle.mz_environment.specs.Rows.{functor_rows, mode_rows, letter_rows}
 use Rattle.mz_environment.specs.Environment.{structures_of}
-use Rattle.mz_environment.specs.declared.row.Row.{Row}
+use Rattle.mz_environment.specs.declared.rows.Row.{Row}
 use Rattle.mz_environment.specs.declared.environment.Environment.{Environment}
 use Rattle.mz_closed_laws.specs.ClosedClauses.{row_closed}
 use Rattle.mz_closed_laws.proofs.UnfoldingProofs as closed

@@ -9,7 +9,7 @@ use Rattle.mz_core.specs.Hidden.{is_of_any_object}
 use Rattle.mz_core.specs.declared.soft_type.SoftType.{SoftType}
 use Rattle.mz_core.specs.declared.structure.Structure.{Structure as TheStructure}
 use Rattle.mz_core.specs.declared.definition.MeansDefinition.{MeansDefinition}
-use Rattle.mz_core.specs.declared.export.Export.{Export}
+use Rattle.mz_core.specs.declared.outcome.Export.{Export}
 use Rattle.mz_core.specs.declared.item.Item.{Item}
 use Rattle.mz_core.specs.declared.item.Item.TheVariants.{Axiom, AxiomScheme, Primitive, Theorem, Scheme, FunctorMeans, FunctorEquals, Predicate, Attribute, ModeMeans, Abbreviation, Notation, RedefinedFunctor, RedefinedMode, RedefinedPredicate, RedefinedAttribute, Property, Existential, Conditional, Functorial, Reduction, Identification, Structure, SetTerm, Choice}
 use Rattle.mz_items.specs.Closed.{is_of_kind, structure_closed, kind_fits, contents_closed, item_closed}
@@ -17,7 +17,7 @@ use Rattle.mz_axioms.specs.Library.{HasClosedItems}
 use Rattle.mz_environment.specs.Rows.{row, row_on, redefined_mode_rows, is_empty, is_bare, is_mode, has_loci, mode_rows}
 use Rattle.mz_environment.specs.Environment.{structures_of}
 use Rattle.mz_environment.specs.declared.numbering.Numbering.{Numbering}
-use Rattle.mz_environment.specs.declared.row.Row.{Row}
+use Rattle.mz_environment.specs.declared.rows.Row.{Row}
 use Rattle.mz_environment.specs.declared.environment.Environment.{Environment}
 use Rattle.mz_row_laws.proofs.MemberLemmas.{in_none, in_one, in_where}
 use Rattle.mz_env_laws.specs.Entries.{HasTypingOf, IsOfExports, SomeItem, AreOfItems}

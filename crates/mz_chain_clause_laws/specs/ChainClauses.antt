@@ -3,12 +3,12 @@ use Rattle.std.specs.Prelude.{◌≡◌, true, false, List, Ok, All, Contains}
 use Rattle.mz_base.specs.declared.head.Directive.{Directive}
 use Rattle.mz_core.specs.Hidden.{is_of_any_object}
 use Rattle.mz_core.specs.declared.structure.Structure.{Structure}
-use Rattle.mz_core.specs.declared.export.Export.{Export}
+use Rattle.mz_core.specs.declared.outcome.Export.{Export}
 use Rattle.mz_items.specs.Closed.{letter_closed}
 use Rattle.mz_axioms.specs.Library.{HasClosedItems}
 use Rattle.mz_context.specs.declared.context.Context.{Context}
 use Rattle.mz_context.specs.declared.letters.NamedLetter.{NamedLetter}
-use Rattle.mz_environment.specs.declared.row.Row.{Row}
+use Rattle.mz_environment.specs.declared.rows.Row.{Row}
 use Rattle.mz_environment.specs.declared.environment.Environment.{Environment}
 use Rattle.mz_types.specs.Known.{typing}
 use Rattle.mz_chain_laws.specs.ChainLaw.{HasChainClauses}

@@ -20,12 +20,12 @@ use Rattle.mz_core.specs.Closed.{term_under, type_under, adjective_under}
 use Rattle.mz_core.specs.Guard.{guard, guard_literals}
 use Rattle.mz_core.specs.TypeSubstitution.{substitute_type, substitute_adjective}
 use Rattle.mz_core.specs.declared.adjective.Adjective.{Adjective}
-use Rattle.mz_core.specs.declared.field.Field.{Field}
+use Rattle.mz_core.specs.declared.structure.Field.{Field}
 use Rattle.mz_core.specs.declared.radix.Radix.{Radix}
 use Rattle.mz_core.specs.declared.soft_type.SoftType.{SoftType}
 use Rattle.mz_core.specs.declared.structure.Structure.{Structure}
 use Rattle.mz_core.proofs.LawProofs.{guard_of_substitution}
-use Rattle.mz_context.specs.declared.constant.Constant.{Constant}
+use Rattle.mz_context.specs.declared.constants.Constant.{Constant}
 use Rattle.mz_ground.specs.declared.clause.Clause.{Clause}
 use Rattle.mz_classes.proofs.SymListLemmas.{same_sym_true}
 use Rattle.mz_items.specs.Loci.{inward, variables}

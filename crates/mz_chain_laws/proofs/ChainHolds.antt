@@ -19,7 +19,7 @@ use Rattle.mz_core.specs.Hidden.{is_of_any_object, object_mode, set_mode}
 use Rattle.mz_core.specs.Guard.{guard, guard_literals}
 use Rattle.mz_core.specs.declared.radix.Radix.{Radix}
 use Rattle.mz_core.specs.declared.structure.Structure.{Structure}
-use Rattle.mz_context.specs.declared.constant.Constant.{Constant}
+use Rattle.mz_context.specs.declared.constants.Constant.{Constant}
 use Rattle.mz_context.specs.declared.context.Context.{Context}
 use Rattle.mz_context.specs.Context.{numbered, constant_at}
 use Rattle.mz_context.specs.Gather.{known, known_of, equation_if_any}

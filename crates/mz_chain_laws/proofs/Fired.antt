@@ -19,7 +19,7 @@ use Rattle.mz_core.specs.Connectives.{guard_inside}
 use Rattle.mz_core.specs.TypeShift.{shift_type}
 use Rattle.mz_core.specs.declared.soft_type.SoftType.{SoftType}
 use Rattle.mz_core.proofs.LawProofs.{guard_of_substitution}
-use Rattle.mz_context.specs.declared.constant.Constant.{Constant}
+use Rattle.mz_context.specs.declared.constants.Constant.{Constant}
 use Rattle.mz_ground.specs.Instance.{literal_at}
 use Rattle.mz_ground.specs.ClauseFormula.{implication, clause_formula}
 use Rattle.mz_ground.specs.declared.clause.Clause.{Clause}

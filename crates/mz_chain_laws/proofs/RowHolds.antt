@@ -22,12 +22,12 @@ use Rattle.mz_core.specs.Guard.{guard, guard_literals}
 use Rattle.mz_core.specs.declared.radix.Radix.{Radix}
 use Rattle.mz_core.specs.declared.soft_type.SoftType.{SoftType}
 use Rattle.mz_core.proofs.LawProofs.{guard_of_substitution}
-use Rattle.mz_context.specs.declared.constant.Constant.{Constant}
+use Rattle.mz_context.specs.declared.constants.Constant.{Constant}
 use Rattle.mz_ground.specs.declared.clause.Clause.{Clause}
 use Rattle.mz_classes.proofs.SymListLemmas.{same_sym_true}
 use Rattle.mz_clauses.specs.Guards.{loci_guards, guard_at_object}
 use Rattle.mz_clause_laws.proofs.Instances.{formulas_at, formulas_at-append}
-use Rattle.mz_environment.specs.declared.row.Row.{Row}
+use Rattle.mz_environment.specs.declared.rows.Row.{Row}
 use Rattle.mz_closed_laws.specs.ClosedClauses.{row_closed}
 use Rattle.mz_row_laws.specs.RowLaws.{row_term, row_mode, HasTypeClauses, HasParentClauses}
 use Rattle.mz_fits.specs.Fits.{LociFit, type_at}

@@ -2,7 +2,7 @@
 use Rattle.std.proofs.Common.{◌≡◌, List, [], subst, Option, Some}
 use Rattle.mz_logic.specs.Term.{Term}
 use Rattle.mz_core.specs.declared.soft_type.SoftType.{SoftType}
-use Rattle.mz_context.specs.declared.constant.Constant.{Constant}
+use Rattle.mz_context.specs.declared.constants.Constant.{Constant}
 use Rattle.mz_ground.specs.declared.clause.Clause.{Clause}
 use Rattle.mz_fits.specs.Fits.{LociFit}
 use Rattle.mz_fits.specs.Matching.{Fixed, values_of, Accepted, not_fixed, fitting, unfit}

@@ -12,7 +12,7 @@ use Rattle.mz_core.specs.declared.radix.Radix.{Radix}
 use Rattle.mz_core.specs.declared.soft_type.SoftType.{SoftType}
 use Rattle.mz_core.specs.declared.structure.Structure.{Structure}
 use Rattle.mz_core.specs.declared.item.Item.{Item}
-use Rattle.mz_context.specs.declared.constant.Constant.{Constant}
+use Rattle.mz_context.specs.declared.constants.Constant.{Constant}
 use Rattle.mz_context.specs.declared.context.Context.{Context}
 use Rattle.mz_context.specs.Context.{constant_at}
 use Rattle.mz_items.specs.Loci.{variables}
@@ -23,7 +23,7 @@ use Rattle.mz_clauses.specs.Clauses.{typing_clauses}
 use Rattle.mz_clauses.specs.Guards.{loci_guards}
 use Rattle.mz_clauses.specs.StructureClauses.{structure_literal, structure_parts, given_guards}
 use Rattle.mz_environment.specs.Environment.{structures_of}
-use Rattle.mz_environment.specs.declared.row.Row.{Row}
+use Rattle.mz_environment.specs.declared.rows.Row.{Row}
 use Rattle.mz_environment.specs.declared.environment.Environment.{Environment}
 use Rattle.mz_closed_laws.specs.ClosedClauses.{row_closed}
 use Rattle.mz_row_laws.specs.RowLaws.{HasClause, HasTypeClauses, HasParentClauses}

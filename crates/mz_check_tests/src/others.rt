@@ -4,8 +4,7 @@ use crate::checking::{
 };
 use mz_axioms::exports::Exports;
 use mz_base::name::Name;
-use mz_core::export::Export;
-use mz_core::outcome::Outcome;
+use mz_core::outcome::{Export, Outcome};
 use std::alloc::Global;
 use std::mem::forget;
 use std::process::Abort;

@@ -9,7 +9,7 @@ use Rattle.mz_core.specs.declared.radix.Radix.{Radix}
 use Rattle.mz_core.specs.declared.soft_type.SoftType.{SoftType}
 use Rattle.mz_core.specs.declared.notation.Notation.{Notation}
 use Rattle.mz_core.specs.declared.notation.Meaning.{Meaning}
-use Rattle.mz_context.specs.declared.constant.Constant.{Constant}
+use Rattle.mz_context.specs.declared.constants.Constant.{Constant}
 use Rattle.mz_context.specs.declared.context.Context.{Context}
 use Rattle.mz_ground.specs.declared.clause.Clause.{Clause}
 use Rattle.mz_environment.specs.declared.environment.Environment.{Environment}
@@ -18,7 +18,7 @@ use Rattle.mz_fits.proofs.FitLemmas.{not_both, empty}
 use Rattle.mz_types.specs.Chain.{IsChain}
 use Rattle.mz_choice.specs.Choice as co
 use Rattle.mz_choice.specs.Choice.{FirstMember, Typed, Takes, TakesAll, Reads, Suits, Passes, meaning_at}
-use Rattle.mz_choice.specs.declared.wanted.Wanted.{Wanted}
+use Rattle.mz_choice.specs.declared.choice.Wanted.{Wanted}
 
 pub told_no_member : (cs : List Clause) (ks : List (Option Constant)) (scope : ℕ) (formal : Radix) (fs : Fixed) (members : List Radix) → length members ≡ 0 → FirstMember cs ks scope formal fs members None
 told_no_member cs ks scope formal fs members em = subst (λ xs. FirstMember cs ks scope formal fs xs None) (sym (empty _ em)) co.no_member

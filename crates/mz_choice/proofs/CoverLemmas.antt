@@ -12,7 +12,7 @@ use Rattle.mz_core.specs.declared.adjective.Adjective.{Adjective}
 use Rattle.mz_core.specs.declared.radix.Radix.{Radix}
 use Rattle.mz_core.specs.declared.soft_type.SoftType.{SoftType}
 use Rattle.mz_core.specs.declared.registration.ExistentialRegistration.{ExistentialRegistration}
-use Rattle.mz_context.specs.declared.constant.Constant.{Constant}
+use Rattle.mz_context.specs.declared.constants.Constant.{Constant}
 use Rattle.mz_context.specs.declared.context.Context.{Context}
 use Rattle.mz_context.specs.Context.{next}
 use Rattle.mz_context.specs.Changes.{with_constant}

@@ -13,8 +13,8 @@ use Rattle.mz_environment.specs.declared.environment.Environment.{Environment}
 use Rattle.mz_environment.specs.Keys.{is_spelled}
 use Rattle.mz_fits.proofs.FitLemmas.{not_both}
 use Rattle.mz_fits.proofs.OneMatch.{some-inj, none_some}
-use Rattle.mz_choice.specs.declared.applied.Applied.{Applied}
-use Rattle.mz_choice.specs.declared.wanted.Wanted.{Wanted}
+use Rattle.mz_choice.specs.declared.choice.Applied.{Applied}
+use Rattle.mz_choice.specs.declared.choice.Wanted.{Wanted}
 use Rattle.mz_choice.specs.Choice as co
 use Rattle.mz_choice.specs.Choice.{is_of_symbol, is_candidate, candidates, Passes, FirstPasses, Chosen}
 

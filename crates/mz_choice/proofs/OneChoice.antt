@@ -9,7 +9,7 @@ use Rattle.mz_core.specs.declared.radix.Radix.{Radix}
 use Rattle.mz_core.specs.declared.soft_type.SoftType.{SoftType}
 use Rattle.mz_core.specs.declared.notation.Notation.{Notation}
 use Rattle.mz_core.specs.declared.notation.Meaning.{Meaning}
-use Rattle.mz_context.specs.declared.constant.Constant.{Constant}
+use Rattle.mz_context.specs.declared.constants.Constant.{Constant}
 use Rattle.mz_context.specs.declared.context.Context.{Context}
 use Rattle.mz_ground.specs.declared.clause.Clause.{Clause}
 use Rattle.mz_environment.specs.declared.environment.Environment.{Environment}
@@ -17,10 +17,10 @@ use Rattle.mz_fits.specs.Matching.{Fixed, unfixed, Placed, Matched, locus, AllMa
 use Rattle.mz_fits.proofs.OneMatch.{none_some, one_match_law, one_accepted_law}
 use Rattle.mz_types.specs.Chain.{IsChain}
 use Rattle.mz_types.proofs.OneChain.{one_chain_law}
-use Rattle.mz_choice.specs.declared.applied.Applied.{Applied}
-use Rattle.mz_choice.specs.declared.wanted.Wanted.{Wanted}
-use Rattle.mz_choice.specs.declared.resolution.Resolution.{Resolution}
-use Rattle.mz_choice.specs.declared.resolution.Resolution.TheVariants.{ReadsTo, UnknownSymbol, NoNotation, UnfitArgument}
+use Rattle.mz_choice.specs.declared.choice.Applied.{Applied}
+use Rattle.mz_choice.specs.declared.choice.Wanted.{Wanted}
+use Rattle.mz_choice.specs.declared.resolve.Resolution.{Resolution}
+use Rattle.mz_choice.specs.declared.resolve.Resolution.TheVariants.{ReadsTo, UnknownSymbol, NoNotation, UnfitArgument}
 use Rattle.mz_choice.specs.Choice as co
 use Rattle.mz_choice.specs.Choice.{FirstMember, Typed, Takes, TakesAll, meaning_at, Reads, Suits, Passes, FirstPasses, is_of_symbol, is_candidate, candidates, Chosen}
 use Rattle.mz_choice.specs.Resolution as re

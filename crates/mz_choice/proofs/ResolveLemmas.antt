@@ -10,9 +10,9 @@ use Rattle.mz_ground.specs.declared.clause.Clause.{Clause}
 use Rattle.mz_environment.specs.declared.environment.Environment.{Environment}
 use Rattle.mz_environment.specs.Keys.{is_spelled}
 use Rattle.mz_fits.proofs.FitLemmas.{not_both, empty}
-use Rattle.mz_choice.specs.declared.applied.Applied.{Applied}
-use Rattle.mz_choice.specs.declared.wanted.Wanted.{Wanted}
-use Rattle.mz_choice.specs.declared.resolution.Resolution.TheVariants.{ReadsTo, UnknownSymbol, NoNotation, UnfitArgument}
+use Rattle.mz_choice.specs.declared.choice.Applied.{Applied}
+use Rattle.mz_choice.specs.declared.choice.Wanted.{Wanted}
+use Rattle.mz_choice.specs.declared.resolve.Resolution.TheVariants.{ReadsTo, UnknownSymbol, NoNotation, UnfitArgument}
 use Rattle.mz_choice.specs.Choice.{is_of_symbol, is_candidate, candidates, FirstPasses, none_passes, Chosen}
 use Rattle.mz_choice.specs.Resolution as re
 use Rattle.mz_choice.specs.Resolution.{Resolves}

@@ -12,8 +12,8 @@ use Rattle.mz_core.specs.declared.soft_type.SoftType.{SoftType}
 use Rattle.mz_core.specs.declared.notation.Meaning.{Meaning}
 use Rattle.mz_core.specs.declared.notation.Meaning.TheVariants.{OfTerm, OfLiteral, OfType}
 use Rattle.mz_fits.proofs.FitLemmas.{not_both, empty}
-use Rattle.mz_choice.specs.declared.wanted.Wanted.{Wanted}
-use Rattle.mz_choice.specs.declared.wanted.Wanted.TheVariants.{Anything, AdjectiveOf, AdjectiveOfFresh}
+use Rattle.mz_choice.specs.declared.choice.Wanted.{Wanted}
+use Rattle.mz_choice.specs.declared.choice.Wanted.TheVariants.{Anything, AdjectiveOf, AdjectiveOfFresh}
 use Rattle.mz_choice.specs.Choice as co
 use Rattle.mz_choice.specs.Choice.{EndsWith, EndsWithFresh, Suits}
 

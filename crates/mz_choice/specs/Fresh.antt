@@ -1,7 +1,7 @@
 -- Fresh constants.
 use Rattle.std.specs.Prelude.{◌≡◌, ◌++◌, ℕ, List, [], Option, None, take}
 use Rattle.mz_core.specs.declared.soft_type.SoftType.{SoftType}
-use Rattle.mz_context.specs.declared.constant.Constant.{Constant}
+use Rattle.mz_context.specs.declared.constants.Constant.{Constant}
 use Rattle.mz_context.specs.declared.context.Context.{Context}
 use Rattle.mz_context.specs.Changes.{with_constant}
 

@@ -4,14 +4,14 @@ use Rattle.mz_logic.specs.Term.{Term}
 use Rattle.mz_core.specs.declared.radix.Radix.{Radix}
 use Rattle.mz_core.specs.declared.notation.Notation.{Notation}
 use Rattle.mz_core.specs.declared.notation.Meaning.{Meaning}
-use Rattle.mz_context.specs.declared.constant.Constant.{Constant}
+use Rattle.mz_context.specs.declared.constants.Constant.{Constant}
 use Rattle.mz_context.specs.declared.context.Context.{Context}
 use Rattle.mz_ground.specs.declared.clause.Clause.{Clause}
 use Rattle.mz_environment.specs.declared.environment.Environment.{Environment}
 use Rattle.mz_fits.specs.Matching.{Fixed}
-use Rattle.mz_choice.specs.declared.applied.Applied.{Applied}
-use Rattle.mz_choice.specs.declared.wanted.Wanted.{Wanted}
-use Rattle.mz_choice.specs.declared.resolution.Resolution.{Resolution}
+use Rattle.mz_choice.specs.declared.choice.Applied.{Applied}
+use Rattle.mz_choice.specs.declared.choice.Wanted.{Wanted}
+use Rattle.mz_choice.specs.declared.resolve.Resolution.{Resolution}
 use Rattle.mz_choice.specs.Choice.{FirstMember, Reads, Chosen}
 use Rattle.mz_choice.specs.Resolution.{Resolves}
 

@@ -5,10 +5,10 @@ use Rattle.mz_core.specs.declared.notation.Meaning.{Meaning}
 use Rattle.mz_context.specs.declared.context.Context.{Context}
 use Rattle.mz_ground.specs.declared.clause.Clause.{Clause}
 use Rattle.mz_environment.specs.declared.environment.Environment.{Environment}
-use Rattle.mz_choice.specs.declared.applied.Applied.{Applied}
-use Rattle.mz_choice.specs.declared.wanted.Wanted.{Wanted}
-use Rattle.mz_choice.specs.declared.resolution.Resolution.{Resolution}
-use Rattle.mz_choice.specs.declared.resolution.Resolution.TheVariants.{ReadsTo, UnknownSymbol, NoNotation, UnfitArgument}
+use Rattle.mz_choice.specs.declared.choice.Applied.{Applied}
+use Rattle.mz_choice.specs.declared.choice.Wanted.{Wanted}
+use Rattle.mz_choice.specs.declared.resolve.Resolution.{Resolution}
+use Rattle.mz_choice.specs.declared.resolve.Resolution.TheVariants.{ReadsTo, UnknownSymbol, NoNotation, UnfitArgument}
 use Rattle.mz_choice.specs.Choice.{is_of_symbol, is_candidate, Chosen}
 
 -- the symbol has no notation; it has some, and none with these numbers of arguments; there are candidates, and none

@@ -5,12 +5,11 @@ ghost use Rattle.std.specs.List.{list_any};
 ghost use Rattle.mz_logic.specs.Constants.{occurs};
 ghost use Rattle.mz_logic.specs.declared.kind.Kind.TheVariants as kind;
 ghost use Rattle.mz_core.specs.declared.notation.Meaning.TheVariants.{OfLiteral};
-ghost use Rattle.mz_choice.specs.declared.wanted.Wanted.TheVariants.{Anything, AdjectiveOf, AdjectiveOfFresh};
+ghost use Rattle.mz_choice.specs.declared.choice.Wanted.TheVariants.{Anything, AdjectiveOf, AdjectiveOfFresh};
 ghost use Rattle.mz_choice.specs.Choice.{FirstMember, Typed, Takes, TakesAll, meaning_at, Reads, EndsWith, EndsWithFresh, Suits, is_of_symbol, is_candidate, Passes, FirstPasses, candidates, Chosen};
 
-use crate::applied::Applied;
-use crate::wanted::Wanted;
 use mz_base::numbers::Numbers;
+use mz_base::text::Text;
 use mz_context::constants::Constants;
 use mz_context::context::Context;
 use mz_core::hidden::is_of_any_object;
@@ -20,17 +19,36 @@ use mz_core::soft_type::SoftType;
 use mz_core::type_substitution::{substitute_literal, substitute_type};
 use mz_environment::environment::Environment;
 use mz_fits::fixed::Fixed;
-use mz_fits::matching::{accepted, all_match, place};
+use mz_fits::matches::{accepted, all_match, place};
 use mz_ground::clause::Clause;
 use mz_logic::beyond::Beyond;
 use mz_logic::kind::Kind;
 use mz_logic::literal::Literal;
 use mz_logic::substitution::substitute;
-use mz_logic::term::{Term, Terms};
+use mz_logic::term::{Term, Term, Terms, Terms};
 use mz_types::chain::chain_by;
 use mz_types::row_types::reversed;
 use std::alloc::{AllocError, Global};
 use std::sync::Arc;
+
+/// A symbol of the kind, of brackets the left one with the right one as `closing`, with its arguments on the left and on
+/// the right.
+#[derive(Drop)]
+pub struct Applied {
+    pub symbol: Text,
+    pub closing: Text,
+    pub kind: Kind,
+    pub left: Terms,
+    pub right: Terms,
+}
+
+/// Anything; an adjective of the subject, or of the fresh constant with the number.
+#[derive(Drop)]
+pub enum Wanted {
+    Anything,
+    AdjectiveOf(Term),
+    AdjectiveOfFresh(u32),
+}
 
 /// What is fixed behind the first member of a chain that has the formal radix's symbol and whose arguments match.
 #[tactic(auto, using(crate::proofs::ChoiceLemmas::member_rules))]

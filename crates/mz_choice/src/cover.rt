@@ -19,7 +19,7 @@ use mz_core::soft_type::SoftType;
 use mz_environment::environment::Environment;
 use mz_fits::fits::{all_fit, type_at};
 use mz_fits::fixed::Fixed;
-use mz_fits::matching::{accepted, all_match};
+use mz_fits::matches::{accepted, all_match};
 use mz_ground::clause::Clause;
 use mz_logic::term::{Term, Terms};
 use mz_types::chain::chain_by;

@@ -4,7 +4,7 @@ ghost use Rattle.mz_context.specs.Context.{next};
 ghost use Rattle.mz_choice.specs.Fresh.{fresh, keeping};
 
 use mz_base::text::Text;
-use mz_context::constant::Constant;
+use mz_context::constants::Constant;
 use mz_context::context::Context;
 use mz_core::soft_type::SoftType;
 use std::alloc::{AllocError, Global};

@@ -1,11 +1,8 @@
 //! The choice among notations, and what covers a type's adjectives.
 #![tactic(auto)]
 
-pub mod applied;
 pub mod choice;
 pub mod cover;
 pub mod fresh;
 pub mod laws;
-pub mod resolution;
 pub mod resolve;
-pub mod wanted;

@@ -7,19 +7,26 @@ ghost use Rattle.mz_choice.specs.Choice.{is_of_symbol, is_candidate};
 ghost use Rattle.mz_choice.specs.Cover.{IsCovered};
 ghost use Rattle.mz_choice.specs.Resolution.{Resolves};
 
-use crate::applied::Applied;
-use crate::choice::{chosen_by, is_candidate, is_of_symbol};
+use crate::choice::{Applied, Wanted, chosen_by, is_candidate, is_of_symbol};
 use crate::cover::is_covered_by;
-use crate::resolution::Resolution;
-use crate::wanted::Wanted;
 use mz_context::context::Context;
-use mz_core::notation::Notation;
+use mz_core::notation::{Meaning, Notation};
 use mz_core::soft_type::SoftType;
 use mz_environment::environment::Environment;
 use mz_ground::clause::Clause;
 use mz_types::known::typing;
 use std::alloc::{AllocError, Global};
 use std::sync::Arc;
+
+/// What an applied symbol reads to; or why it reads to nothing: the symbol has no notation; it has some, and none with
+/// these numbers of arguments; there are such, and none of them passes.
+#[derive(Drop)]
+pub enum Resolution {
+    ReadsTo(Meaning),
+    UnknownSymbol,
+    NoNotation,
+    UnfitArgument,
+}
 
 #[tactic(auto, using(crate::proofs::ResolveLemmas::has_rules))]
 fn has_symbol(a: &Applied, xs: &[Arc<Notation>]) -> bool

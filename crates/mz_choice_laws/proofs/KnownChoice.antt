@@ -11,7 +11,7 @@ use Rattle.mz_core.specs.declared.notation.Meaning.{Meaning}
 use Rattle.mz_core.specs.declared.notation.Meaning.TheVariants.{OfTerm, OfLiteral, OfType}
 use Rattle.mz_items.specs.Closed.{notation_closed, pattern_closed, meaning_under, meaning_fits}
 use Rattle.mz_items.proofs.RowLemmas.{all-reverse}
-use Rattle.mz_context.specs.declared.constant.Constant.{Constant}
+use Rattle.mz_context.specs.declared.constants.Constant.{Constant}
 use Rattle.mz_context.specs.declared.context.Context.{Context}
 use Rattle.mz_ground.specs.declared.clause.Clause.{Clause}
 use Rattle.mz_environment.specs.declared.environment.Environment.{Environment}
@@ -22,10 +22,10 @@ use Rattle.mz_choice.specs.Choice as co
 use Rattle.mz_choice.specs.Choice.{FirstMember, Typed, Takes, TakesAll, meaning_at, Reads, Suits, Passes, FirstPasses, is_candidate, candidates}
 use Rattle.mz_choice.specs.Resolution as re
 use Rattle.mz_choice.specs.Resolution.{Resolves}
-use Rattle.mz_choice.specs.declared.applied.Applied.{Applied}
-use Rattle.mz_choice.specs.declared.wanted.Wanted.{Wanted}
-use Rattle.mz_choice.specs.declared.resolution.Resolution.{Resolution}
-use Rattle.mz_choice.specs.declared.resolution.Resolution.TheVariants.{ReadsTo, UnknownSymbol, NoNotation, UnfitArgument}
+use Rattle.mz_choice.specs.declared.choice.Applied.{Applied}
+use Rattle.mz_choice.specs.declared.choice.Wanted.{Wanted}
+use Rattle.mz_choice.specs.declared.resolve.Resolution.{Resolution}
+use Rattle.mz_choice.specs.declared.resolve.Resolution.TheVariants.{ReadsTo, UnknownSymbol, NoNotation, UnfitArgument}
 use Rattle.mz_choice_laws.specs.Known.{term_known, radix_known, meaning_known, HasKnownTypes}
 use Rattle.mz_choice_laws.specs.KnownLaws.{KnownMeaningLaw, SuitedLaw}
 use Rattle.mz_choice_laws.proofs.ListParts.{all-filter}

@@ -6,7 +6,7 @@ use Rattle.std.proofs.lemmas.Bool.{and_parts, and_from}
 use Rattle.mz_logic.specs.declared.sym.Sym.{Sym}
 use Rattle.mz_logic.specs.Term.{Term, App, terms_of}
 use Rattle.mz_core.proofs.AllLemmas.{all-append}
-use Rattle.mz_context.specs.declared.constant.Constant.{Constant}
+use Rattle.mz_context.specs.declared.constants.Constant.{Constant}
 use Rattle.mz_ground.specs.declared.clause.Clause.{Clause}
 use Rattle.mz_fits.specs.Matching.{Fixed, unfixed, Placed, fixes, equal, unequal, no_place, Matched, locus, no_locus, constant, other_constant, symbol, other_symbol, AllMatched, all_matched, one_more, one_fails, too_few, too_many, values_of, with_value}
 use Rattle.mz_fits.proofs.OneMatch.{some-inj, none_some}

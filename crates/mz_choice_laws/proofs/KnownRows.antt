@@ -8,16 +8,16 @@ use Rattle.mz_logic.specs.declared.sym.Sym.{Sym}
 use Rattle.mz_logic.specs.Term.{Term}
 use Rattle.mz_core.specs.Closed.{term_under, type_under, adjective_under, loci_closed}
 use Rattle.mz_core.specs.declared.radix.Radix.{Radix}
-use Rattle.mz_core.specs.declared.field.Field.{Field}
+use Rattle.mz_core.specs.declared.structure.Field.{Field}
 use Rattle.mz_core.specs.declared.structure.Structure.{Structure}
 use Rattle.mz_core.specs.declared.soft_type.SoftType.{SoftType}
 use Rattle.mz_core.proofs.AllLemmas.{all-append, all-map}
 use Rattle.mz_items.specs.Closed.{structure_closed, field_under}
 use Rattle.mz_items.specs.StructureRows.{selected, field_values}
 use Rattle.mz_items.proofs.RowLemmas.{all-reverse}
-use Rattle.mz_context.specs.declared.constant.Constant.{Constant}
+use Rattle.mz_context.specs.declared.constants.Constant.{Constant}
 use Rattle.mz_ground.specs.declared.clause.Clause.{Clause}
-use Rattle.mz_environment.specs.declared.row.Row.{Row}
+use Rattle.mz_environment.specs.declared.rows.Row.{Row}
 use Rattle.mz_closed_laws.specs.ClosedClauses.{row_closed}
 use Rattle.mz_fits.specs.Fits.{LociFit}
 use Rattle.mz_fits.specs.Matching.{Fixed, unfixed, values_of, Accepted}

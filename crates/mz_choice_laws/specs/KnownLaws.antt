@@ -11,9 +11,9 @@ use Rattle.mz_closed_laws.specs.ClosedEnvironment.{IsClosedEnvironment}
 use Rattle.mz_types.specs.Chain.{IsChain}
 use Rattle.mz_choice.specs.Choice.{Suits}
 use Rattle.mz_choice.specs.Resolution.{Resolves}
-use Rattle.mz_choice.specs.declared.applied.Applied.{Applied}
-use Rattle.mz_choice.specs.declared.wanted.Wanted.{Wanted}
-use Rattle.mz_choice.specs.declared.resolution.Resolution.TheVariants.{ReadsTo}
+use Rattle.mz_choice.specs.declared.choice.Applied.{Applied}
+use Rattle.mz_choice.specs.declared.choice.Wanted.{Wanted}
+use Rattle.mz_choice.specs.declared.resolve.Resolution.TheVariants.{ReadsTo}
 use Rattle.mz_choice_laws.specs.Known.{term_known, radix_known, meaning_known, HasKnownTypes}
 
 -- the radices of a term's chain

@@ -7,7 +7,7 @@ use Rattle.mz_core.specs.Statement.{Statement}
 use Rattle.mz_context.specs.declared.context.Context.{Context}
 use Rattle.mz_context.specs.declared.labelled.LabelledStatement.{LabelledStatement}
 use Rattle.mz_environment.specs.Keys.{of_article}
-use Rattle.mz_environment.specs.declared.cited_statement.CitedStatement.{CitedStatement}
+use Rattle.mz_environment.specs.declared.cited.CitedStatement.{CitedStatement}
 use Rattle.mz_environment.specs.declared.environment.Environment.{Environment}
 use Rattle.mz_names.specs.Names.{labelled_as}
 use Rattle.mz_tree.specs.declared.chain.Next.{Next}

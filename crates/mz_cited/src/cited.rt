@@ -11,7 +11,7 @@ use mz_base::place::Place;
 use mz_context::context::Context;
 use mz_core::statement::Statement;
 use mz_core::statements::Statements;
-use mz_environment::cited_statement::CitedStatement;
+use mz_environment::cited::CitedStatement;
 use mz_environment::environment::Environment;
 use mz_names::names::labelled_as;
 use mz_tree::lists::Separated;

@@ -2,12 +2,11 @@
 use mz_base::name::Name;
 use mz_base::place::Place;
 use mz_base::text::Text;
-use mz_context::context::Context;
+use mz_context::context::{Context, SymbolCounts};
 use mz_context::labelled::LabelledStatement;
-use mz_context::symbol_counts::SymbolCounts;
 use mz_core::statement::Statement;
 use mz_core::statements::Statements;
-use mz_environment::cited_statement::CitedStatement;
+use mz_environment::cited::CitedStatement;
 use mz_environment::environment::Environment;
 use mz_logic::term::Term;
 use mz_tree::chain::Next;

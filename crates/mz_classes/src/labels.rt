@@ -5,9 +5,7 @@ ghost use Rattle.mz_congruence.specs.Congruence.{Equal};
 ghost use Rattle.mz_congruence.specs.Closing.{same, IsWithin};
 ghost use Rattle.mz_classes.specs.Labels.{Labelled, Relabelled};
 
-use mz_congruence::graph::Graph;
-use mz_congruence::node::Node;
-use mz_congruence::pair::Pair;
+use mz_congruence::graph::{Graph, Node, Pair};
 
 /// The label of a number.
 pub fn label_of(labels: &[usize], i: usize) -> usize

@@ -3,9 +3,7 @@
 //! first, and what no step finds is found by the passes that follow: so nothing rests on these tables but time.
 use crate::labels::{is_same, label_of};
 use crate::lists::Lists;
-use mz_congruence::graph::Graph;
-use mz_congruence::node::Node;
-use mz_congruence::pair::Pair;
+use mz_congruence::graph::{Graph, Node, Pair};
 use mz_congruence::signature::push_head;
 use mz_congruence::signatures::Signatures;
 use std::alloc::{AllocError, Global};

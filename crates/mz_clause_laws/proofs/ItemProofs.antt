@@ -16,7 +16,7 @@ use Rattle.mz_core.specs.declared.typed_sequent.TypedSequent.{TypedSequent}
 use Rattle.mz_core.specs.declared.soft_type.SoftType.{SoftType}
 use Rattle.mz_core.specs.declared.term_definiens.TermDefiniens.{TermDefiniens}
 use Rattle.mz_core.specs.declared.term_definiens.TermDefiniens.TheVariants.{Plain, Cases, CasesOtherwise}
-use Rattle.mz_core.specs.declared.scheme_letter.SchemeLetter.TheVariants.{OfFunctor, OfPredicate}
+use Rattle.mz_core.specs.declared.scheme.SchemeLetter.TheVariants.{OfFunctor, OfPredicate}
 use Rattle.mz_core.specs.declared.property.Property.{Property as TheProperty}
 use Rattle.mz_core.specs.declared.item.Item.{Item}
 use Rattle.mz_core.specs.declared.item.Item.TheVariants.{Axiom, AxiomScheme, Primitive, Theorem, Scheme, FunctorMeans, FunctorEquals, Predicate, Attribute, ModeMeans, Abbreviation, Notation, RedefinedFunctor, RedefinedMode, RedefinedPredicate, RedefinedAttribute, Property, Existential, Conditional, Functorial, Reduction, Identification, Structure, SetTerm, Choice}
@@ -28,7 +28,7 @@ use Rattle.mz_items.specs.DefinitionRows.{mode_type, functor_equals}
 use Rattle.mz_items.specs.RedefinitionRows.{functor_coherence, mode_coherence}
 use Rattle.mz_items.specs.Items.{owes, grants, owed_if_any}
 use Rattle.mz_items.specs.Exports.{conclusion_alone, item_statements, statements_of}
-use Rattle.mz_clauses.specs.declared.clause_group.ClauseGroup.{ClauseGroup}
+use Rattle.mz_clauses.specs.declared.clause_groups.ClauseGroup.{ClauseGroup}
 use Rattle.mz_clauses.specs.Groups.{groups_clauses}
 use Rattle.mz_clauses.specs.DefinitionClauses.{functor_type_groups, new_functor_type_groups, mode_parent_groups, new_mode_parent_groups, equality_groups}
 use Rattle.mz_clauses.specs.RegistrationClauses.{functorial_groups, conditional_groups, registered_equation_groups}

@@ -44,7 +44,7 @@ use Rattle.mz_ground.specs.declared.trigger.Trigger.TheVariants.{Term}
 use Rattle.mz_items.specs.Loci.{over}
 use Rattle.mz_items.specs.Closed.{relation_under, operation_under, unary_operation_under}
 use Rattle.mz_items.specs.PropertyRows.{locus_type, locus_values, related, applied, applied_to, inner_guard, for_one, for_both, reflexivity, irreflexivity, symmetry, asymmetry, connectedness, commutativity, idempotence, involutiveness, projectivity}
-use Rattle.mz_clauses.specs.declared.clause_group.ClauseGroup.{ClauseGroup}
+use Rattle.mz_clauses.specs.declared.clause_groups.ClauseGroup.{ClauseGroup}
 use Rattle.mz_clauses.specs.Guards.{loci_guards}
 use Rattle.mz_clauses.specs.Groups.{group_clauses, groups_clauses, literal_trigger}
 use Rattle.mz_clauses.specs.SameTypes.{same_type}

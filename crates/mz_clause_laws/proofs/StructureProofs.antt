@@ -21,7 +21,7 @@ use Rattle.mz_core.specs.Guard.{guard_literals}
 use Rattle.mz_core.specs.Hidden.{object_type}
 use Rattle.mz_core.specs.TypeSubstitution.{substitute_type}
 use Rattle.mz_core.specs.TypeStatements.{is_of_type_inside}
-use Rattle.mz_core.specs.declared.field.Field.{Field}
+use Rattle.mz_core.specs.declared.structure.Field.{Field}
 use Rattle.mz_core.specs.declared.structure.Structure.{Structure}
 use Rattle.mz_ground.specs.declared.trigger.Trigger.TheVariants.{Term, Atom}
 use Rattle.mz_items.specs.Loci.{over, variables}

@@ -3,9 +3,9 @@ use Rattle.std.specs.Prelude.{◌≡◌, true, List, [], ◌∷◌, map}
 use Rattle.std.specs.List.{list_all}
 use Rattle.mz_logic.specs.Formula.{Formula}
 use Rattle.mz_core.specs.Erasure.{erase}
-use Rattle.mz_core.specs.declared.export.Export.{Export}
+use Rattle.mz_core.specs.declared.outcome.Export.{Export}
 use Rattle.mz_core.specs.declared.item.Item.{Item}
-use Rattle.mz_core.specs.declared.scheme_letter.SchemeLetter.{SchemeLetter}
+use Rattle.mz_core.specs.declared.scheme.SchemeLetter.{SchemeLetter}
 use Rattle.mz_ground.specs.ClauseFormula.{clause_formula}
 use Rattle.mz_items.specs.Closed.{item_closed}
 use Rattle.mz_items.specs.Exports.{item_statements, statements_of}

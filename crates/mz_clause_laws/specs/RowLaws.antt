@@ -15,7 +15,7 @@ use Rattle.mz_items.specs.Loci.{over}
 use Rattle.mz_items.specs.DefinitionRows.{mode_type}
 use Rattle.mz_items.specs.RegistrationRows.{functorial, conditional}
 use Rattle.mz_items.specs.StructureRows.{grant_of_ancestors, grant_of_fields, grant_of_aggregate, grant_of_strict}
-use Rattle.mz_clauses.specs.declared.clause_group.ClauseGroup.{ClauseGroup}
+use Rattle.mz_clauses.specs.declared.clause_groups.ClauseGroup.{ClauseGroup}
 use Rattle.mz_clauses.specs.Groups.{groups_clauses}
 use Rattle.mz_clauses.specs.DefinitionClauses.{functor_type_groups, mode_parent_groups, equation_groups}
 use Rattle.mz_clauses.specs.StructureClauses.{part_groups, aggregate_groups, strict_groups}

@@ -7,7 +7,7 @@ use Rattle.mz_logic.specs.declared.literal.Literal.{Literal}
 use Rattle.mz_logic.specs.declared.literal.Literal.TheVariants.{Eq}
 use Rattle.mz_core.specs.TypeSubstitution.{substitute_type}
 use Rattle.mz_core.specs.Guard.{guard_literals}
-use Rattle.mz_core.specs.declared.field.Field.{Field}
+use Rattle.mz_core.specs.declared.structure.Field.{Field}
 use Rattle.mz_items.specs.StructureRows.{selected}
 use Rattle.mz_clauses.specs.StructureClauses.{given_guards, selection_equations}
 

@@ -1,14 +1,14 @@
 -- The clauses of items and exports.
 use Rattle.std.specs.Prelude.{List, [], ◌∷◌, ◌++◌, flat_map, length}
 use Rattle.mz_core.specs.Guard.{guard_literals}
-use Rattle.mz_core.specs.declared.export.Export.{Export}
-use Rattle.mz_core.specs.declared.scheme_letter.SchemeLetter.{SchemeLetter}
-use Rattle.mz_core.specs.declared.scheme_letter.SchemeLetter.TheVariants.{OfFunctor, OfPredicate}
+use Rattle.mz_core.specs.declared.outcome.Export.{Export}
+use Rattle.mz_core.specs.declared.scheme.SchemeLetter.{SchemeLetter}
+use Rattle.mz_core.specs.declared.scheme.SchemeLetter.TheVariants.{OfFunctor, OfPredicate}
 use Rattle.mz_core.specs.declared.item.Item.{Item}
 use Rattle.mz_core.specs.declared.item.Item.TheVariants.{Axiom, AxiomScheme, Primitive, Theorem, Scheme, FunctorMeans, FunctorEquals, Predicate, Attribute, ModeMeans, Abbreviation, Notation, RedefinedFunctor, RedefinedMode, RedefinedPredicate, RedefinedAttribute, Property, Existential, Conditional, Functorial, Reduction, Identification, Structure, SetTerm, Choice}
 use Rattle.mz_ground.specs.declared.clause.Clause.{Clause}
 use Rattle.mz_items.specs.Loci.{term_on, mode_on}
-use Rattle.mz_clauses.specs.declared.clause_group.ClauseGroup.{ClauseGroup}
+use Rattle.mz_clauses.specs.declared.clause_groups.ClauseGroup.{ClauseGroup}
 use Rattle.mz_clauses.specs.declared.item_groups.ItemGroups.{ItemGroups}
 use Rattle.mz_clauses.specs.Groups.{groups_clauses}
 use Rattle.mz_clauses.specs.DefinitionClauses.{functor_type_groups, new_functor_type_groups, mode_parent_groups, new_mode_parent_groups, equality_groups}

@@ -12,7 +12,7 @@ use Rattle.mz_core.specs.declared.term_definiens.TermDefiniens.{TermDefiniens}
 use Rattle.mz_core.specs.declared.term_definiens.TermDefiniens.TheVariants.{Plain, Cases, CasesOtherwise}
 use Rattle.mz_ground.specs.declared.trigger.Trigger.{Trigger}
 use Rattle.mz_ground.specs.declared.trigger.Trigger.TheVariants.{Term, Atom}
-use Rattle.mz_clauses.specs.declared.clause_group.ClauseGroup.{ClauseGroup}
+use Rattle.mz_clauses.specs.declared.clause_groups.ClauseGroup.{ClauseGroup}
 use Rattle.mz_clauses.specs.Guards.{loci_guards, guard_at_object}
 use Rattle.mz_clauses.specs.Groups.{one_group, group_if_any}
 

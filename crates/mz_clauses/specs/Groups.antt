@@ -7,7 +7,7 @@ use Rattle.mz_ground.specs.Variables.{has_all_below}
 use Rattle.mz_ground.specs.declared.trigger.Trigger.{Trigger}
 use Rattle.mz_ground.specs.declared.trigger.Trigger.TheVariants.{Term, Atom}
 use Rattle.mz_ground.specs.declared.clause.Clause.{Clause}
-use Rattle.mz_clauses.specs.declared.clause_group.ClauseGroup.{ClauseGroup}
+use Rattle.mz_clauses.specs.declared.clause_groups.ClauseGroup.{ClauseGroup}
 
 abbrev pub clause_group : ℕ → Trigger → List Literal → List Literal → ClauseGroup
 clause_group n r ps cs = record { variables = n; trigger = r; premises = ps; conclusions = cs }

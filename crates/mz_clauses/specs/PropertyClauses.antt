@@ -16,7 +16,7 @@ use Rattle.mz_core.specs.declared.property.PropertyForm.TheVariants.{Reflexivity
 use Rattle.mz_ground.specs.ClauseFormula.{complement}
 use Rattle.mz_ground.specs.declared.trigger.Trigger.TheVariants.{Term}
 use Rattle.mz_items.specs.PropertyRows.{locus_type, locus_values}
-use Rattle.mz_clauses.specs.declared.clause_group.ClauseGroup.{ClauseGroup}
+use Rattle.mz_clauses.specs.declared.clause_groups.ClauseGroup.{ClauseGroup}
 use Rattle.mz_clauses.specs.Guards.{loci_guards}
 use Rattle.mz_clauses.specs.Groups.{one_group, group_if_any, literal_trigger}
 use Rattle.mz_clauses.specs.SameTypes.{same_type}

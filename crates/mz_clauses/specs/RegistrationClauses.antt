@@ -8,7 +8,7 @@ use Rattle.mz_core.specs.declared.registration.ConditionalRegistration.{Conditio
 use Rattle.mz_core.specs.declared.registration.FunctorialRegistration.{FunctorialRegistration}
 use Rattle.mz_core.specs.declared.registration.EquationRegistration.{EquationRegistration}
 use Rattle.mz_ground.specs.declared.trigger.Trigger.TheVariants.{Term}
-use Rattle.mz_clauses.specs.declared.clause_group.ClauseGroup.{ClauseGroup}
+use Rattle.mz_clauses.specs.declared.clause_groups.ClauseGroup.{ClauseGroup}
 use Rattle.mz_clauses.specs.Guards.{loci_guards, guard_at_object, guard_if_any, adjective_literals, adjectives_at_object}
 use Rattle.mz_clauses.specs.Groups.{one_group, group_if_any, first_trigger}
 use Rattle.mz_clauses.specs.DefinitionClauses.{equation_groups}

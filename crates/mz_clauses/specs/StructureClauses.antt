@@ -8,12 +8,12 @@ use Rattle.mz_logic.specs.declared.literal.Literal.{Literal}
 use Rattle.mz_logic.specs.declared.literal.Literal.TheVariants as literal
 use Rattle.mz_core.specs.TypeSubstitution.{substitute_type}
 use Rattle.mz_core.specs.Guard.{guard_literals}
-use Rattle.mz_core.specs.declared.field.Field.{Field}
+use Rattle.mz_core.specs.declared.structure.Field.{Field}
 use Rattle.mz_core.specs.declared.structure.Structure.{Structure}
 use Rattle.mz_ground.specs.declared.trigger.Trigger.TheVariants.{Term, Atom}
 use Rattle.mz_items.specs.Loci.{variables}
 use Rattle.mz_items.specs.StructureRows.{aggregate, selected, selected_values, given_values}
-use Rattle.mz_clauses.specs.declared.clause_group.ClauseGroup.{ClauseGroup}
+use Rattle.mz_clauses.specs.declared.clause_groups.ClauseGroup.{ClauseGroup}
 use Rattle.mz_clauses.specs.Guards.{loci_guards, guard_at_object}
 use Rattle.mz_clauses.specs.Groups.{one_group}
 

@@ -6,9 +6,9 @@ ghost use Rattle.mz_clauses.specs.Clauses.{typing_clauses, further_clauses, equa
 use crate::clause_groups::ClauseGroups;
 use crate::groups::push_clauses;
 use crate::groups_of::{further_groups, item_equality_groups, letter_groups, typing_groups};
-use mz_core::export::Export;
 use mz_core::item::Item;
-use mz_core::scheme_letter::SchemeLetter;
+use mz_core::outcome::Export;
+use mz_core::scheme::SchemeLetter;
 use mz_ground::clauses::Clauses;
 use std::alloc::{AllocError, Global};
 

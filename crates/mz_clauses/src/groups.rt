@@ -2,8 +2,7 @@
 ghost use Rattle.std.specs.Prelude.{◌≡◌, ◌++◌, ◌∷◌, [], IfOk, OnOk, flat_map};
 ghost use Rattle.mz_clauses.specs.Groups.{one_group, group_if_any, clause_if_triggered, group_clauses, groups_clauses};
 
-use crate::clause_group::ClauseGroup;
-use crate::clause_groups::ClauseGroups;
+use crate::clause_groups::{ClauseGroup, ClauseGroups};
 use mz_ground::clause::Clause;
 use mz_ground::clauses::Clauses;
 use mz_ground::trigger::Trigger;

@@ -18,7 +18,7 @@ use crate::registration_clauses::{
 use crate::structure_clauses::{aggregate_groups, part_groups, strict_groups};
 use mz_core::definition::EqualsDefinition;
 use mz_core::item::Item;
-use mz_core::scheme_letter::SchemeLetter;
+use mz_core::scheme::SchemeLetter;
 use mz_core::soft_type::SoftType;
 use mz_core::soft_types::SoftTypes;
 use mz_core::structure::Structure;

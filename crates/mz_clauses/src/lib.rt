@@ -1,7 +1,6 @@
 //! The clauses that the items of an article give to others.
 #![tactic(auto)]
 
-pub mod clause_group;
 pub mod clause_groups;
 pub mod clauses_of;
 pub mod definition_clauses;

@@ -9,11 +9,9 @@ ghost use Rattle.mz_clauses.specs.StructureClauses.{structure_arguments, structu
 use crate::clause_groups::ClauseGroups;
 use crate::groups::{one_group, one_literal};
 use crate::guards::{guard_at_object, loci_guards, push_all, variable_count};
-use mz_core::field::Field;
-use mz_core::fields::Fields;
 use mz_core::guard::{guard_literals, with_last};
 use mz_core::soft_types::SoftTypes;
-use mz_core::structure::Structure;
+use mz_core::structure::{Field, Fields, Structure};
 use mz_core::type_substitution::substitute_type;
 use mz_ground::trigger::Trigger;
 use mz_items::loci::{count_of, variables};

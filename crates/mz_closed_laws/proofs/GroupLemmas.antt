@@ -13,7 +13,7 @@ use Rattle.mz_ground.specs.Variables.{has_all_below}
 use Rattle.mz_ground.specs.declared.trigger.Trigger.{Trigger}
 use Rattle.mz_ground.specs.declared.trigger.Trigger.TheVariants.{Term, Atom}
 use Rattle.mz_items.proofs.ItemLemmas.{three}
-use Rattle.mz_clauses.specs.declared.clause_group.ClauseGroup.{ClauseGroup}
+use Rattle.mz_clauses.specs.declared.clause_groups.ClauseGroup.{ClauseGroup}
 use Rattle.mz_clauses.specs.Groups.{one_group, group_if_any, literal_trigger, full_trigger, first_trigger, clause_where, clause_if_triggered, group_clauses, groups_clauses}
 use Rattle.mz_closed_laws.specs.ClosedClauses.{trigger_under, clause_closed}
 use Rattle.mz_closed_laws.proofs.LiteralLemmas.{all-flat}

@@ -11,8 +11,8 @@ use Rattle.mz_core.specs.declared.definition.MeansDefinition.{MeansDefinition}
 use Rattle.mz_core.specs.declared.redefinition.FunctorRedefinition.{FunctorRedefinition}
 use Rattle.mz_core.specs.declared.redefinition.ModeRedefinition.{ModeRedefinition}
 use Rattle.mz_core.specs.declared.registration.EquationRegistration.{EquationRegistration}
-use Rattle.mz_core.specs.declared.scheme_letter.SchemeLetter.{SchemeLetter}
-use Rattle.mz_core.specs.declared.scheme_letter.SchemeLetter.TheVariants.{OfFunctor, OfPredicate}
+use Rattle.mz_core.specs.declared.scheme.SchemeLetter.{SchemeLetter}
+use Rattle.mz_core.specs.declared.scheme.SchemeLetter.TheVariants.{OfFunctor, OfPredicate}
 use Rattle.mz_core.specs.declared.item.Item.{Item}
 use Rattle.mz_core.specs.declared.item.Item.TheVariants.{Axiom, AxiomScheme, Primitive, Theorem, Scheme, FunctorMeans, FunctorEquals, Predicate, Attribute, ModeMeans, Abbreviation, Notation, RedefinedFunctor, RedefinedMode, RedefinedPredicate, RedefinedAttribute, Property, Existential, Conditional, Functorial, Reduction, Identification, Structure, SetTerm, Choice}
 use Rattle.mz_core.proofs.AllLemmas.{all-append}
@@ -20,7 +20,7 @@ use Rattle.mz_items.specs.Loci.{term_on, mode_on}
 use Rattle.mz_items.specs.Closed.{item_closed, kind_fits, contents_closed, pattern_closed, is_locus, are_distinct, right_fits, formula_definiens_under, term_definiens_under, type_if_any_under, functor_meaning_under, formula_meaning_under, functor_redefinition_under, mode_redefinition_under, property_form_under, conditional_under, functorial_under, field_under, letter_closed, notation_closed}
 use Rattle.mz_items.proofs.RowLemmas.{term_on_under, mode_on_under}
 use Rattle.mz_items.proofs.ItemLemmas.{three}
-use Rattle.mz_clauses.specs.declared.clause_group.ClauseGroup.{ClauseGroup}
+use Rattle.mz_clauses.specs.declared.clause_groups.ClauseGroup.{ClauseGroup}
 use Rattle.mz_clauses.specs.declared.item_groups.ItemGroups.{ItemGroups}
 use Rattle.mz_clauses.specs.StructureClauses.{part_groups, aggregate_groups}
 use Rattle.mz_clauses.specs.Clauses.{groups_of, typing_clauses, further_clauses, equality_clauses, item_clauses, clauses_of, letter_groups, letter_clauses}

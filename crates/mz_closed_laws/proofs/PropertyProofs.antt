@@ -21,7 +21,7 @@ use Rattle.mz_ground.specs.declared.trigger.Trigger.TheVariants.{Term}
 use Rattle.mz_items.specs.Closed.{relation_under, operation_under, unary_operation_under, property_form_under}
 use Rattle.mz_items.specs.PropertyRows.{locus_type, locus_values}
 use Rattle.mz_items.proofs.ItemLemmas.{three, filled_under}
-use Rattle.mz_clauses.specs.declared.clause_group.ClauseGroup.{ClauseGroup}
+use Rattle.mz_clauses.specs.declared.clause_groups.ClauseGroup.{ClauseGroup}
 use Rattle.mz_clauses.specs.Guards.{loci_guards}
 use Rattle.mz_clauses.specs.Groups.{literal_trigger}
 use Rattle.mz_clauses.specs.SameTypes.{same_type}

@@ -10,7 +10,7 @@ use Rattle.mz_logic.specs.declared.literal.Literal.TheVariants as literal
 use Rattle.mz_core.specs.TypeSubstitution.{substitute_type}
 use Rattle.mz_core.specs.Guard.{guard_literals}
 use Rattle.mz_core.specs.Closed.{term_under, literal_under, type_under, loci_closed}
-use Rattle.mz_core.specs.declared.field.Field.{Field}
+use Rattle.mz_core.specs.declared.structure.Field.{Field}
 use Rattle.mz_core.specs.declared.structure.Structure.{Structure}
 use Rattle.mz_core.proofs.AllLemmas.{all-append}
 use Rattle.mz_ground.specs.declared.trigger.Trigger.TheVariants.{Term, Atom}

@@ -18,7 +18,7 @@ use Rattle.mz_core.specs.declared.formula_definiens.FormulaDefiniens.{FormulaDef
 use Rattle.mz_core.specs.declared.formula_definiens.FormulaDefiniens.TheVariants.{Plain, Cases, CasesOtherwise}
 use Rattle.mz_core.specs.declared.redefinition.FunctorMeaning.{FunctorMeaning}
 use Rattle.mz_core.specs.declared.redefinition.FunctorMeaning.TheVariants.{Means, Equals}
-use Rattle.mz_core.specs.declared.scheme_letter.SchemeLetter.TheVariants.{OfFunctor, OfPredicate}
+use Rattle.mz_core.specs.declared.scheme.SchemeLetter.TheVariants.{OfFunctor, OfPredicate}
 use Rattle.mz_core.specs.declared.set_term.SetTerm.{SetTerm as TheSetTerm}
 use Rattle.mz_core.specs.declared.item.Item.{Item}
 use Rattle.mz_core.specs.declared.item.Item.TheVariants.{Axiom, AxiomScheme, Primitive, Theorem, Scheme, FunctorMeans, FunctorEquals, Predicate, Attribute, ModeMeans, Abbreviation, Notation, RedefinedFunctor, RedefinedMode, RedefinedPredicate, RedefinedAttribute, Property, Existential, Conditional, Functorial, Reduction, Identification, Structure, SetTerm, Choice}
@@ -31,7 +31,7 @@ use Rattle.mz_items.specs.RedefinitionRows.{type_or}
 use Rattle.mz_items.specs.Closed.{contents_closed, set_term_closed, pattern_closed, is_only, formula_definiens_under, type_if_any_under, functor_meaning_under, formula_meaning_under, functor_redefinition_under, mode_redefinition_under, atom_redefinition_under}
 use Rattle.mz_items.proofs.RowLemmas.{loci_variables, term_on_under, predicate_on_under, attribute_on_under, mode_on_under}
 use Rattle.mz_items.proofs.ItemLemmas.{three}
-use Rattle.mz_environment.specs.declared.row.Row.{Row}
+use Rattle.mz_environment.specs.declared.rows.Row.{Row}
 use Rattle.mz_environment.specs.Rows.{row, row_on, row_where, redefined_functor_rows, redefined_mode_rows, functor_rows, mode_rows}
 use Rattle.mz_environment.specs.Unfoldings.{unfolding_where, signed_definiens, literal_unfoldings, literal_definition, literal_redefinition, mode_definition, mode_redefinition, functor_definition, functor_redefinition, unfoldings_of}
 use Rattle.mz_closed_laws.specs.ClosedClauses.{trigger_under, row_closed, unfolding_closed}

@@ -9,7 +9,7 @@ use Rattle.mz_core.specs.TypeShift.{shift_type}
 use Rattle.mz_core.specs.Hidden.{object_type}
 use Rattle.mz_core.specs.Closed.{term_under, type_under, loci_under, loci_closed}
 use Rattle.mz_core.specs.declared.soft_type.SoftType.{SoftType}
-use Rattle.mz_core.specs.declared.field.Field.{Field}
+use Rattle.mz_core.specs.declared.structure.Field.{Field}
 use Rattle.mz_core.specs.declared.structure.Structure.{Structure}
 use Rattle.mz_core.proofs.UnderTerms.{args_under-list}
 use Rattle.mz_core.proofs.AllLemmas.{all-append, all-alone}

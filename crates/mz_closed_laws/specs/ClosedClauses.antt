@@ -5,8 +5,8 @@ use Rattle.mz_core.specs.Closed.{term_under, literal_under, type_under, statemen
 use Rattle.mz_ground.specs.declared.trigger.Trigger.{Trigger}
 use Rattle.mz_ground.specs.declared.trigger.Trigger.TheVariants.{Term, Atom}
 use Rattle.mz_ground.specs.declared.clause.Clause.{Clause}
-use Rattle.mz_environment.specs.declared.row.Row.{Row}
-use Rattle.mz_environment.specs.declared.item_unfolding.Unfolding.{Unfolding}
+use Rattle.mz_environment.specs.declared.rows.Row.{Row}
+use Rattle.mz_environment.specs.declared.unfoldings.Unfolding.{Unfolding}
 
 abbrev pub trigger_under : ℕ → Trigger → Bool
 trigger_under n (Term t) = term_under n t

@@ -4,8 +4,8 @@ use Rattle.std.specs.List.{list_all}
 use Rattle.mz_core.specs.Closed.{statement_under, loci_closed}
 use Rattle.mz_core.specs.declared.registration.ExistentialRegistration.{ExistentialRegistration}
 use Rattle.mz_items.specs.Closed.{existential_under, structure_closed, notation_closed, scheme_closed}
-use Rattle.mz_environment.specs.declared.cited_statement.CitedStatement.{CitedStatement}
-use Rattle.mz_environment.specs.declared.cited_scheme.CitedScheme.{CitedScheme}
+use Rattle.mz_environment.specs.declared.cited.CitedStatement.{CitedStatement}
+use Rattle.mz_environment.specs.declared.cited.CitedScheme.{CitedScheme}
 use Rattle.mz_environment.specs.declared.environment.Environment.{Environment}
 use Rattle.mz_closed_laws.specs.ClosedClauses.{clause_closed, row_closed, unfolding_closed}
 

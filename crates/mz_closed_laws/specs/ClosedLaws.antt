@@ -5,8 +5,8 @@ use Rattle.mz_logic.specs.Constants.{occurs_in_formula}
 use Rattle.mz_logic.specs.Indices.{formula_closed}
 use Rattle.mz_core.specs.Closed.{formula_under}
 use Rattle.mz_core.specs.declared.item.Item.{Item}
-use Rattle.mz_core.specs.declared.export.Export.{Export}
-use Rattle.mz_core.specs.declared.scheme_letter.SchemeLetter.{SchemeLetter}
+use Rattle.mz_core.specs.declared.outcome.Export.{Export}
+use Rattle.mz_core.specs.declared.scheme.SchemeLetter.{SchemeLetter}
 use Rattle.mz_ground.specs.declared.clause.Clause.{Clause}
 use Rattle.mz_ground.specs.ClauseFormula.{clause_formula}
 use Rattle.mz_items.specs.Closed.{item_closed, letter_closed}

@@ -2,14 +2,14 @@
 use Rattle.std.proofs.Common.{◌≡◌, List, [], ◌∷◌, Bool, true, false, sym, ap, ◌∙◌, subst, Some}
 use Rattle.std.specs.Prelude.{Result, Ok, Err}
 use Rattle.mz_base.specs.declared.place.Place.{Place}
-use Rattle.mz_core.specs.declared.left.Left.{Left}
+use Rattle.mz_core.specs.declared.outcome.Left.{Left}
 use Rattle.mz_context.specs.declared.context.Context.{Context}
 use Rattle.mz_context.specs.declared.labelled.LabelledStatement.{LabelledStatement}
 use Rattle.mz_environment.specs.declared.environment.Environment.{Environment}
 use Rattle.mz_types.specs.Known.{typing}
 use Rattle.mz_steps.specs.Effects.{Acts}
 use Rattle.mz_steps.specs.declared.block.Block.{Block}
-use Rattle.mz_steps.specs.declared.effect.Effect.{Effect}
+use Rattle.mz_steps.specs.declared.effects.Effect.{Effect}
 use Rattle.mz_steps.specs.declared.read_step.ReadStep.{ReadStep}
 use Rattle.mz_tree_proof.specs.Reasoning.{StatedCompact}
 use Rattle.mz_tree_proof.specs.declared.equality_step.EqualityStepTree.{EqualityStepTree}

@@ -4,7 +4,7 @@ ghost use Rattle.mz_performing.specs.Begun.{Supposing};
 
 use mz_base::place::Place;
 use mz_context::context::Context;
-use mz_core::left::Left;
+use mz_core::outcome::Left;
 use mz_core::statements::Statements;
 use mz_environment::environment::Environment;
 use mz_justified::proof_fault::{ProofFault, ProofRefusal};
@@ -12,7 +12,7 @@ use mz_parts::joined::join;
 use mz_parts::propositions::read_hypotheses;
 use mz_performing::cases::state_case;
 use mz_performing::fault::resolved;
-use mz_steps::outside::Outside;
+use mz_steps::block::Outside;
 use mz_tree_proof::propositions::HypothesesTree;
 use std::alloc::Global;
 

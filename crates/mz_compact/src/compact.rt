@@ -6,7 +6,7 @@ ghost use Rattle.mz_walk.specs.Compact.{saying, compact, SaidBy, EqualityRead, C
 use crate::equalities::equality_made;
 use mz_base::place::Place;
 use mz_context::context::Context;
-use mz_core::left::Left;
+use mz_core::outcome::Left;
 use mz_core::statements::Statements;
 use mz_environment::environment::Environment;
 use mz_formulas::sentence::Sentence;

@@ -12,7 +12,7 @@ use mz_core::statements::Statements;
 use mz_formulas::sentence::Sentence;
 use mz_justified::proof_fault::ProofRefusal;
 use mz_logic::term::{Term, Terms};
-use mz_names::closing::for_all;
+use mz_names::quantifiers::for_all;
 use mz_names::refusal::Refusal;
 use mz_names::variable::Variables;
 use mz_sizes::keeps::statement_keeps;

@@ -1,6 +1,6 @@
 //! What stands behind a `now` or a `hereby`.
 ghost use Rattle.std.specs.Prelude.{◌≡◌, ◌∷◌, []};
-ghost use Rattle.mz_core.specs.declared.left.Left.{Left};
+ghost use Rattle.mz_core.specs.declared.outcome.Left.{Left};
 ghost use Rattle.mz_parts.specs.Propositions.{label_in};
 ghost use Rattle.mz_justified.specs.Answers.{OnMade};
 ghost use Rattle.mz_walk.specs.Walked.{state};
@@ -19,7 +19,7 @@ use mz_names::refusal::Refusal;
 use mz_performing::begun::step_of;
 use mz_performing::blocks::stated_in;
 use mz_performing::labels::stated_under;
-use mz_performing::performing::perform;
+use mz_performing::perform::perform;
 use mz_steps::block::Block;
 use mz_tree_proof::references::LabelTree;
 use std::alloc::Global;

@@ -2,10 +2,8 @@
 ghost use Rattle.std.specs.Prelude.{◌≡◌, ◌↔◌, IsTrue};
 
 use crate::lists::{Compared, are_equal};
-use mz_core::formula_case::FormulaCase;
-use mz_core::formula_definiens::FormulaDefiniens;
-use mz_core::term_case::TermCase;
-use mz_core::term_definiens::TermDefiniens;
+use mz_core::formula_definiens::{FormulaCase, FormulaDefiniens};
+use mz_core::term_definiens::{TermCase, TermDefiniens};
 
 impl Compared for FormulaCase {
     fn is_equal(&self, other: &FormulaCase) -> bool {

@@ -16,10 +16,10 @@ use crate::schemes::scheme_equal;
 use crate::structures::{choice_equal, set_term_equal, structure_equal};
 use mz_base::name::Name;
 use mz_base::names::Names;
-use mz_core::export::Export;
 use mz_core::item::Item;
 use mz_core::items::Items;
 use mz_core::notations::Notations;
+use mz_core::outcome::Export;
 
 /// Whether the items are equal.
 pub fn item_equal(a: &Item, b: &Item) -> bool

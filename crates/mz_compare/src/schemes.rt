@@ -2,8 +2,7 @@
 ghost use Rattle.std.specs.Prelude.{◌≡◌, ◌↔◌, IsTrue};
 
 use crate::lists::{Compared, are_equal};
-use mz_core::scheme::Scheme;
-use mz_core::scheme_letter::SchemeLetter;
+use mz_core::scheme::{Scheme, SchemeLetter};
 
 impl Compared for SchemeLetter {
     fn is_equal(&self, other: &SchemeLetter) -> bool {

@@ -2,9 +2,8 @@
 ghost use Rattle.std.specs.Prelude.{◌≡◌, ◌↔◌, IsTrue};
 
 use crate::lists::{Compared, are_equal};
-use mz_core::field::Field;
 use mz_core::set_term::{Choice, SetTerm};
-use mz_core::structure::Structure;
+use mz_core::structure::{Field, Structure};
 
 impl Compared for Field {
     fn is_equal(&self, other: &Field) -> bool {

@@ -6,9 +6,9 @@ use Rattle.std.proofs.lemmas.Bool.{eqb-true, eq-eqb, ltb-true}
 use Rattle.std.proofs.lemmas.Bool.Decides.{eqb_tells}
 use Rattle.std.proofs.lemmas.Option.{slice_get_within, get_or_from_slice_get}
 use Rattle.std.proofs.lemmas.List.{length-set}
-use Rattle.mz_congruence.specs.declared.node.Node.{Node}
-use Rattle.mz_congruence.specs.declared.pair.Pair.{Pair}
-use Rattle.mz_congruence.specs.declared.rule.Rule.{Rule}
+use Rattle.mz_congruence.specs.declared.graph.Node.{Node}
+use Rattle.mz_congruence.specs.declared.graph.Pair.{Pair}
+use Rattle.mz_congruence.specs.declared.graph.Rule.{Rule}
 use Rattle.mz_congruence.specs.declared.graph.Graph.{Graph}
 use Rattle.mz_congruence.specs.declared.signatures.Signatures.{Signatures}
 use Rattle.mz_congruence.specs.Congruence.{Equal, AllEqual, reflexive, symmetric, transitive, congruent, applied, none, more, left_of, right_of}

@@ -16,11 +16,11 @@ use Rattle.mz_ground.specs.Facts.{Fact, AreEqual, AreFacts}
 use Rattle.mz_ground.specs.declared.clause.Clause.{Clause}
 use Rattle.mz_ground.specs.declared.ground_part.Ground.{Ground}
 use Rattle.mz_ground.specs.declared.ground_equation.GroundEquation.{GroundEquation}
-use Rattle.mz_congruence.specs.declared.head.Head.{Head}
-use Rattle.mz_congruence.specs.declared.head.Head.TheVariants.{Constant, Function, Positive, Negative, Disequal, Yes}
-use Rattle.mz_congruence.specs.declared.node.Node.{Node}
-use Rattle.mz_congruence.specs.declared.pair.Pair.{Pair}
-use Rattle.mz_congruence.specs.declared.rule.Rule.{Rule}
+use Rattle.mz_congruence.specs.declared.graph.Head.{Head}
+use Rattle.mz_congruence.specs.declared.graph.Head.TheVariants.{Constant, Function, Positive, Negative, Disequal, Yes}
+use Rattle.mz_congruence.specs.declared.graph.Node.{Node}
+use Rattle.mz_congruence.specs.declared.graph.Pair.{Pair}
+use Rattle.mz_congruence.specs.declared.graph.Rule.{Rule}
 use Rattle.mz_congruence.specs.declared.graph.Graph.{Graph}
 use Rattle.mz_congruence.specs.Congruence as nodes
 use Rattle.mz_congruence.specs.Congruence.{Equal, AllEqual, left_of, right_of}

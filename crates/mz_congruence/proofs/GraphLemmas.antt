@@ -5,9 +5,9 @@ use Rattle.mz_logic.specs.declared.disjunct.Disjunct.{Disjunct}
 use Rattle.mz_ground.specs.Ground.{IsGround}
 use Rattle.mz_ground.specs.declared.clause.Clause.{Clause}
 use Rattle.mz_ground.specs.declared.ground_part.Ground.{Ground}
-use Rattle.mz_congruence.specs.declared.layout.Layout.{Layout}
-use Rattle.mz_congruence.specs.declared.node.Node.{Node}
-use Rattle.mz_congruence.specs.declared.rule.Rule.{Rule}
+use Rattle.mz_congruence.specs.declared.numbering.Layout.{Layout}
+use Rattle.mz_congruence.specs.declared.graph.Node.{Node}
+use Rattle.mz_congruence.specs.declared.graph.Rule.{Rule}
 use Rattle.mz_congruence.specs.Nodes.{nodes_of}
 use Rattle.mz_congruence.specs.Codes.{IsRule, IsGraph}
 use Rattle.mz_congruence.specs.Layout.{IsLayout}

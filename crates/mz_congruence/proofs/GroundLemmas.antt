@@ -9,7 +9,7 @@ use Rattle.mz_logic.specs.declared.disjunct.Disjunct.{Disjunct}
 use Rattle.mz_ground.specs.GroundExpression.{GroundExpression, AtomExpression, EquationExpression}
 use Rattle.mz_ground.specs.Layers.{further_layers, IsGroundExpression, IsGroundTerm, IsGroundAtom}
 use Rattle.mz_ground.specs.Ground.{term_or_zero, term_at, term_of_entry, terms_after, ground_terms, atom_expression, equation_expression, ground_atoms, ground_equations, end_of, IsGround}
-use Rattle.mz_ground.specs.declared.layer_end.LayerEnd.{LayerEnd}
+use Rattle.mz_ground.specs.declared.layer_ends.LayerEnd.{LayerEnd}
 use Rattle.mz_ground.specs.declared.clause.Clause.{Clause}
 use Rattle.mz_ground.specs.declared.ground_part.Ground.{Ground}
 use Rattle.mz_ground.specs.declared.ground_term.GroundTerm.{GroundTerm}

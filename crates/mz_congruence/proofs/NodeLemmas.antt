@@ -19,7 +19,7 @@ use Rattle.mz_ground.specs.declared.ground_term.GroundTerm.{GroundTerm}
 use Rattle.mz_ground.specs.declared.ground_term.GroundTerm.TheVariants.{Const, App}
 use Rattle.mz_ground.specs.declared.ground_atom.GroundAtom.{GroundAtom}
 use Rattle.mz_ground.specs.declared.ground_equation.GroundEquation.{GroundEquation}
-use Rattle.mz_congruence.specs.declared.node.Node.{Node}
+use Rattle.mz_congruence.specs.declared.graph.Node.{Node}
 use Rattle.mz_congruence.specs.Nodes.{term_node, atom_head, atom_node, disequal_node, yes_node, nodes_to_positive, nodes_to_negative, nodes_to_disequal, nodes_of, atom_place, disequal_place, yes_place, OfTerm, OfLiteral, OfTruth, key, key_or_truth, key_at}
 use Rattle.mz_congruence.specs.Closing.{below}
 use Rattle.mz_congruence.proofs.ListLemmas.{get_left, get_right, get_map, get_some, get_contains, contains_head, contains_tail, not_contains_nil, AllOf, all_append, all_map, all_one}

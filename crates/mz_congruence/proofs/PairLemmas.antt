@@ -12,7 +12,7 @@ use Rattle.mz_ground.specs.Ground.{IsGround}
 use Rattle.mz_ground.specs.declared.clause.Clause.{Clause}
 use Rattle.mz_ground.specs.declared.ground_part.Ground.{Ground}
 use Rattle.mz_ground.specs.declared.ground_equation.GroundEquation.{GroundEquation}
-use Rattle.mz_congruence.specs.declared.pair.Pair.{Pair}
+use Rattle.mz_congruence.specs.declared.graph.Pair.{Pair}
 use Rattle.mz_congruence.specs.Nodes.{atom_place, disequal_place, yes_place}
 use Rattle.mz_congruence.specs.Codes.{Codes, CodesAll}
 use Rattle.mz_congruence.specs.Pairing.{terms_at, PairOf, PairsOf}

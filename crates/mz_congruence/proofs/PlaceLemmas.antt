@@ -10,12 +10,12 @@ use Rattle.mz_ground.specs.declared.clause.Clause.{Clause}
 use Rattle.mz_ground.specs.declared.trigger.Trigger.{Trigger}
 use Rattle.mz_ground.specs.declared.trigger.Trigger.TheVariants as trigger
 use Rattle.mz_ground.specs.declared.ground_part.Ground.{Ground}
-use Rattle.mz_ground.specs.declared.layer_end.LayerEnd.{LayerEnd}
+use Rattle.mz_ground.specs.declared.layer_ends.LayerEnd.{LayerEnd}
 use Rattle.mz_ground.specs.declared.trigger_places.TriggerPlaces.{TriggerPlaces}
 use Rattle.mz_ground.proofs.HeadLemmas.{candidates_only, candidates_listed}
 use Rattle.mz_ground.proofs.LayerLemmas.{numbered_from_ground}
 use Rattle.mz_ground.proofs.ListLemmas.{contains_none}
-use Rattle.mz_congruence.specs.declared.rule.Rule.{Rule}
+use Rattle.mz_congruence.specs.declared.graph.Rule.{Rule}
 use Rattle.mz_congruence.specs.Pairing.{Adds, AddsRules, AreWholePlaces, Among, Below, IsPlaceRule, places_for}
 use Rattle.mz_congruence.proofs.RuleLemmas.{adds_none, adds_iff}
 

@@ -26,8 +26,8 @@ use Rattle.mz_ground.specs.declared.ground_equation.GroundEquation.{GroundEquati
 use Rattle.mz_ground.specs.declared.expression_place.ExpressionPlace.{ExpressionPlace}
 use Rattle.mz_ground.specs.declared.expression_place.ExpressionPlace.TheVariants as place
 use Rattle.mz_ground.proofs.LayerLemmas.{numbered_from_ground}
-use Rattle.mz_congruence.specs.declared.pair.Pair.{Pair}
-use Rattle.mz_congruence.specs.declared.rule.Rule.{Rule}
+use Rattle.mz_congruence.specs.declared.graph.Pair.{Pair}
+use Rattle.mz_congruence.specs.declared.graph.Rule.{Rule}
 use Rattle.mz_congruence.specs.Nodes.{disequal_place}
 use Rattle.mz_congruence.specs.Codes.{Codes, rule_of, IsRule, of_literal, of_exchange, of_instance}
 use Rattle.mz_congruence.specs.Pairing.{terms_at, PairOf, PairsOf, Adds, AddsRules, AddsInstance, Below, IsLiteralRule, IsExchangeRule, IsInstanceRule, IsPlaceRule, IsClauseRule, places_for}

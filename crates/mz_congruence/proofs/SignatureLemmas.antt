@@ -8,8 +8,8 @@ use Rattle.mz_logic.specs.declared.sym.Sym.{Sym}
 use Rattle.mz_logic.specs.Sym.{kind_number}
 use Rattle.mz_ground.specs.declared.ground_equation.GroundEquation.{GroundEquation}
 use Rattle.mz_logic.proofs.SymLemmas.{kind_number-inj}
-use Rattle.mz_congruence.specs.declared.head.Head.{Head}
-use Rattle.mz_congruence.specs.declared.head.Head.TheVariants.{Constant, Function, Positive, Negative, Disequal, Yes}
+use Rattle.mz_congruence.specs.declared.graph.Head.{Head}
+use Rattle.mz_congruence.specs.declared.graph.Head.TheVariants.{Constant, Function, Positive, Negative, Disequal, Yes}
 use Rattle.mz_congruence.specs.Signature.{head_code, sym_code, number_code, equation_code, is_list}
 use Rattle.mz_congruence.proofs.AndLemmas.{both_left, both_right}
 

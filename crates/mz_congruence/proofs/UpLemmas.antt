@@ -22,10 +22,10 @@ use Rattle.mz_ground.specs.declared.ground_term.GroundTerm.{GroundTerm}
 use Rattle.mz_ground.specs.declared.ground_term.GroundTerm.TheVariants.{Const, App}
 use Rattle.mz_ground.specs.declared.ground_atom.GroundAtom.{GroundAtom}
 use Rattle.mz_ground.specs.declared.ground_equation.GroundEquation.{GroundEquation}
-use Rattle.mz_congruence.specs.declared.head.Head.TheVariants.{Function}
-use Rattle.mz_congruence.specs.declared.node.Node.{Node}
-use Rattle.mz_congruence.specs.declared.pair.Pair.{Pair}
-use Rattle.mz_congruence.specs.declared.rule.Rule.{Rule}
+use Rattle.mz_congruence.specs.declared.graph.Head.TheVariants.{Function}
+use Rattle.mz_congruence.specs.declared.graph.Node.{Node}
+use Rattle.mz_congruence.specs.declared.graph.Pair.{Pair}
+use Rattle.mz_congruence.specs.declared.graph.Rule.{Rule}
 use Rattle.mz_congruence.specs.declared.graph.Graph.{Graph}
 use Rattle.mz_congruence.specs.Congruence as nodes
 use Rattle.mz_congruence.specs.Congruence.{Equal, AllEqual, left_of, right_of}

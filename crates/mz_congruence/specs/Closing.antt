@@ -1,9 +1,9 @@
 -- What each part of the closing of a graph keeps and reaches.
 use Rattle.std.specs.Prelude.{◌≡◌, ℕ, ◌<◌, ◌≤◌, Bool, true, false, ◌&&◌, List, ◌++◌, map, length, slice_index, slice_get, Some, Contains, nat_eq, nat_lt, ◌↔◌}
 use Rattle.std.specs.List.{list_all}
-use Rattle.mz_congruence.specs.declared.node.Node.{Node}
-use Rattle.mz_congruence.specs.declared.pair.Pair.{Pair}
-use Rattle.mz_congruence.specs.declared.rule.Rule.{Rule}
+use Rattle.mz_congruence.specs.declared.graph.Node.{Node}
+use Rattle.mz_congruence.specs.declared.graph.Pair.{Pair}
+use Rattle.mz_congruence.specs.declared.graph.Rule.{Rule}
 use Rattle.mz_congruence.specs.declared.graph.Graph.{Graph}
 use Rattle.mz_congruence.specs.declared.signatures.Signatures.{Signatures}
 use Rattle.mz_congruence.specs.Congruence.{Equal, AllEqual}

@@ -13,8 +13,8 @@ use Rattle.mz_ground.specs.declared.ground_part.Ground.{Ground}
 use Rattle.mz_ground.specs.declared.ground_atom.GroundAtom.{GroundAtom}
 use Rattle.mz_ground.specs.declared.ground_equation.GroundEquation.{GroundEquation}
 use Rattle.mz_congruence.specs.Nodes.{nodes_of, atom_place, disequal_place, yes_place}
-use Rattle.mz_congruence.specs.declared.pair.Pair.{Pair}
-use Rattle.mz_congruence.specs.declared.rule.Rule.{Rule}
+use Rattle.mz_congruence.specs.declared.graph.Pair.{Pair}
+use Rattle.mz_congruence.specs.declared.graph.Rule.{Rule}
 use Rattle.mz_congruence.specs.declared.graph.Graph.{Graph}
 
 -- the term stands at the place

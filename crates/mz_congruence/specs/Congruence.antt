@@ -1,8 +1,8 @@
 -- When two nodes of a graph are equal: the least congruence that meets the rules.
 use Rattle.std.specs.Prelude.{◌≡◌, ℕ, List, [], ◌∷◌, map, slice_get, Some, Contains}
-use Rattle.mz_congruence.specs.declared.node.Node.{Node}
-use Rattle.mz_congruence.specs.declared.pair.Pair.{Pair}
-use Rattle.mz_congruence.specs.declared.rule.Rule.{Rule}
+use Rattle.mz_congruence.specs.declared.graph.Node.{Node}
+use Rattle.mz_congruence.specs.declared.graph.Pair.{Pair}
+use Rattle.mz_congruence.specs.declared.graph.Rule.{Rule}
 use Rattle.mz_congruence.specs.declared.graph.Graph.{Graph}
 
 abbrev pub left_of : Pair → ℕ

@@ -1,7 +1,7 @@
 -- Where the nodes of a ground part stand.
 use Rattle.std.specs.Prelude.{◌≡◌, ◌+◌, length}
 use Rattle.mz_ground.specs.declared.ground_part.Ground.{Ground}
-use Rattle.mz_congruence.specs.declared.layout.Layout.{Layout}
+use Rattle.mz_congruence.specs.declared.numbering.Layout.{Layout}
 use Rattle.mz_congruence.specs.declared.numbering.Numbering.{Numbering}
 use Rattle.mz_congruence.specs.Nodes.{nodes_of, yes_place}
 

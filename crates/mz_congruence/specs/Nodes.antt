@@ -11,9 +11,9 @@ use Rattle.mz_ground.specs.declared.ground_term.GroundTerm.{GroundTerm}
 use Rattle.mz_ground.specs.declared.ground_term.GroundTerm.TheVariants.{Const, App}
 use Rattle.mz_ground.specs.declared.ground_atom.GroundAtom.{GroundAtom}
 use Rattle.mz_ground.specs.declared.ground_equation.GroundEquation.{GroundEquation}
-use Rattle.mz_congruence.specs.declared.head.Head.{Head}
-use Rattle.mz_congruence.specs.declared.head.Head.TheVariants.{Constant, Function, Positive, Negative, Disequal, Yes}
-use Rattle.mz_congruence.specs.declared.node.Node.{Node}
+use Rattle.mz_congruence.specs.declared.graph.Head.{Head}
+use Rattle.mz_congruence.specs.declared.graph.Head.TheVariants.{Constant, Function, Positive, Negative, Disequal, Yes}
+use Rattle.mz_congruence.specs.declared.graph.Node.{Node}
 
 abbrev pub term_node : GroundTerm → Node
 term_node (Const number) = record { head = Constant number; args = [] }

@@ -5,9 +5,9 @@ use lib.Pointwise.{pointwise}
 use Rattle.mz_logic.specs.declared.sym.Sym.{Sym}
 use Rattle.mz_logic.specs.Sym.{kind_number}
 use Rattle.mz_ground.specs.declared.ground_equation.GroundEquation.{GroundEquation}
-use Rattle.mz_congruence.specs.declared.head.Head.{Head}
-use Rattle.mz_congruence.specs.declared.head.Head.TheVariants.{Constant, Function, Positive, Negative, Disequal, Yes}
-use Rattle.mz_congruence.specs.declared.node.Node.{Node}
+use Rattle.mz_congruence.specs.declared.graph.Head.{Head}
+use Rattle.mz_congruence.specs.declared.graph.Head.TheVariants.{Constant, Function, Positive, Negative, Disequal, Yes}
+use Rattle.mz_congruence.specs.declared.graph.Node.{Node}
 use Rattle.mz_congruence.specs.declared.signatures.Signatures.{Signatures}
 
 abbrev pub sym_code : ℕ → Sym → List ℕ

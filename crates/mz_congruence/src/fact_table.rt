@@ -9,8 +9,8 @@ ghost use Rattle.mz_congruence.specs.GroundGraph.{HasFactsOf};
 
 use crate::classes::parent;
 use crate::ground_graph::GroundGraph;
-use crate::layout::Layout;
 use crate::lookup::{atom_place, equation_place, term_place};
+use crate::numbering::Layout;
 use mz_ground::fact_set::FactSet;
 use mz_ground::ground_part::Ground;
 use mz_logic::literal::Literal;

@@ -4,8 +4,7 @@ ghost use Rattle.mz_ground.specs.Ground.{IsGround};
 ghost use Rattle.mz_congruence.specs.GroundGraph.{IsGroundGraph};
 
 use crate::graph::Graph;
-use crate::layout::Layout;
-use crate::numbering::{Numbering, numbered};
+use crate::numbering::{Layout, Numbering, numbered};
 use crate::rules_of::rules_of;
 use mz_ground::clause::Clause;
 use mz_ground::ground_part::Ground;

@@ -3,10 +3,7 @@ ghost use Rattle.std.specs.Prelude.{◌≡◌, ◌++◌, map, IfOk, OnOk};
 ghost use Rattle.mz_congruence.specs.Nodes.{term_node, atom_head, atom_node, disequal_node, nodes_of};
 ghost use Rattle.mz_congruence.specs.Layout.{IsLayout, Numbered};
 
-use crate::head::Head;
-use crate::layout::Layout;
-use crate::node::Node;
-use crate::nodes::Nodes;
+use crate::graph::{Head, Node, Nodes};
 use mz_ground::ground_atom::GroundAtom;
 use mz_ground::ground_atoms::GroundAtoms;
 use mz_ground::ground_equation::GroundEquation;
@@ -17,6 +14,16 @@ use mz_ground::ground_terms::GroundTerms;
 use mz_ground::places::Places;
 use mz_logic::sym::Sym;
 use std::alloc::{AllocError, Global};
+
+/// The numbers of the first nodes of ground atoms with the positive sign, with the negative sign, of ground
+/// equations, and of truth. The ground terms come first.
+#[derive(Clone, Copy, Debug, PartialEq, Eq)]
+pub struct Layout {
+    pub positive: usize,
+    pub negative: usize,
+    pub disequal: usize,
+    pub yes: usize,
+}
 
 /// Nodes, and where those of each kind begin.
 #[derive(Drop)]

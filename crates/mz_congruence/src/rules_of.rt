@@ -3,22 +3,19 @@ ghost use Rattle.std.specs.Prelude.{◌≡◌, ◌<◌, ◌↔◌, ℕ, [], leng
 ghost use Rattle.mz_ground.specs.Ground.{IsGround};
 ghost use Rattle.mz_ground.specs.Growth.{IsNumbered};
 ghost use Rattle.mz_ground.specs.declared.ground_equation.GroundEquation.{GroundEquation};
-ghost use Rattle.mz_congruence.specs.declared.rule.Rule.{Rule};
+ghost use Rattle.mz_congruence.specs.declared.graph.Rule.{Rule};
 ghost use Rattle.mz_congruence.specs.Codes.{IsRule};
 ghost use Rattle.mz_congruence.specs.Layout.{IsLayout};
 ghost use Rattle.mz_congruence.specs.Pairing.{AddsRules, AddsInstance, AreWholePlaces, Among, Below, IsLiteralRule, IsExchangeRule, IsPlaceRule, IsClauseRule, places_for};
 
-use crate::layout::Layout;
-use crate::pair::Pair;
-use crate::pairing::{disequal_number, pair_of, pairs_of};
-use crate::pairs::Pairs;
-use crate::rule::Rule;
-use crate::rules::Rules;
+use crate::graph::{Pair, Pairs, Rule, Rules};
+use crate::numbering::Layout;
+use crate::pairs_of::{disequal_number, pair_of, pairs_of};
 use mz_ground::clause::Clause;
 use mz_ground::expression_place::place_like;
 use mz_ground::ground_equation::GroundEquation;
 use mz_ground::ground_part::Ground;
-use mz_ground::layer_end::LayerEnd;
+use mz_ground::layer_ends::LayerEnd;
 use mz_ground::trigger_places::TriggerPlaces;
 use mz_logic::disjunct::Disjunct;
 use mz_logic::literals::Literals;

@@ -6,9 +6,7 @@ ghost use Rattle.mz_congruence.specs.Signature.{signature};
 ghost use Rattle.mz_congruence.specs.Closing.{same, IsWithin, State, Entries, Entered, CongruentMerged, RuleApplied, RulesApplied, Saturated, Exact};
 
 use crate::classes::{flatten, root_of, union};
-use crate::graph::Graph;
-use crate::node::Node;
-use crate::pair::Pair;
+use crate::graph::{Graph, Node, Pair};
 use crate::signature::push_head;
 use crate::signatures::Signatures;
 use std::alloc::{AllocError, Global};

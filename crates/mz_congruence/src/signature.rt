@@ -2,7 +2,7 @@
 ghost use Rattle.std.specs.Prelude.{◌≡◌, ◌++◌, OnOk};
 ghost use Rattle.mz_congruence.specs.Signature.{head_code, sym_code, number_code, equation_code};
 
-use crate::head::Head;
+use crate::graph::Head;
 use mz_ground::ground_equation::GroundEquation;
 use mz_logic::sym::Sym;
 use std::alloc::AllocError;

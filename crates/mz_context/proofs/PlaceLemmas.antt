@@ -1,7 +1,7 @@
 -- The places up to the last constant.
 use Rattle.std.proofs.Common.{◌≡◌, ◌≤◌, ◌<◌, ◌-◌, ℕ, zero, suc, List, [], ◌∷◌, sym, ap, ◌∙◌, arith, length, take, Option, Some, None, get_or}
 use Rattle.std.proofs.lemmas.List.{take_all}
-use Rattle.mz_context.specs.declared.constant.Constant.{Constant}
+use Rattle.mz_context.specs.declared.constants.Constant.{Constant}
 use Rattle.mz_context.specs.Changes.{places_with, places_in_use}
 
 some_last : (ks : List (Option Constant)) (n : ℕ) (o : Option Constant) (k : Constant) → n < length ks → o ≡ get_or ks n o → o ≡ Some k → places_in_use (take (suc n) ks) ≡ suc n

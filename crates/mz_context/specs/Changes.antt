@@ -1,9 +1,9 @@
 -- How a context changes.
 use Rattle.std.specs.Prelude.{◌-◌, ℕ, zero, suc, List, [], ◌∷◌, ◌++◌, Option, Some, None, length, take, slice_set}
 use Rattle.mz_core.specs.Statement.{Statement}
-use Rattle.mz_context.specs.declared.constant.Constant.{Constant}
+use Rattle.mz_context.specs.declared.constants.Constant.{Constant}
 use Rattle.mz_context.specs.declared.labelled.LabelledStatement.{LabelledStatement}
-use Rattle.mz_context.specs.declared.mark.Mark.{Mark}
+use Rattle.mz_context.specs.declared.context.Mark.{Mark}
 use Rattle.mz_context.specs.declared.context.Context.{Context}
 
 -- how many places there are up to the last one that has a constant

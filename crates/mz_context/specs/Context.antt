@@ -1,6 +1,6 @@
 -- The constants of a context by their numbers.
 use Rattle.std.specs.Prelude.{ℕ, zero, suc, List, Option, Some, None, length, slice_get}
-use Rattle.mz_context.specs.declared.constant.Constant.{Constant}
+use Rattle.mz_context.specs.declared.constants.Constant.{Constant}
 use Rattle.mz_context.specs.declared.context.Context.{Context}
 
 -- the constant of a place, where there is one in force

@@ -3,9 +3,20 @@ ghost use Rattle.std.specs.Prelude.{◌≡◌, ◌<◌, ◌≤◌, ◌-◌, ◌+
 ghost use Rattle.mz_context.specs.Context.{numbered};
 ghost use Rattle.mz_context.specs.Changes.{places_in_use, trimmed};
 
-use crate::constant::Constant;
+use mz_base::text::Text;
+use mz_core::soft_type::SoftType;
+use mz_logic::term::Term;
 use std::alloc::{AllocError, Global};
 use std::marker::Model;
+
+/// A constant: its name, which is empty where no identifier stands for it, its type, and the term that it is equal to,
+/// where there is one.
+#[derive(Drop)]
+pub struct Constant {
+    pub name: Text,
+    pub ty: SoftType,
+    pub equal: Option<Term>,
+}
 
 /// The constants by their numbers: the first place is that of the number 1. A place whose constant is out of force
 /// has none.
@@ -17,8 +28,8 @@ pub struct Constants {
 impl Model for Constants {
     ghost use Rattle.std.specs.Prelude.{List, Option};
     ghost use Rattle.std.specs.Coded.{coded_list, coded_option};
-    ghost use Rattle.mz_context.specs.declared.constant.Constant.{Constant};
-    ghost use Rattle.mz_context.specs.contracts.constant.Constant.{the_row};
+    ghost use Rattle.mz_context.specs.declared.constants.Constant.{Constant};
+    ghost use Rattle.mz_context.specs.contracts.constants.Constant.{the_row};
 
     ghost Value = { List (Option Constant) };
 

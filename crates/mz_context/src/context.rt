@@ -3,18 +3,40 @@ ghost use Rattle.std.specs.Prelude.{◌≡◌, ◌<◌, ◌≤◌, [], None, len
 ghost use Rattle.mz_context.specs.Context.{next};
 ghost use Rattle.mz_context.specs.Changes.{with_constant, without_constant, with_statement, mark_of, cut_back};
 
-use crate::constant::Constant;
-use crate::constants::Constants;
+use crate::constants::{Constant, Constants};
 use crate::labelled::LabelledStatements;
 use crate::letters::NamedLetters;
-use crate::mark::Mark;
 use crate::private::{PrivateFunctors, PrivatePredicates};
 use crate::reserved::ReservedVariables;
-use crate::symbol_counts::SymbolCounts;
 use mz_base::text::Text;
 use mz_core::statement::Statement;
 use mz_logic::term::{Term, Terms};
 use std::alloc::{AllocError, Global};
+
+/// How far the lists of a context reach at a place.
+#[derive(Clone, Copy, Debug, PartialEq, Eq)]
+pub struct Mark {
+    pub constants: usize,
+    pub reserved: usize,
+    pub labelled: usize,
+    pub functors: usize,
+    pub predicates: usize,
+    pub letters: usize,
+}
+
+/// How many symbols of each kind an article has made.
+#[derive(Clone, Copy, Debug, PartialEq, Eq)]
+pub struct SymbolCounts {
+    pub modes: u32,
+    pub structures: u32,
+    pub attributes: u32,
+    pub functors: u32,
+    pub selectors: u32,
+    pub aggregates: u32,
+    pub predicates: u32,
+    pub functor_letters: u32,
+    pub predicate_letters: u32,
+}
 
 /// What is known at a place of an article: the number of its name, and how many symbols of each kind it has made; the
 /// constants in force; the reserved variables; the labelled statements, and the statement just before, where there is

@@ -2,7 +2,7 @@
 ghost use Rattle.std.specs.Prelude.{◌≡◌, ◌++◌, ◌∷◌, [], OnOk, OnErr};
 
 use mz_base::text::Text;
-use mz_core::scheme_letter::SchemeLetter;
+use mz_core::scheme::SchemeLetter;
 use std::alloc::{AllocError, Global};
 use std::marker::Model;
 

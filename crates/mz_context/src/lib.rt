@@ -1,13 +1,10 @@
 //! The context of a reading: what is known at a place of an article.
 #![tactic(auto)]
 
-pub mod constant;
 pub mod constants;
 pub mod context;
 pub mod gather;
 pub mod labelled;
 pub mod letters;
-pub mod mark;
 pub mod private;
 pub mod reserved;
-pub mod symbol_counts;

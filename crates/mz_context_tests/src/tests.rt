@@ -1,9 +1,8 @@
 //! Small contexts, worked out by hand.
 use mz_base::text::Text;
-use mz_context::constant::Constant;
-use mz_context::context::Context;
+use mz_context::constants::Constant;
+use mz_context::context::{Context, SymbolCounts};
 use mz_context::gather::{constants_of, reached};
-use mz_context::symbol_counts::SymbolCounts;
 use mz_core::hidden::object_type;
 use mz_core::statement::Statement;
 use mz_logic::literal::Literal;

@@ -1,12 +1,8 @@
 //! Copies of definientia. A statement is boxed while others are made: a box is let go in one way.
 ghost use Rattle.std.specs.Prelude.{◌≡◌, IfOk};
 
-use mz_core::formula_case::FormulaCase;
-use mz_core::formula_cases::FormulaCases;
-use mz_core::formula_definiens::FormulaDefiniens;
-use mz_core::term_case::TermCase;
-use mz_core::term_cases::TermCases;
-use mz_core::term_definiens::TermDefiniens;
+use mz_core::formula_definiens::{FormulaCase, FormulaCases, FormulaDefiniens};
+use mz_core::term_definiens::{TermCase, TermCases, TermDefiniens};
 use std::alloc::{AllocError, Global};
 
 /// An equal case.

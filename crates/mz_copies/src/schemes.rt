@@ -1,9 +1,7 @@
 //! Copies of schemes.
 ghost use Rattle.std.specs.Prelude.{◌≡◌, IfOk};
 
-use mz_core::scheme::Scheme;
-use mz_core::scheme_letter::SchemeLetter;
-use mz_core::scheme_letters::SchemeLetters;
+use mz_core::scheme::{Scheme, SchemeLetter, SchemeLetters};
 use std::alloc::{AllocError, Global};
 
 /// An equal letter.

@@ -1,10 +1,8 @@
 //! Copies of structures, set terms and choices.
 ghost use Rattle.std.specs.Prelude.{◌≡◌, IfOk};
 
-use mz_core::field::Field;
-use mz_core::fields::Fields;
 use mz_core::set_term::{Choice, SetTerm};
-use mz_core::structure::Structure;
+use mz_core::structure::{Field, Fields, Structure};
 use std::alloc::{AllocError, Global};
 
 /// An equal field.

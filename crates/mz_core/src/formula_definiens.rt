@@ -1,6 +1,56 @@
 //! Definientia after `means`.
-use crate::formula_cases::FormulaCases;
+ghost use Rattle.std.specs.Prelude.{◌≡◌, ◌++◌, ◌∷◌, [], OnOk, OnErr};
+
 use crate::statement::Statement;
+use std::alloc::{AllocError, Global};
+use std::marker::Model;
+
+/// A case: `definiens if condition`. The definiens stands under one more binder, that of `it`, for
+/// a functor or a mode.
+#[derive(Drop)]
+pub struct FormulaCase {
+    pub condition: Statement,
+    pub definiens: Statement,
+}
+
+/// Cases of a definiens, in the order of the text.
+#[derive(Drop)]
+pub struct FormulaCases {
+    pub items: Vec<FormulaCase>,
+}
+
+impl Model for FormulaCases {
+    ghost use Rattle.std.specs.Prelude.{List};
+    ghost use Rattle.std.specs.Coded.{coded_list};
+    ghost use Rattle.mz_core.specs.declared.formula_definiens.FormulaCase.{FormulaCase};
+    ghost use Rattle.mz_core.specs.contracts.formula_definiens.FormulaCase.{the_row};
+
+    ghost Value = { List FormulaCase };
+
+    ghost coded = { coded_list the_row.coded };
+
+    ghost view = { λ a. a.items.items };
+}
+
+impl FormulaCases {
+    /// No cases of a definiens.
+    pub fn new(alloc: Global) -> FormulaCases
+        ensures { result ≡ [] }
+    {
+        FormulaCases {
+            items: Vec::new(alloc),
+        }
+    }
+
+    /// Puts a case at the end.
+    pub fn push(&mut self, x: FormulaCase) -> Result<(), AllocError>
+        ensures ok { OnOk result (self.new ≡ self.old ++ x ∷ []) }
+        ensures err { OnErr result (self.new ≡ self.old) }
+    {
+        self.items.push(x)?;
+        Ok(())
+    }
+}
 
 /// A definiens: one formula, or cases with or without `otherwise`.
 #[derive(Drop)]

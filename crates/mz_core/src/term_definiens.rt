@@ -1,6 +1,56 @@
 //! Definientia after `equals`.
-use crate::term_cases::TermCases;
+ghost use Rattle.std.specs.Prelude.{◌≡◌, ◌++◌, ◌∷◌, [], OnOk, OnErr};
+
+use crate::statement::Statement;
 use mz_logic::term::Term;
+use std::alloc::{AllocError, Global};
+use std::marker::Model;
+
+/// A case: `definiens if condition`.
+#[derive(Drop)]
+pub struct TermCase {
+    pub condition: Statement,
+    pub definiens: Term,
+}
+
+/// Cases of a definiens, in the order of the text.
+#[derive(Drop)]
+pub struct TermCases {
+    pub items: Vec<TermCase>,
+}
+
+impl Model for TermCases {
+    ghost use Rattle.std.specs.Prelude.{List};
+    ghost use Rattle.std.specs.Coded.{coded_list};
+    ghost use Rattle.mz_core.specs.declared.term_definiens.TermCase.{TermCase};
+    ghost use Rattle.mz_core.specs.contracts.term_definiens.TermCase.{the_row};
+
+    ghost Value = { List TermCase };
+
+    ghost coded = { coded_list the_row.coded };
+
+    ghost view = { λ a. a.items.items };
+}
+
+impl TermCases {
+    /// No cases of a definiens.
+    pub fn new(alloc: Global) -> TermCases
+        ensures { result ≡ [] }
+    {
+        TermCases {
+            items: Vec::new(alloc),
+        }
+    }
+
+    /// Puts a case at the end.
+    pub fn push(&mut self, x: TermCase) -> Result<(), AllocError>
+        ensures ok { OnOk result (self.new ≡ self.old ++ x ∷ []) }
+        ensures err { OnErr result (self.new ≡ self.old) }
+    {
+        self.items.push(x)?;
+        Ok(())
+    }
+}
 
 /// A definiens: one term, or cases with or without `otherwise`.
 #[derive(Drop)]

@@ -11,7 +11,7 @@ use Rattle.mz_base.specs.declared.head.DirectiveKind.TheVariants.{Vocabularies, 
 use Rattle.mz_base.specs.declared.head.PlacedName.{PlacedName}
 use Rattle.mz_base.specs.declared.head.Directive.{Directive}
 use Rattle.mz_base.proofs.NameEqual.{Name-equal}
-use Rattle.mz_core.specs.declared.export.Export.{Export}
+use Rattle.mz_core.specs.declared.outcome.Export.{Export}
 use Rattle.mz_environment.specs.declared.environment.Environment.{Environment}
 use Rattle.mz_axioms.specs.Library.{HasName, AreExportsOf}
 use Rattle.mz_env.specs.declared.directed.Directed.{Directed}

@@ -16,7 +16,7 @@ use Rattle.mz_logic.specs.DerivesFrom.{DerivesFrom, IsNone}
 use Rattle.mz_logic.specs.declared.sequent.Sequent.{Sequent}
 use Rattle.mz_logic.proofs.SetLaws.{axiom_in_set, larger, from_list, other_axioms}
 use Rattle.mz_core.specs.declared.item.Item.{Item}
-use Rattle.mz_core.specs.declared.export.Export.{Export}
+use Rattle.mz_core.specs.declared.outcome.Export.{Export}
 use Rattle.mz_items.specs.Items.{owes, grants}
 use Rattle.mz_items.specs.Exports.{without_premises, conclusion_alone, item_statements, statements_of}
 use Rattle.mz_axioms.specs.BuiltIn.{hidden, tarski_0, tarski_a, built_in_exports}

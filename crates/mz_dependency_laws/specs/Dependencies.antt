@@ -4,7 +4,7 @@ use Rattle.mz_base.specs.declared.head.Directive.{Directive}
 use Rattle.mz_logic.specs.Formula.{Formula}
 use Rattle.mz_logic.specs.Derives.{Derives}
 use Rattle.mz_logic.specs.DerivesFrom.{DerivesFrom}
-use Rattle.mz_core.specs.declared.export.Export.{Export}
+use Rattle.mz_core.specs.declared.outcome.Export.{Export}
 use Rattle.mz_items.specs.Exports.{statements_of}
 use Rattle.mz_axioms.specs.BuiltIn.{hidden}
 use Rattle.mz_axioms.specs.Library.{HasName, DependsOn, IsBefore, Sound, AreExportsOf, added}

@@ -6,7 +6,7 @@ use Rattle.std.proofs.lemmas.Option.{same_Some}
 use Rattle.mz_base.specs.NamedText.{NamedText}
 use Rattle.mz_base.specs.declared.name.Name.{Name}
 use Rattle.mz_base.proofs.NameEqual.{Name-equal}
-use Rattle.mz_core.specs.declared.export.Export.{Export}
+use Rattle.mz_core.specs.declared.outcome.Export.{Export}
 use Rattle.mz_axioms.specs.Library.{AreInOrder}
 use Rattle.mz_axioms.proofs.AddedLemmas.{here, there}
 use Rattle.mz_corpus.specs.Article.{Article}

@@ -3,7 +3,7 @@ use Rattle.std.proofs.Common.{◌≡◌, ◌⊎◌, inl, inr, ℕ, true, List, [
 use Rattle.std.specs.Prelude.{◌==◌, ◌||◌, Option, Some, None, MatchOption, Contains}
 use Rattle.std.proofs.lemmas.List.Elements.{All-contains}
 use Rattle.mz_base.specs.Name.{is_built_in}
-use Rattle.mz_core.specs.declared.export.Export.{Export}
+use Rattle.mz_core.specs.declared.outcome.Export.{Export}
 use Rattle.mz_axioms.specs.BuiltIn.{hidden, tarski_0, tarski_a, built_in_exports}
 use Rattle.mz_axioms.specs.Library.{Sound}
 use Rattle.mz_axioms.proofs.AddedLemmas.{here, there, first_or_later}

@@ -1,7 +1,7 @@
 -- Where two lists of vocabularies, or of exports, differ first in the order of names.
 use Rattle.std.specs.Prelude.{◌≡◌, ◌<◌, ℕ, true, ◌==◌, if◌then◌else◌, List, [], ◌∷◌, Option, Some, None, is_some}
 use Rattle.mz_base.specs.NamedText.{NamedText}
-use Rattle.mz_core.specs.declared.export.Export.{Export}
+use Rattle.mz_core.specs.declared.outcome.Export.{Export}
 
 -- the value of the first element with the number, none where there is none
 abbrev pub value_at : {X V : Type 0} → (X → ℕ) → (X → Option V) → List X → ℕ → Option V

@@ -4,7 +4,7 @@ use Rattle.std.specs.Arc.{arc_value}
 use Rattle.mz_base.specs.Name.{is_built_in}
 use Rattle.mz_base.specs.declared.name.Name.{Name}
 use Rattle.mz_core.specs.declared.fault.Fault.{Fault}
-use Rattle.mz_core.specs.declared.export.Export.{Export}
+use Rattle.mz_core.specs.declared.outcome.Export.{Export}
 use Rattle.mz_corpus.specs.Article.{Article}
 use Rattle.mz_corpus.specs.Corpus.{names_of}
 use Rattle.mz_turns.specs.Row as row

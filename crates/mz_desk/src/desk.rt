@@ -50,7 +50,7 @@ impl<C: Semantics> Model for Desk<C> {
     ghost use Rattle.mz_turns.specs.Machine.{Replays};
     ghost use Rattle.mz_desk.specs.State.{State};
     ghost use Rattle.std.specs.Coded.{codes};
-    ghost use Rattle.mz_core.specs.contracts.export.Export as export_contract;
+    ghost use Rattle.mz_core.specs.contracts.outcome.Export as export_contract;
 
     ghost Value = { State };
 

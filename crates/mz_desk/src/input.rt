@@ -8,12 +8,12 @@ ghost use Rattle.mz_axioms.specs.Library.{AreInOrder};
 ghost use Rattle.mz_desk.specs.Desk.{HasText, IsJobOf, IsInputOf, DiffersIn, Stands, Strays};
 ghost use Rattle.mz_desk.specs.Difference.{AreRising, AreTexts, number_of_export};
 
-use crate::comparing::{exports_differ, is_used_by, vocabularies_differ};
+use crate::differences::{exports_differ, is_used_by, vocabularies_differ};
 use crate::job::{Job, Why};
 use mz_axioms::exports::Exports;
 use mz_base::text::Text;
 use mz_base::vocabularies::{Vocabularies, VocabularyText};
-use mz_core::export::Export;
+use mz_core::outcome::Export;
 use mz_corpus::article::Article;
 use mz_rows::links::place_of;
 use mz_rows::table::Table;

@@ -8,9 +8,8 @@ use mz_axioms::exports::Exports;
 use mz_base::name::Name;
 use mz_base::text::Text;
 use mz_base::vocabularies::Vocabularies;
-use mz_core::export::Export;
 use mz_core::fault::Faults;
-use mz_core::outcome::Outcome;
+use mz_core::outcome::{Export, Outcome};
 use mz_core::verdict::Counts;
 use mz_rows::counts::counts_of;
 use mz_rows::standing::RowState;
@@ -37,7 +36,7 @@ impl Model for Job {
     ghost use Rattle.mz_desk.specs.Job.{Job as JobValue};
     ghost use Rattle.mz_desk.specs.Difference.{AreRising, AreTexts, number_of_export};
     ghost use Rattle.std.specs.Coded.{codes};
-    ghost use Rattle.mz_core.specs.contracts.export.Export as export_contract;
+    ghost use Rattle.mz_core.specs.contracts.outcome.Export as export_contract;
 
     ghost Value = { JobValue };
 
@@ -72,7 +71,7 @@ impl<C: Semantics> Model for Done<C> {
     ghost use Rattle.mz_desk.specs.Job.{Done as DoneValue, IsOutcomeOf};
     ghost use Rattle.mz_desk.specs.Found.{IsFound, outcome_from};
     ghost use Rattle.std.specs.Coded.{codes};
-    ghost use Rattle.mz_core.specs.contracts.export.Export as export_contract;
+    ghost use Rattle.mz_core.specs.contracts.outcome.Export as export_contract;
 
     ghost Value = { DoneValue };
 

@@ -2,8 +2,8 @@
 #![tactic(auto)]
 
 pub mod claim;
-pub mod comparing;
 pub mod desk;
+pub mod differences;
 pub mod input;
 pub mod job;
 pub mod laws;

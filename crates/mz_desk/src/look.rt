@@ -2,7 +2,7 @@
 ghost use Rattle.std.specs.Prelude.{◌≡◌, ℕ, true, map, Some, slice_get, Contains, MatchOption};
 ghost use Rattle.std.specs.Arc.{arc_value};
 ghost use Rattle.mz_base.specs.Name.{is_built_in};
-ghost use Rattle.mz_core.specs.declared.export.Export.{Export};
+ghost use Rattle.mz_core.specs.declared.outcome.Export.{Export};
 ghost use Rattle.mz_corpus.specs.Article.{Article};
 ghost use Rattle.mz_corpus.specs.Corpus.{names_of};
 ghost use Rattle.mz_axioms.specs.Library.{Sound};
@@ -11,7 +11,7 @@ ghost use Rattle.mz_rows.specs.Standing.{IsRowOf};
 ghost use Rattle.mz_desk.specs.Look.{Tells, TellsExport, IsUnknown};
 
 use mz_base::name::Name;
-use mz_core::export::Export;
+use mz_core::outcome::Export;
 use mz_rows::links::place_of;
 use mz_rows::standing::Standing;
 use mz_rows::table::Table;

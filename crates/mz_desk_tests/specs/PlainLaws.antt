@@ -6,7 +6,7 @@ use Rattle.std.proofs.lemmas.Bool.{false≢true}
 use Rattle.std.proofs.lemmas.Option.{none-some}
 use Rattle.mz_base.specs.declared.name.Name.{Name}
 use Rattle.mz_core.specs.declared.fault.Fault.{Fault}
-use Rattle.mz_core.specs.declared.export.Export.{Export}
+use Rattle.mz_core.specs.declared.outcome.Export.{Export}
 use Rattle.mz_core.specs.declared.outcome.Outcome.{Outcome}
 use Rattle.mz_core.specs.declared.outcome.Outcome.TheVariants.{Accepted, Rejected}
 use Rattle.mz_axioms.specs.Names.{hidden_name}

@@ -7,7 +7,7 @@ use Rattle.mz_base.specs.Name.{text_of}
 use Rattle.mz_base.specs.declared.name.Name.{Name}
 use Rattle.mz_base.specs.declared.place.Place.{Place}
 use Rattle.mz_core.specs.declared.item.Item.{Item}
-use Rattle.mz_core.specs.declared.export.Export.{Export}
+use Rattle.mz_core.specs.declared.outcome.Export.{Export}
 use Rattle.mz_items.specs.Exports.{notations_of}
 use Rattle.mz_axioms.specs.Names.{hidden_name}
 use Rattle.mz_axioms.proofs.BuiltInLemmas.{name-hidden}

@@ -6,7 +6,7 @@ use Rattle.std.proofs.lemmas.Option.{slice_get_within, get_or_from_slice_get}
 use Rattle.mz_base.specs.declared.name.Name.{Name}
 use Rattle.mz_base.specs.declared.head.DirectiveKind.{DirectiveKind}
 use Rattle.mz_core.specs.declared.item.Item.{Item}
-use Rattle.mz_core.specs.declared.export.Export.{Export}
+use Rattle.mz_core.specs.declared.outcome.Export.{Export}
 use Rattle.mz_environment.specs.Cited.{at_start, numbered}
 use Rattle.mz_environment.specs.Environment.{no_environment, joined, of_item}
 use Rattle.mz_environment.specs.declared.numbering.Numbering.{Numbering}

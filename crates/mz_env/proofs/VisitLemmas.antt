@@ -4,7 +4,7 @@ use Rattle.std.specs.Prelude.{take, Option, Some, None}
 use Rattle.std.proofs.Math.Seq.{take-suc}
 use Rattle.std.proofs.lemmas.List.{take_all}
 use Rattle.mz_base.specs.declared.name.Name.{Name}
-use Rattle.mz_core.specs.declared.export.Export.{Export}
+use Rattle.mz_core.specs.declared.outcome.Export.{Export}
 use Rattle.mz_env.specs.Symbols.{is_among}
 use Rattle.mz_env.specs.Visits.{export_named, Visits, no_more, again, absent, let_in}
 

@@ -5,7 +5,7 @@ use Rattle.std.proofs.lemmas.List.{drop_all}
 use Rattle.mz_base.specs.Name.{text_of}
 use Rattle.mz_base.specs.declared.name.Name.{Name}
 use Rattle.mz_base.specs.declared.head.Directive.{Directive}
-use Rattle.mz_core.specs.declared.export.Export.{Export}
+use Rattle.mz_core.specs.declared.outcome.Export.{Export}
 use Rattle.mz_axioms.specs.Names.{hidden_name}
 use Rattle.mz_axioms.proofs.BuiltInLemmas.{name-hidden}
 use Rattle.mz_environment.specs.Cited.{at_start}

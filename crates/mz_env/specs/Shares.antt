@@ -3,7 +3,7 @@ use Rattle.std.specs.Prelude.{Bool, true, false, if◌then◌else◌, List, [], 
 use Rattle.mz_base.specs.declared.name.Name.{Name}
 use Rattle.mz_base.specs.declared.head.DirectiveKind.{DirectiveKind}
 use Rattle.mz_base.specs.declared.head.DirectiveKind.TheVariants.{Vocabularies, Notations, Constructors, Registrations, Definitions, Theorems, Schemes, Requirements, Equalities, Expansions}
-use Rattle.mz_core.specs.declared.export.Export.{Export}
+use Rattle.mz_core.specs.declared.outcome.Export.{Export}
 use Rattle.mz_core.specs.declared.item.Item.{Item}
 use Rattle.mz_core.specs.declared.item.Item.TheVariants as item
 use Rattle.mz_items.specs.Exports.{notations_of}

@@ -1,7 +1,7 @@
 -- Which articles are let in with a list of articles: each with its dependencies before it, and once.
 use Rattle.std.specs.Prelude.{◌≡◌, ℕ, true, false, nat_eq, if◌then◌else◌, List, [], ◌∷◌, ◌++◌, Option, Some, None}
 use Rattle.mz_base.specs.declared.name.Name.{Name}
-use Rattle.mz_core.specs.declared.export.Export.{Export}
+use Rattle.mz_core.specs.declared.outcome.Export.{Export}
 use Rattle.mz_env.specs.Symbols.{is_among}
 
 -- the first export with the name

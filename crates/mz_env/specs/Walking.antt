@@ -1,7 +1,7 @@
 -- What names let in, behind an environment that is there.
 use Rattle.std.specs.Prelude.{◌≡◌, List, Option, None, Some, Result, Ok, Err}
 use Rattle.mz_base.specs.declared.name.Name.{Name}
-use Rattle.mz_core.specs.declared.export.Export.{Export}
+use Rattle.mz_core.specs.declared.outcome.Export.{Export}
 use Rattle.mz_environment.specs.declared.environment.Environment.{Environment}
 use Rattle.mz_env.specs.declared.directed.Directed.{Directed}
 use Rattle.mz_env.specs.declared.env_fault.EnvFault.{EnvFault}

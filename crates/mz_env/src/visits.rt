@@ -7,7 +7,7 @@ use crate::articles::Articles;
 use mz_axioms::exports::Exports;
 use mz_base::name::Name;
 use mz_base::names::Names;
-use mz_core::export::Export;
+use mz_core::outcome::Export;
 use std::alloc::{AllocError, Global};
 use std::sync::Arc;
 

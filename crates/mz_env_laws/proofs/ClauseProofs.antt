@@ -7,7 +7,7 @@ use Rattle.mz_core.specs.Hidden.{is_of_any_object}
 use Rattle.mz_core.specs.declared.structure.Structure.{Structure}
 use Rattle.mz_core.specs.declared.item.Item.{Item}
 use Rattle.mz_core.specs.declared.item.Item.TheVariants as item
-use Rattle.mz_core.specs.declared.export.Export.{Export}
+use Rattle.mz_core.specs.declared.outcome.Export.{Export}
 use Rattle.mz_ground.specs.declared.clause.Clause.{Clause}
 use Rattle.mz_clauses.specs.Guards.{loci_guards, guard_at_object}
 use Rattle.mz_clauses.specs.Groups.{groups_clauses}
@@ -15,7 +15,7 @@ use Rattle.mz_clauses.specs.StructureClauses.{part_groups, aggregate_groups}
 use Rattle.mz_clauses.specs.Clauses.{typing_clauses, further_clauses, equality_clauses, item_clauses, clauses_of}
 use Rattle.mz_environment.specs.Rows.{functor_rows, mode_rows}
 use Rattle.mz_environment.specs.Environment.{joined, of_item, structures_of}
-use Rattle.mz_environment.specs.declared.row.Row.{Row}
+use Rattle.mz_environment.specs.declared.rows.Row.{Row}
 use Rattle.mz_environment.specs.declared.numbering.Numbering.{Numbering}
 use Rattle.mz_environment.specs.declared.environment.Environment.{Environment}
 use Rattle.mz_row_laws.specs.RowLaws.{row_mode, HasClause, HasTypeClauses, HasParentClauses}

@@ -6,7 +6,7 @@ use Rattle.mz_logic.specs.Formula.{Formula}
 use Rattle.mz_logic.specs.Derives.{Derives}
 use Rattle.mz_logic.proofs.Each.{axiom_derives}
 use Rattle.mz_core.specs.declared.item.Item.{Item}
-use Rattle.mz_core.specs.declared.export.Export.{Export}
+use Rattle.mz_core.specs.declared.outcome.Export.{Export}
 use Rattle.mz_ground.specs.ClauseFormula.{clause_formula}
 use Rattle.mz_ground.specs.declared.clause.Clause.{Clause}
 use Rattle.mz_items.specs.Closed.{item_closed}
@@ -18,7 +18,7 @@ use Rattle.mz_clause_laws.proofs.ItemProofs.{item_law}
 use Rattle.mz_unfolding_laws.specs.UnfoldingLaw.{Unfolds, AllUnfold}
 use Rattle.mz_unfolding_laws.proofs.UnfoldingProofs.{unfolding_law}
 use Rattle.mz_environment.specs.Unfoldings.{unfoldings_of}
-use Rattle.mz_environment.specs.declared.item_unfolding.Unfolding.{Unfolding}
+use Rattle.mz_environment.specs.declared.unfoldings.Unfolding.{Unfolding}
 use Rattle.mz_environment.specs.declared.environment.Environment.{Environment}
 use Rattle.mz_env_laws.specs.Entries.{IsOfExports, SomeItem, AreOfItems}
 use Rattle.mz_env_laws.specs.DerivedLaws.{AreSaid, SaidLaw, ClausesLaw, UnfoldingsLaw}

@@ -11,7 +11,7 @@ use Rattle.mz_core.specs.declared.structure.Structure.{Structure}
 use Rattle.mz_core.specs.declared.notation.Notation.{Notation}
 use Rattle.mz_core.specs.declared.registration.ExistentialRegistration.{ExistentialRegistration}
 use Rattle.mz_core.specs.declared.item.Item.{Item}
-use Rattle.mz_core.specs.declared.export.Export.{Export}
+use Rattle.mz_core.specs.declared.outcome.Export.{Export}
 use Rattle.mz_items.specs.Exports.{notations_of}
 use Rattle.mz_ground.specs.declared.clause.Clause.{Clause}
 use Rattle.mz_clauses.specs.Clauses.{typing_clauses, further_clauses, equality_clauses}
@@ -19,10 +19,10 @@ use Rattle.mz_environment.specs.Rows.{functor_rows, mode_rows}
 use Rattle.mz_environment.specs.Unfoldings.{unfoldings_of}
 use Rattle.mz_environment.specs.Cited.{at_start, numbered, statements_cited, schemes_cited}
 use Rattle.mz_environment.specs.Environment.{no_environment, joined, of_item, structures_of, sethoods_of, existentials_of}
-use Rattle.mz_environment.specs.declared.row.Row.{Row}
-use Rattle.mz_environment.specs.declared.item_unfolding.Unfolding.{Unfolding}
-use Rattle.mz_environment.specs.declared.cited_statement.CitedStatement.{CitedStatement}
-use Rattle.mz_environment.specs.declared.cited_scheme.CitedScheme.{CitedScheme}
+use Rattle.mz_environment.specs.declared.rows.Row.{Row}
+use Rattle.mz_environment.specs.declared.unfoldings.Unfolding.{Unfolding}
+use Rattle.mz_environment.specs.declared.cited.CitedStatement.{CitedStatement}
+use Rattle.mz_environment.specs.declared.cited.CitedScheme.{CitedScheme}
 use Rattle.mz_environment.specs.declared.numbering.Numbering.{Numbering}
 use Rattle.mz_environment.specs.declared.environment.Environment.{Environment}
 use Rattle.mz_env.specs.Symbols.{registration_in}

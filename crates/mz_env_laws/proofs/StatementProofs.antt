@@ -12,7 +12,7 @@ use Rattle.mz_core.specs.declared.typed_sequent.TypedSequent.{TypedSequent}
 use Rattle.mz_core.specs.declared.soft_type.SoftType.{SoftType}
 use Rattle.mz_core.specs.declared.item.Item.{Item}
 use Rattle.mz_core.specs.declared.item.Item.TheVariants.{Axiom, AxiomScheme, Primitive, Theorem, Scheme, FunctorMeans, FunctorEquals, Predicate, Attribute, ModeMeans, Abbreviation, Notation, RedefinedFunctor, RedefinedMode, RedefinedPredicate, RedefinedAttribute, Property, Existential, Conditional, Functorial, Reduction, Identification, Structure, SetTerm, Choice}
-use Rattle.mz_core.specs.declared.export.Export.{Export}
+use Rattle.mz_core.specs.declared.outcome.Export.{Export}
 use Rattle.mz_items.specs.Exports.{conclusion_alone, item_statements}
 use Rattle.mz_items.specs.Loci.{over}
 use Rattle.mz_items.specs.DefinitionRows.{functor_meaning, equal_functor_meaning, predicate_meaning, attribute_meaning, mode_meaning}
@@ -22,7 +22,7 @@ use Rattle.mz_clause_laws.specs.RowLaws.{AllFollow}
 use Rattle.mz_clause_laws.proofs.ItemProofs.{owed_follows}
 use Rattle.mz_row_laws.proofs.MemberLemmas.{in_one}
 use Rattle.mz_environment.specs.Cited.{theorem_of, statement_cited, statements_cited}
-use Rattle.mz_environment.specs.declared.cited_statement.CitedStatement.{CitedStatement}
+use Rattle.mz_environment.specs.declared.cited.CitedStatement.{CitedStatement}
 use Rattle.mz_environment.specs.declared.numbering.Numbering.{Numbering}
 use Rattle.mz_environment.specs.declared.environment.Environment.{Environment}
 use Rattle.mz_env_laws.specs.Entries.{IsOfExports, SomeItem, AreOfItems}

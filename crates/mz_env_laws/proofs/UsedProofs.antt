@@ -7,7 +7,7 @@ use Rattle.mz_base.specs.declared.head.Directive.{Directive}
 use Rattle.mz_base.specs.declared.head.DirectiveKind.{DirectiveKind}
 use Rattle.mz_base.specs.declared.head.DirectiveKind.TheVariants.{Vocabularies, Notations, Constructors, Registrations, Definitions, Theorems, Schemes, Requirements, Equalities, Expansions}
 use Rattle.mz_core.specs.declared.item.Item.{Item}
-use Rattle.mz_core.specs.declared.export.Export.{Export}
+use Rattle.mz_core.specs.declared.outcome.Export.{Export}
 use Rattle.mz_axioms.specs.Names.{hidden_name}
 use Rattle.mz_environment.specs.Cited.{at_start}
 use Rattle.mz_environment.specs.Environment.{no_environment, joined}

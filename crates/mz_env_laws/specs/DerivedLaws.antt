@@ -4,15 +4,15 @@ use Rattle.mz_logic.specs.Formula.{Formula}
 use Rattle.mz_logic.specs.Derives.{Derives}
 use Rattle.mz_core.specs.Erasure.{erase}
 use Rattle.mz_core.specs.declared.item.Item.{Item}
-use Rattle.mz_core.specs.declared.export.Export.{Export}
+use Rattle.mz_core.specs.declared.outcome.Export.{Export}
 use Rattle.mz_ground.specs.ClauseFormula.{clause_formula}
 use Rattle.mz_ground.specs.declared.clause.Clause.{Clause}
 use Rattle.mz_items.specs.Exports.{item_statements, statements_of}
 use Rattle.mz_axioms.specs.Library.{HasClosedItems}
 use Rattle.mz_clause_laws.specs.RowLaws.{AllFollow}
 use Rattle.mz_unfolding_laws.specs.UnfoldingLaw.{Unfolds}
-use Rattle.mz_environment.specs.declared.item_unfolding.Unfolding.{Unfolding}
-use Rattle.mz_environment.specs.declared.cited_statement.CitedStatement.{CitedStatement}
+use Rattle.mz_environment.specs.declared.unfoldings.Unfolding.{Unfolding}
+use Rattle.mz_environment.specs.declared.cited.CitedStatement.{CitedStatement}
 use Rattle.mz_environment.specs.declared.environment.Environment.{Environment}
 use Rattle.mz_env_laws.specs.Entries.{IsOfExports, AreOfItems}
 

@@ -4,14 +4,14 @@ use Rattle.mz_base.specs.declared.head.Directive.{Directive}
 use Rattle.mz_core.specs.Hidden.{is_of_any_object}
 use Rattle.mz_core.specs.declared.structure.Structure.{Structure}
 use Rattle.mz_core.specs.declared.item.Item.{Item}
-use Rattle.mz_core.specs.declared.export.Export.{Export}
+use Rattle.mz_core.specs.declared.outcome.Export.{Export}
 use Rattle.mz_ground.specs.declared.clause.Clause.{Clause}
 use Rattle.mz_clauses.specs.Groups.{groups_clauses}
 use Rattle.mz_clauses.specs.StructureClauses.{part_groups, aggregate_groups}
 use Rattle.mz_clauses.specs.Clauses.{clauses_of}
 use Rattle.mz_axioms.specs.Library.{HasClosedItems}
 use Rattle.mz_environment.specs.Environment.{joined, of_item}
-use Rattle.mz_environment.specs.declared.row.Row.{Row}
+use Rattle.mz_environment.specs.declared.rows.Row.{Row}
 use Rattle.mz_environment.specs.declared.numbering.Numbering.{Numbering}
 use Rattle.mz_environment.specs.declared.environment.Environment.{Environment}
 use Rattle.mz_closed_laws.specs.ClosedEnvironment.{IsClosedEnvironment}

@@ -7,7 +7,7 @@ use Rattle.mz_logic.specs.Term.{App, list_of, terms_of}
 use Rattle.mz_core.specs.declared.soft_type.SoftType.{SoftType}
 use Rattle.mz_ground.specs.Variables.{has_all_below}
 use Rattle.mz_ground.specs.declared.trigger.Trigger.TheVariants.{Term}
-use Rattle.mz_environment.specs.declared.row.Row.{Row}
+use Rattle.mz_environment.specs.declared.rows.Row.{Row}
 use Rattle.mz_environment.specs.Rows.{row, row_where, redefined_functor_rows}
 
 list_back : (ts : List term.Term) → list_of (terms_of ts) ≡ ts

@@ -6,8 +6,8 @@ use Rattle.mz_core.specs.declared.item.Item.{Item}
 use Rattle.mz_core.specs.declared.item.Item.TheVariants as item
 use Rattle.mz_items.specs.Items.{definitional_theorem}
 use Rattle.mz_environment.specs.declared.numbering.Numbering.{Numbering}
-use Rattle.mz_environment.specs.declared.cited_statement.CitedStatement.{CitedStatement}
-use Rattle.mz_environment.specs.declared.cited_scheme.CitedScheme.{CitedScheme}
+use Rattle.mz_environment.specs.declared.cited.CitedStatement.{CitedStatement}
+use Rattle.mz_environment.specs.declared.cited.CitedScheme.{CitedScheme}
 
 -- the theorem that an item states
 abbrev pub theorem_of : Item → Option Statement

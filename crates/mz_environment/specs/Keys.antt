@@ -9,10 +9,10 @@ use Rattle.mz_ground.specs.declared.trigger.Trigger.TheVariants as trigger
 use Rattle.mz_core.specs.declared.notation.Notation.{Notation}
 use Rattle.mz_core.specs.declared.registration.ExistentialRegistration.{ExistentialRegistration}
 use Rattle.mz_core.specs.declared.structure.Structure.{Structure}
-use Rattle.mz_environment.specs.declared.row.Row.{Row}
-use Rattle.mz_environment.specs.declared.cited_statement.CitedStatement.{CitedStatement}
-use Rattle.mz_environment.specs.declared.cited_scheme.CitedScheme.{CitedScheme}
-use Rattle.mz_environment.specs.declared.item_unfolding.Unfolding.{Unfolding}
+use Rattle.mz_environment.specs.declared.rows.Row.{Row}
+use Rattle.mz_environment.specs.declared.cited.CitedStatement.{CitedStatement}
+use Rattle.mz_environment.specs.declared.cited.CitedScheme.{CitedScheme}
+use Rattle.mz_environment.specs.declared.unfoldings.Unfolding.{Unfolding}
 
 -- the parts of a symbol
 abbrev pub sym_key : Sym → (ℕ × ℕ) × ℕ

@@ -20,7 +20,7 @@ use Rattle.mz_ground.specs.declared.trigger.Trigger.TheVariants.{Term, Atom}
 use Rattle.mz_items.specs.Loci.{term_on, predicate_on, attribute_on, mode_on}
 use Rattle.mz_items.specs.RedefinitionRows.{type_or}
 use Rattle.mz_environment.specs.Rows.{is_bare, is_mode, has_loci}
-use Rattle.mz_environment.specs.declared.item_unfolding.Unfolding.{Unfolding}
+use Rattle.mz_environment.specs.declared.unfoldings.Unfolding.{Unfolding}
 
 abbrev pub unfolding_of : List SoftType → Trigger → Statement → Unfolding
 unfolding_of loci r d = record { loci = loci; head = r; definiens = d }

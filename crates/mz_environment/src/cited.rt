@@ -1,12 +1,12 @@
 //! What may be cited of an item.
-ghost use Rattle.std.specs.Prelude.{◌≡◌, ◌∷◌, [], IfOk, Some, true, false};
+ghost use Rattle.std.specs.Prelude.{◌≡◌, ◌∷◌, [], IfOk, Some, true, false, ◌++◌, map, OnOk};
 ghost use Rattle.mz_items.specs.Items.{definitional_theorem};
 ghost use Rattle.mz_environment.specs.Cited.{theorem_of, scheme_of, is_some, statement_cited, scheme_cited, statements_cited, schemes_cited};
+ghost use Rattle.std.specs.List.{filter};
+ghost use Rattle.std.specs.Arc.{arc_value};
+ghost use Rattle.mz_environment.specs.Keys.{scheme_of_article, of_article};
 
-use crate::cited_scheme::CitedScheme;
-use crate::cited_schemes::CitedSchemes;
-use crate::cited_statement::CitedStatement;
-use crate::cited_statements::CitedStatements;
+use crate::keys::ByArticle;
 use crate::numbering::Numbering;
 use mz_copies::schemes::scheme_copy;
 use mz_core::item::Item;
@@ -14,7 +14,144 @@ use mz_core::redefinition::FunctorMeaning;
 use mz_core::scheme::Scheme;
 use mz_core::statement::Statement;
 use mz_items::theses::definitional_theorem;
+use mz_table::table::Table;
 use std::alloc::{AllocError, Global};
+use std::marker::Model;
+use std::sync::Arc;
+
+/// A scheme, with the number of its article's name and its own number there, from 1 in the order of the text.
+#[derive(Drop)]
+pub struct CitedScheme {
+    pub article: u64,
+    pub number: u64,
+    pub scheme: Scheme,
+}
+
+/// Schemes that may be cited, the latest one last, with those of each article apart.
+#[derive(Drop)]
+pub struct CitedSchemes {
+    table: Table<u64, CitedScheme, ByArticle>,
+}
+
+impl Model for CitedSchemes {
+    ghost use Rattle.std.specs.Prelude.{List};
+    ghost use Rattle.std.specs.Coded.{coded_list};
+    ghost use Rattle.mz_environment.specs.declared.cited.CitedScheme.{CitedScheme};
+    ghost use Rattle.mz_environment.specs.contracts.cited.CitedScheme.{the_row};
+
+    ghost Value = { List CitedScheme };
+
+    ghost coded = { coded_list the_row.coded };
+
+    ghost view = { λ a. a.table };
+}
+
+impl CitedSchemes {
+    /// None.
+    pub fn new(alloc: Global) -> CitedSchemes
+        ensures { result ≡ [] }
+    {
+        CitedSchemes {
+            table: Table::new(alloc),
+        }
+    }
+
+    /// All of them, in their order.
+    pub fn as_slice(&self) -> &[Arc<CitedScheme>]
+        ensures { map arc_value result.now ≡ self.now }
+    {
+        self.table.as_slice()
+    }
+
+    /// The schemes of the article, in their order. The others aren't looked at.
+    pub fn of(&self, article: u64) -> &[Arc<CitedScheme>]
+        ensures { map arc_value result.now ≡ filter (scheme_of_article article) self.now }
+    {
+        self.table.of(&article)
+    }
+
+    /// Puts one at the end.
+    pub fn push(&mut self, x: CitedScheme) -> Result<(), AllocError>
+        ensures { OnOk result (self.new ≡ self.old ++ x ∷ []) }
+    {
+        self.table.push(x)
+    }
+
+    /// Puts others at the end, which are shared.
+    pub fn append(&mut self, more: &CitedSchemes) -> Result<(), AllocError>
+        ensures { OnOk result (self.new ≡ self.old ++ more.now) }
+    {
+        self.table.append_shared(&more.table)
+    }
+}
+
+/// A theorem or a definitional theorem, with the number of its article's name and its own number there, from
+/// 1: theorems and definitional theorems are numbered apart, in the order of the text.
+#[derive(Drop)]
+pub struct CitedStatement {
+    pub article: u64,
+    pub is_definition: bool,
+    pub number: u64,
+    pub statement: Statement,
+}
+
+/// Statements that may be cited, the latest one last, with those of each article apart.
+#[derive(Drop)]
+pub struct CitedStatements {
+    table: Table<u64, CitedStatement, ByArticle>,
+}
+
+impl Model for CitedStatements {
+    ghost use Rattle.std.specs.Prelude.{List};
+    ghost use Rattle.std.specs.Coded.{coded_list};
+    ghost use Rattle.mz_environment.specs.declared.cited.CitedStatement.{CitedStatement};
+    ghost use Rattle.mz_environment.specs.contracts.cited.CitedStatement.{the_row};
+
+    ghost Value = { List CitedStatement };
+
+    ghost coded = { coded_list the_row.coded };
+
+    ghost view = { λ a. a.table };
+}
+
+impl CitedStatements {
+    /// None.
+    pub fn new(alloc: Global) -> CitedStatements
+        ensures { result ≡ [] }
+    {
+        CitedStatements {
+            table: Table::new(alloc),
+        }
+    }
+
+    /// All of them, in their order.
+    pub fn as_slice(&self) -> &[Arc<CitedStatement>]
+        ensures { map arc_value result.now ≡ self.now }
+    {
+        self.table.as_slice()
+    }
+
+    /// The statements of the article, in their order. The others aren't looked at.
+    pub fn of(&self, article: u64) -> &[Arc<CitedStatement>]
+        ensures { map arc_value result.now ≡ filter (of_article article) self.now }
+    {
+        self.table.of(&article)
+    }
+
+    /// Puts one at the end.
+    pub fn push(&mut self, x: CitedStatement) -> Result<(), AllocError>
+        ensures { OnOk result (self.new ≡ self.old ++ x ∷ []) }
+    {
+        self.table.push(x)
+    }
+
+    /// Puts others at the end, which are shared.
+    pub fn append(&mut self, more: &CitedStatements) -> Result<(), AllocError>
+        ensures { OnOk result (self.new ≡ self.old ++ more.now) }
+    {
+        self.table.append_shared(&more.table)
+    }
+}
 
 /// Whether the item states a theorem.
 pub fn is_theorem(item: &Item) -> bool

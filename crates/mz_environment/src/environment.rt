@@ -3,10 +3,9 @@ ghost use Rattle.std.specs.Prelude.{◌≡◌, IfOk, OnOk};
 ghost use Rattle.mz_environment.specs.Cited.{numbered};
 ghost use Rattle.mz_environment.specs.Environment.{no_environment, joined, of_item};
 
-use crate::cited_schemes::CitedSchemes;
-use crate::cited_statements::CitedStatements;
+use crate::cited::{CitedSchemes, CitedStatements};
 use crate::existentials::Existentials;
-use crate::joining::join;
+use crate::join::join;
 use crate::notation_table::NotationTable;
 use crate::numbering::Numbering;
 use crate::rows::Rows;

@@ -4,10 +4,9 @@ ghost use Rattle.std.specs.Str.{bytes_eq};
 ghost use Rattle.mz_environment.specs.Keys.{sym_key, has_key, head_symbol, head_has};
 ghost use Rattle.mz_environment.specs.KeyLaws.{respects_key, respects_head, respects_bytes, respects_number};
 
-use crate::cited_scheme::CitedScheme;
-use crate::cited_statement::CitedStatement;
-use crate::item_unfolding::Unfolding;
-use crate::row::Row;
+use crate::cited::{CitedScheme, CitedStatement};
+use crate::rows::Row;
+use crate::unfoldings::Unfolding;
 use mz_core::notation::Notation;
 use mz_core::registration::ExistentialRegistration;
 use mz_core::structure::Structure;

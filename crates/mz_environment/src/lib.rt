@@ -2,19 +2,13 @@
 #![tactic(auto)]
 
 pub mod cited;
-pub mod cited_scheme;
-pub mod cited_schemes;
-pub mod cited_statement;
-pub mod cited_statements;
 pub mod environment;
 pub mod existentials;
-pub mod item_unfolding;
-pub mod joining;
+pub mod join;
 pub mod keys;
 pub mod notation_table;
 pub mod numbering;
 pub mod plain;
-pub mod row;
 pub mod rows;
 pub mod rows_of;
 pub mod shares;

@@ -5,12 +5,24 @@ ghost use Rattle.std.specs.Arc.{arc_value};
 ghost use Rattle.mz_environment.specs.Keys.{row_has};
 
 use crate::keys::{BySymbol, SymKey, sym_key};
-use crate::row::Row;
+use mz_core::soft_type::SoftType;
+use mz_core::soft_types::SoftTypes;
 use mz_logic::sym::Sym;
+use mz_logic::term::Terms;
 use mz_table::table::Table;
 use std::alloc::{AllocError, Global};
 use std::marker::Model;
 use std::sync::Arc;
+
+/// Under the loci, the symbol at the arguments has the type: a functor's application is of it, or it is a parent
+/// of the mode.
+#[derive(Drop)]
+pub struct Row {
+    pub loci: SoftTypes,
+    pub sym: Sym,
+    pub args: Terms,
+    pub ty: SoftType,
+}
 
 /// Rows, the latest one last, with those of each symbol apart.
 #[derive(Drop)]
@@ -21,8 +33,8 @@ pub struct Rows {
 impl Model for Rows {
     ghost use Rattle.std.specs.Prelude.{List};
     ghost use Rattle.std.specs.Coded.{coded_list};
-    ghost use Rattle.mz_environment.specs.declared.row.Row.{Row};
-    ghost use Rattle.mz_environment.specs.contracts.row.Row.{the_row};
+    ghost use Rattle.mz_environment.specs.declared.rows.Row.{Row};
+    ghost use Rattle.mz_environment.specs.contracts.rows.Row.{the_row};
 
     ghost Value = { List Row };
 

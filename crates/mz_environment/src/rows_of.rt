@@ -4,11 +4,10 @@ ghost use Rattle.mz_logic.specs.Term.{App, terms_of};
 ghost use Rattle.mz_environment.specs.Rows.{row, row_on, row_where, redefined_functor_rows, redefined_mode_rows, functor_rows, mode_rows, letter_rows};
 
 use crate::plain::{has_loci, is_bare, is_mode, term_has_loci};
-use crate::row::Row;
-use crate::rows::Rows;
+use crate::rows::{Row, Rows};
 use mz_core::hidden::set_type;
 use mz_core::item::Item;
-use mz_core::scheme_letter::SchemeLetter;
+use mz_core::scheme::SchemeLetter;
 use mz_core::soft_type::SoftType;
 use mz_core::soft_types::SoftTypes;
 use mz_items::loci::variables;

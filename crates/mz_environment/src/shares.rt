@@ -7,12 +7,10 @@ ghost use Rattle.mz_environment.specs.Cited.{statements_cited, schemes_cited};
 ghost use Rattle.mz_clauses.specs.Clauses.{typing_clauses, further_clauses, equality_clauses};
 ghost use Rattle.mz_environment.specs.Environment.{structures_of, sethoods_of, existentials_of, of_item, joined};
 
-use crate::cited::{schemes_cited, statements_cited};
-use crate::cited_schemes::CitedSchemes;
-use crate::cited_statements::CitedStatements;
+use crate::cited::{CitedSchemes, CitedStatements, schemes_cited, statements_cited};
 use crate::environment::Environment;
 use crate::existentials::Existentials;
-use crate::joining::{push_clauses, push_syms};
+use crate::join::{push_clauses, push_syms};
 use crate::notation_table::{NotationTable, notation_table};
 use crate::numbering::Numbering;
 use crate::rows::Rows;

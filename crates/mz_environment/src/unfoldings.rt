@@ -4,13 +4,24 @@ ghost use Rattle.std.specs.List.{filter};
 ghost use Rattle.std.specs.Arc.{arc_value};
 ghost use Rattle.mz_environment.specs.Keys.{has_head};
 
-use crate::item_unfolding::Unfolding;
 use crate::keys::{BySymbol, SymKey, sym_key};
+use mz_core::soft_types::SoftTypes;
+use mz_core::statement::Statement;
+use mz_ground::trigger::Trigger;
 use mz_logic::sym::Sym;
 use mz_table::table::Table;
 use std::alloc::{AllocError, Global};
 use std::marker::Model;
 use std::sync::Arc;
+
+/// Under the loci, what the head says is as much as the definiens: an atom, or for a term the equation of the
+/// last locus with it. A mode's atom has its subject as the last locus, too.
+#[derive(Drop)]
+pub struct Unfolding {
+    pub loci: SoftTypes,
+    pub head: Trigger,
+    pub definiens: Statement,
+}
 
 /// Unfoldings, the latest one last, with those of each symbol apart.
 #[derive(Drop)]
@@ -21,8 +32,8 @@ pub struct Unfoldings {
 impl Model for Unfoldings {
     ghost use Rattle.std.specs.Prelude.{List};
     ghost use Rattle.std.specs.Coded.{coded_list};
-    ghost use Rattle.mz_environment.specs.declared.item_unfolding.Unfolding.{Unfolding};
-    ghost use Rattle.mz_environment.specs.contracts.item_unfolding.Unfolding.{the_row};
+    ghost use Rattle.mz_environment.specs.declared.unfoldings.Unfolding.{Unfolding};
+    ghost use Rattle.mz_environment.specs.contracts.unfoldings.Unfolding.{the_row};
 
     ghost Value = { List Unfolding };
 

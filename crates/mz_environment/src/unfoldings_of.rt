@@ -8,9 +8,8 @@ ghost use Rattle.mz_items.specs.Loci.{predicate_on, attribute_on};
 ghost use Rattle.mz_items.specs.RedefinitionRows.{type_or};
 ghost use Rattle.mz_environment.specs.Unfoldings.{unfolding_of, signed_definiens, literal_unfoldings, literal_definition, literal_redefinition, mode_unfoldings, mode_definition, mode_redefinition, equation_unfoldings, functor_definition, functor_redefinition, unfoldings_of};
 
-use crate::item_unfolding::Unfolding;
 use crate::plain::{atom_has_loci, has_loci, is_application, is_bare, is_mode, term_has_loci};
-use crate::unfoldings::Unfoldings;
+use crate::unfoldings::{Unfolding, Unfoldings};
 use mz_core::definition::{AtomDefinition, AttributeDefinition};
 use mz_core::formula_definiens::FormulaDefiniens;
 use mz_core::item::Item;

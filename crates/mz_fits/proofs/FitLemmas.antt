@@ -7,7 +7,7 @@ use Rattle.mz_logic.specs.declared.literal.Literal.{Literal}
 use Rattle.mz_logic.specs.declared.literal.Literal.TheVariants.{Eq}
 use Rattle.mz_core.specs.Guard.{guard_literals}
 use Rattle.mz_core.specs.declared.soft_type.SoftType.{SoftType}
-use Rattle.mz_context.specs.declared.constant.Constant.{Constant}
+use Rattle.mz_context.specs.declared.constants.Constant.{Constant}
 use Rattle.mz_ground.specs.declared.clause.Clause.{Clause}
 use Rattle.mz_fits.specs.Fits.{type_at, LiteralFits, AllFit, none_left, and_fits, TypeFits, AreEqualBy, the_same, by_facts, LociFit, no_loci, and_locus}
 

@@ -16,7 +16,7 @@ use Rattle.mz_logic.proofs.IndexLemmas.{args_below-terms_of}
 use Rattle.mz_logic.proofs.SubstitutionLaws.{substitute_args-terms_of}
 use Rattle.mz_logic.proofs.ValueLaws.{substitute-value_at, value_at-within}
 use Rattle.mz_logic.proofs.Congruence.{application_congruence}
-use Rattle.mz_context.specs.declared.constant.Constant.{Constant}
+use Rattle.mz_context.specs.declared.constants.Constant.{Constant}
 use Rattle.mz_ground.specs.declared.clause.Clause.{Clause}
 use Rattle.mz_fits.specs.Matching.{Fixed, unfixed, Placed, fixes, equal, unequal, no_place, Matched, locus, no_locus, constant, other_constant, symbol, other_symbol, AllMatched, all_matched, one_more, one_fails, too_few, too_many, values_of, with_value}
 use Rattle.mz_fits.specs.Laws.{AreGranted, MatchLaw}

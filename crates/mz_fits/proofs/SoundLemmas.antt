@@ -11,7 +11,7 @@ use Rattle.mz_logic.specs.declared.literal.Literal.{Literal}
 use Rattle.mz_logic.specs.declared.literal.Literal.TheVariants.{Eq}
 use Rattle.mz_core.specs.Guard.{guard, guard_literals}
 use Rattle.mz_core.specs.declared.soft_type.SoftType.{SoftType}
-use Rattle.mz_context.specs.declared.constant.Constant.{Constant}
+use Rattle.mz_context.specs.declared.constants.Constant.{Constant}
 use Rattle.mz_context.specs.Gather.{known, reached, constants_of}
 use Rattle.mz_ground.specs.Laws.{IsGranted}
 use Rattle.mz_ground.specs.declared.clause.Clause.{Clause}

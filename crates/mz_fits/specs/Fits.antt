@@ -10,7 +10,7 @@ use Rattle.mz_logic.specs.declared.disjunct.Disjunct.{Disjunct}
 use Rattle.mz_core.specs.Guard.{guard_literals}
 use Rattle.mz_core.specs.TypeSubstitution.{substitute_type}
 use Rattle.mz_core.specs.declared.soft_type.SoftType.{SoftType}
-use Rattle.mz_context.specs.declared.constant.Constant.{Constant}
+use Rattle.mz_context.specs.declared.constants.Constant.{Constant}
 use Rattle.mz_context.specs.Gather.{gathered}
 use Rattle.mz_ground.specs.Layers.{further_layers}
 use Rattle.mz_ground.specs.Ground.{IsWithinTerms, IsWithinAtoms}

@@ -4,7 +4,7 @@ use Rattle.mz_logic.specs.Sym.{same_sym}
 use Rattle.mz_logic.specs.declared.sym.Sym.{Sym}
 use Rattle.mz_logic.specs.Term.{Term, Bound, Const, App, terms_of}
 use Rattle.mz_core.specs.declared.soft_type.SoftType.{SoftType}
-use Rattle.mz_context.specs.declared.constant.Constant.{Constant}
+use Rattle.mz_context.specs.declared.constants.Constant.{Constant}
 use Rattle.mz_ground.specs.declared.clause.Clause.{Clause}
 use Rattle.mz_fits.specs.Fits.{AreEqualBy, LociFit}
 

@@ -4,4 +4,4 @@
 pub mod fits;
 pub mod fixed;
 pub mod laws;
-pub mod matching;
+pub mod matches;

@@ -1,7 +1,6 @@
 //! Types, constants and clauses, read from their texts.
 use mz_base::text::Text;
-use mz_context::constant::Constant;
-use mz_context::constants::Constants;
+use mz_context::constants::{Constant, Constants};
 use mz_core::adjective::Adjective;
 use mz_core::adjectives::Adjectives;
 use mz_core::radix::Radix;

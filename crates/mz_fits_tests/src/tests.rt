@@ -9,7 +9,7 @@ use mz_core::soft_type::SoftType;
 use mz_core::soft_types::SoftTypes;
 use mz_fits::fits::{are_equal, literal_fits, loci_fit, type_fits};
 use mz_fits::fixed::Fixed;
-use mz_fits::matching::{accepted, all_match};
+use mz_fits::matches::{accepted, all_match};
 use mz_ground::clauses::Clauses;
 use mz_logic::literal::Literal;
 use mz_logic::term::{Term, Terms};

@@ -11,7 +11,7 @@ use Rattle.mz_context.specs.declared.context.Context.{Context}
 use Rattle.mz_environment.specs.declared.environment.Environment.{Environment}
 use Rattle.mz_names.specs.declared.refusal.Refusal.{Refusal}
 use Rattle.mz_names.specs.declared.variable.Variable.{Variable}
-use Rattle.mz_choice.specs.declared.wanted.Wanted.TheVariants.{Anything}
+use Rattle.mz_choice.specs.declared.choice.Wanted.TheVariants.{Anything}
 use Rattle.mz_tree.specs.Trees.{TermData, TermsData, TypeData, AdjectiveData, DeclaredData}
 use Rattle.mz_tree.specs.Places.{first_place}
 use Rattle.mz_tree.specs.Spell.{spell_term, spell_adjective}

@@ -10,8 +10,8 @@ use Rattle.mz_context.specs.declared.context.Context.{Context}
 use Rattle.mz_environment.specs.declared.environment.Environment.{Environment}
 use Rattle.mz_names.specs.declared.refusal.Refusal.{Refusal}
 use Rattle.mz_fits.proofs.FitLemmas.{empty}
-use Rattle.mz_choice.specs.declared.applied.Applied.{Applied}
-use Rattle.mz_choice.specs.declared.wanted.Wanted.TheVariants.{Anything}
+use Rattle.mz_choice.specs.declared.choice.Applied.{Applied}
+use Rattle.mz_choice.specs.declared.choice.Wanted.TheVariants.{Anything}
 use Rattle.mz_tree.specs.Trees.{TermData, TermsData, TypeData, AdjectiveData, AdjectiveList, adjectives_of}
 use Rattle.mz_tree.specs.Places.{first_place}
 use Rattle.mz_tree.specs.Spell.{spell_term, spell_adjective}

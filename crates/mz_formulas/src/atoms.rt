@@ -8,8 +8,8 @@ ghost use Rattle.mz_tree.specs.Views.{term_of, terms_of, type_of, adjective_of};
 ghost use Rattle.mz_formulas.specs.Atoms.{first_of, ReadsSide, ReadsPredicate, ReadsPrivate, ReadsIsType, ReadsAttributed, ReadsFurther, ReadsIsAdjectives};
 
 use mz_applied::application::{application, attribute_of};
+use mz_applied::applied::{applied_attribute, applied_statement};
 use mz_applied::private::applied_predicate;
-use mz_applied::reading::{applied_attribute, applied_statement};
 use mz_base::place::Place;
 use mz_context::context::Context;
 use mz_core::statement::Statement;

@@ -9,8 +9,8 @@ ghost use Rattle.mz_formulas.specs.Declarations.{variable_of, Declares, Declares
 use mz_context::context::Context;
 use mz_core::soft_type::SoftType;
 use mz_environment::environment::Environment;
-use mz_names::closing::constant_of;
 use mz_names::names::reserved_type;
+use mz_names::quantifiers::constant_of;
 use mz_names::refusal::Refusal;
 use mz_names::variable::{Variable, Variables};
 use mz_terms::types::read_type;

@@ -6,7 +6,7 @@ ghost use Rattle.mz_tree.specs.Views.{formula_of};
 ghost use Rattle.mz_free.specs.Free.{once_behind, free_names, if_typed, as_reserved, free_variables};
 
 use crate::name_list::NameList;
-use crate::occurring::put_formula;
+use crate::occurrences::put_formula;
 use mz_base::text::Text;
 use mz_context::context::Context;
 use mz_names::names::{is_only_reserved, reserved_type};

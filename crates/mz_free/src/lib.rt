@@ -3,4 +3,4 @@
 
 pub mod free;
 pub mod name_list;
-pub mod occurring;
+pub mod occurrences;

@@ -6,7 +6,7 @@ use Rattle.mz_base.specs.TokenList.{TokenList}
 use Rattle.mz_base.specs.declared.head.Directive.{Directive}
 use Rattle.mz_base.specs.declared.rule_code.RuleCode.TheVariants as code
 use Rattle.mz_base.specs.declared.token.Token.{Token}
-use Rattle.mz_core.specs.declared.export.Export.{Export}
+use Rattle.mz_core.specs.declared.outcome.Export.{Export}
 use Rattle.mz_core.specs.declared.fault.Fault.{Fault}
 use Rattle.mz_environment.specs.declared.environment.Environment.{Environment}
 use Rattle.mz_env.specs.LetIn.{LetIn}

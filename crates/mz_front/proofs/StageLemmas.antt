@@ -4,7 +4,7 @@ use Rattle.std.specs.Prelude.{Result, Ok, Err, IfOk, IfErr}
 use Rattle.mz_base.specs.NamedText.{NamedText}
 use Rattle.mz_base.specs.TokenList.{TokenList}
 use Rattle.mz_base.specs.declared.head.Directive.{Directive}
-use Rattle.mz_core.specs.declared.export.Export.{Export}
+use Rattle.mz_core.specs.declared.outcome.Export.{Export}
 use Rattle.mz_core.specs.declared.fault.Fault.{Fault}
 use Rattle.mz_environment.specs.declared.environment.Environment.{Environment}
 use Rattle.mz_lex.specs.BuiltIn.{built_in_lexemes}

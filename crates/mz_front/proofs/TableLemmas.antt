@@ -10,7 +10,7 @@ use Rattle.mz_base.specs.declared.rule_code.RuleCode.TheVariants as code
 use Rattle.mz_core.specs.declared.fault.Fault.{Fault}
 use Rattle.mz_voc.specs.Lines.{lines_of}
 use Rattle.mz_voc.specs.Vocabulary.{entries_of, fault_below, AreRight, IsFirstFault, IsVocabulary}
-use Rattle.mz_voc.specs.declared.entry.Entry.{Entry}
+use Rattle.mz_voc.specs.declared.vocabulary.Entry.{Entry}
 use Rattle.mz_voc.specs.declared.voc_fault.VocFault.{VocFault}
 use Rattle.mz_lex.specs.BuiltIn.{built_in_lexemes}
 use Rattle.mz_lex.specs.Table as rule

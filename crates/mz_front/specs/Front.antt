@@ -3,7 +3,7 @@ use Rattle.std.specs.Prelude.{◌≡◌, ℕ, List, Option, Some, None, Result, 
 use Rattle.mz_base.specs.NamedText.{NamedText}
 use Rattle.mz_base.specs.TokenList.{TokenList}
 use Rattle.mz_base.specs.declared.head.Directive.{Directive}
-use Rattle.mz_core.specs.declared.export.Export.{Export}
+use Rattle.mz_core.specs.declared.outcome.Export.{Export}
 use Rattle.mz_core.specs.declared.fault.Fault.{Fault}
 use Rattle.mz_lex.specs.BuiltIn.{built_in_lexemes}
 use Rattle.mz_lex.specs.Cut.{Switch, Whole, IsCut, IsStopped}

@@ -1,7 +1,7 @@
 -- One value at most.
 use Rattle.std.specs.Prelude.{◌≡◌, ℕ, List, Result}
 use Rattle.mz_base.specs.NamedText.{NamedText}
-use Rattle.mz_core.specs.declared.export.Export.{Export}
+use Rattle.mz_core.specs.declared.outcome.Export.{Export}
 use Rattle.mz_core.specs.declared.fault.Fault.{Fault}
 use Rattle.mz_front.specs.Front.{IsFront}
 use Rattle.mz_front.specs.declared.front.Front.{Front}

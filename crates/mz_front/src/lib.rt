@@ -4,5 +4,4 @@
 pub mod front;
 pub mod front_fault;
 pub mod laws;
-pub mod reading;
 pub mod told;

@@ -9,7 +9,7 @@ use Rattle.mz_ground.specs.Instances.{IsBefore, IsEndIn}
 use Rattle.mz_ground.specs.declared.clause.Clause.{Clause}
 use Rattle.mz_ground.specs.declared.ground_part.Ground.{Ground}
 use Rattle.mz_ground.specs.declared.ground_term.GroundTerm.TheVariants.{Const}
-use Rattle.mz_ground.specs.declared.layer_end.LayerEnd.{LayerEnd}
+use Rattle.mz_ground.specs.declared.layer_ends.LayerEnd.{LayerEnd}
 use Rattle.mz_ground.specs.declared.ground_fault.GroundFault.{GroundFault}
 use Rattle.mz_ground.specs.declared.ground_fault.GroundFault.TheVariants.{TooManyTerms, TooManyAtoms, Memory}
 

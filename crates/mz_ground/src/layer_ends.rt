@@ -1,9 +1,16 @@
 //! Lists of ends of layers.
 ghost use Rattle.std.specs.Prelude.{◌≡◌, ◌<◌, [], ◌∷◌, ◌++◌, length, slice_get, Some, IfOk, OnOk, OnErr};
 
-use crate::layer_end::LayerEnd;
 use std::alloc::{AllocError, Global};
 use std::marker::Model;
+
+/// How many terms, atoms and equations stand in a layer and in those before it.
+#[derive(Clone, Copy, Debug, PartialEq, Eq)]
+pub struct LayerEnd {
+    pub terms: usize,
+    pub atoms: usize,
+    pub equations: usize,
+}
 
 /// A list of ends of layers.
 #[derive(Drop)]
@@ -14,8 +21,8 @@ pub struct LayerEnds {
 impl Model for LayerEnds {
     ghost use Rattle.std.specs.Prelude.{List};
     ghost use Rattle.std.specs.Coded.{coded_list};
-    ghost use Rattle.mz_ground.specs.declared.layer_end.LayerEnd.{LayerEnd};
-    ghost use Rattle.mz_ground.specs.contracts.layer_end.LayerEnd.{the_row};
+    ghost use Rattle.mz_ground.specs.declared.layer_ends.LayerEnd.{LayerEnd};
+    ghost use Rattle.mz_ground.specs.contracts.layer_ends.LayerEnd.{the_row};
 
     ghost Value = { List LayerEnd };
 

@@ -20,7 +20,6 @@ pub mod hash_places;
 pub mod head_places;
 mod instances;
 pub mod laws;
-pub mod layer_end;
 pub mod layer_ends;
 mod matching;
 mod nodes;

@@ -9,7 +9,7 @@ use crate::ground_term::GroundTerm;
 use crate::ground_terms::GroundTerms;
 use crate::hash_places::{hash_with, hash_with_symbol};
 use crate::head_places::HeadPlaces;
-use crate::layer_end::LayerEnd;
+use crate::layer_ends::LayerEnd;
 use crate::places::Places;
 use crate::trigger::Trigger;
 use mz_logic::term::TermNode;

@@ -6,10 +6,10 @@ use Rattle.std.specs.Prelude.{◌&&◌, ◌||◌, nat_eq, if◌then◌else◌}
 use Rattle.mz_grouping.specs.Grouping.{Head, replaces, head_of_two, with_part, head_of, Grouped, nothing, operand, headed, neighbours_behind, has_neighbours}
 use Rattle.mz_grouping.specs.Open.{head, head_at, replaces_top, begin_of, top_of, rest_of, popped, left_by, between, AreOpen, IsTop, StandsSo, stands_so, tail_head, Beats, nothing_there, beats, Closes, Ends, no_part, one_operand, ReadySo, ready_so}
 use Rattle.mz_grouping.specs.declared.opened.Opened.{Opened}
-use Rattle.mz_grouping.specs.declared.part.Part.{Part}
-use Rattle.mz_grouping.specs.declared.part.Part.TheVariants.{Operand, Symbol}
-use Rattle.mz_grouping.specs.declared.step.Step.{Step}
-use Rattle.mz_grouping.specs.declared.step.Step.TheVariants.{Take, Apply}
+use Rattle.mz_grouping.specs.declared.grouping.Part.{Part}
+use Rattle.mz_grouping.specs.declared.grouping.Part.TheVariants.{Operand, Symbol}
+use Rattle.mz_grouping.specs.declared.grouping.Step.{Step}
+use Rattle.mz_grouping.specs.declared.grouping.Step.TheVariants.{Take, Apply}
 use Rattle.mz_grouping.proofs.StretchLemmas.{between-last, between-split, between-length, between-same, between-whole, head_from-last}
 use Rattle.mz_grouping.proofs.NeighbourLemmas.{drop-at}
 

@@ -1,6 +1,6 @@
 -- Operands that are neighbours.
 use Rattle.std.proofs.Common.{◌≡◌, ◌<◌, ℕ, zero, suc, List, [], ◌∷◌, sym, ap, arith, length, drop, get_or}
-use Rattle.mz_grouping.specs.declared.part.Part.{Part}
+use Rattle.mz_grouping.specs.declared.grouping.Part.{Part}
 
 pub drop-at : (k : ℕ) (ps : List Part) (p : Part) → k < length ps → p ≡ get_or ps k p → drop k ps ≡ p ∷ drop (suc k) ps
 drop-at k [] p lt e = absurd (omega (arith, lt))

@@ -2,7 +2,7 @@
 use Rattle.std.proofs.Common.{◌≡◌, ◌≤◌, ◌<◌, ◌+◌, ℕ, zero, suc, List, [], ◌∷◌, ◌++◌, refl, ap, ◌∙◌, arith, length, take, Option, Some, None, slice_get}
 use Rattle.mz_grouping.specs.Grouping.{Head, with_part, head_from}
 use Rattle.mz_grouping.specs.Open.{between}
-use Rattle.mz_grouping.specs.declared.part.Part.{Part}
+use Rattle.mz_grouping.specs.declared.grouping.Part.{Part}
 
 abbrev first_or : Part → Option Part → Part
 first_or p None = p

@@ -1,9 +1,9 @@
 -- Runs of operands and functor symbols, grouped by the ranks of the symbols.
 use Rattle.std.specs.Prelude.{◌≡◌, ℕ, suc, ◌+◌, Bool, true, false, ◌&&◌, ◌||◌, nat_eq, nat_lt, if◌then◌else◌, List, [], ◌∷◌, ◌++◌, length, Option, Some, None}
-use Rattle.mz_grouping.specs.declared.part.Part.{Part}
-use Rattle.mz_grouping.specs.declared.part.Part.TheVariants.{Operand, Symbol}
-use Rattle.mz_grouping.specs.declared.step.Step.{Step}
-use Rattle.mz_grouping.specs.declared.step.Step.TheVariants.{Take, Apply}
+use Rattle.mz_grouping.specs.declared.grouping.Part.{Part}
+use Rattle.mz_grouping.specs.declared.grouping.Part.TheVariants.{Operand, Symbol}
+use Rattle.mz_grouping.specs.declared.grouping.Step.{Step}
+use Rattle.mz_grouping.specs.declared.grouping.Step.TheVariants.{Take, Apply}
 
 -- a symbol of a run: its place in it, its rank, and whether it stands directly after an operand
 pub record Head : Type 0 where

@@ -2,9 +2,9 @@
 use Rattle.std.specs.Prelude.{◌≡◌, ◌≤◌, ◌<◌, ℕ, zero, suc, Bool, true, false, nat_lt, List, [], ◌∷◌, ◌++◌, if◌then◌else◌, length, take, drop, Option, Some, None, slice_get}
 use Rattle.mz_grouping.specs.Grouping.{Head, replaces, head_of, Grouped, neighbours_behind}
 use Rattle.mz_grouping.specs.declared.opened.Opened.{Opened}
-use Rattle.mz_grouping.specs.declared.part.Part.{Part}
-use Rattle.mz_grouping.specs.declared.part.Part.TheVariants.{Operand, Symbol}
-use Rattle.mz_grouping.specs.declared.step.Step.{Step}
+use Rattle.mz_grouping.specs.declared.grouping.Part.{Part}
+use Rattle.mz_grouping.specs.declared.grouping.Part.TheVariants.{Operand, Symbol}
+use Rattle.mz_grouping.specs.declared.grouping.Step.{Step}
 
 -- an open symbol as a head
 abbrev pub head_at : Opened → Head

@@ -5,9 +5,22 @@ ghost use Rattle.mz_grouping.specs.Grouping.{Grouped, has_neighbours, neighbours
 ghost use Rattle.mz_grouping.specs.Open.{head, replaces_top, StandsSo, tail_head, Beats, ReadySo};
 
 use crate::opened::{OpenSymbols, Opened, is_behind};
-use crate::part::Part;
-use crate::step::Step;
 use std::alloc::{AllocError, Global};
+
+/// An operand, or a symbol with its rank and whether it stands directly after an operand.
+#[derive(Clone, Copy, Debug, PartialEq, Eq)]
+pub enum Part {
+    Operand,
+    Symbol(u32, bool),
+}
+
+/// The operand at a place is taken; or the symbol at a place is applied, to what was read of its left and of its right,
+/// where something stands there.
+#[derive(Clone, Copy, Debug, PartialEq, Eq)]
+pub enum Step {
+    Take(usize),
+    Apply(usize, bool, bool),
+}
 
 /// Whether two operands are neighbours.
 #[tactic(auto, using(crate::proofs::NeighbourLemmas::neighbour_rules))]

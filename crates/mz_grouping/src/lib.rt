@@ -3,5 +3,3 @@
 
 pub mod grouping;
 pub mod opened;
-pub mod part;
-pub mod step;

@@ -1,7 +1,7 @@
 //! Whole articles.
 use crate::texts::{article_tokens, spelled};
 use mz_parser_samples::answer::{Answer, refused, taken};
-use mz_pexpr::marking::marked_tokens;
+use mz_pexpr::marked_tokens::marked_tokens;
 use mz_pitem::parse::article;
 use std::alloc::Global;
 use std::process::Abort;

@@ -5,7 +5,7 @@ use mz_parser_samples::answer::{Answer, refused};
 use mz_pblock::conditions::owed;
 use mz_pblock::registrations::registration;
 use mz_pblock::schemes::{scheme, theorem};
-use mz_pexpr::marking::marked_tokens;
+use mz_pexpr::marked_tokens::marked_tokens;
 use mz_pterm::parse::fault;
 use mz_pterm::reader::Reader;
 use mz_tree::tree::Spell;

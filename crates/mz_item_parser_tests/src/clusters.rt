@@ -2,7 +2,7 @@
 use crate::texts::{article_tokens, taken};
 use mz_parser_samples::answer::{Answer, refused};
 use mz_pcluster::clusters::cluster;
-use mz_pexpr::marking::marked_tokens;
+use mz_pexpr::marked_tokens::marked_tokens;
 use mz_pterm::parse::fault;
 use mz_pterm::reader::Reader;
 use std::alloc::Global;

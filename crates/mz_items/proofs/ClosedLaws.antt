@@ -22,15 +22,15 @@ use Rattle.mz_core.specs.Closed.{term_under, formula_under, literal_under, adjec
 use Rattle.mz_core.specs.declared.typed_sequent.TypedSequent.{TypedSequent}
 use Rattle.mz_core.specs.declared.adjective.Adjective.{Adjective}
 use Rattle.mz_core.specs.declared.soft_type.SoftType.{SoftType}
-use Rattle.mz_core.specs.declared.field.Field.{Field}
+use Rattle.mz_core.specs.declared.structure.Field.{Field}
 use Rattle.mz_core.specs.declared.pattern.Pattern.{Pattern}
 use Rattle.mz_core.specs.declared.registration.ExistentialRegistration.{ExistentialRegistration}
 use Rattle.mz_core.specs.declared.registration.ConditionalRegistration.{ConditionalRegistration}
 use Rattle.mz_core.specs.declared.registration.FunctorialRegistration.{FunctorialRegistration}
 use Rattle.mz_core.specs.declared.registration.EquationRegistration.{EquationRegistration}
 use Rattle.mz_core.specs.declared.scheme.Scheme.{Scheme}
-use Rattle.mz_core.specs.declared.scheme_letter.SchemeLetter.{SchemeLetter}
-use Rattle.mz_core.specs.declared.scheme_letter.SchemeLetter.TheVariants.{OfFunctor, OfPredicate}
+use Rattle.mz_core.specs.declared.scheme.SchemeLetter.{SchemeLetter}
+use Rattle.mz_core.specs.declared.scheme.SchemeLetter.TheVariants.{OfFunctor, OfPredicate}
 use Rattle.mz_core.specs.declared.set_term.SetTerm.{SetTerm}
 use Rattle.mz_core.specs.declared.set_term.Choice.{Choice}
 use Rattle.mz_core.specs.declared.structure.Structure.{Structure}

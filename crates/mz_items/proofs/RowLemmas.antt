@@ -21,8 +21,8 @@ use Rattle.mz_core.specs.Hidden.{object_type, set_type, is_in}
 use Rattle.mz_core.specs.Closed.{term_under, literal_under, adjective_under, type_under, statement_under, loci_under}
 use Rattle.mz_core.specs.declared.adjective.Adjective.{Adjective}
 use Rattle.mz_core.specs.declared.soft_type.SoftType.{SoftType}
-use Rattle.mz_core.specs.declared.formula_case.FormulaCase.{FormulaCase}
-use Rattle.mz_core.specs.declared.term_case.TermCase.{TermCase}
+use Rattle.mz_core.specs.declared.formula_definiens.FormulaCase.{FormulaCase}
+use Rattle.mz_core.specs.declared.term_definiens.TermCase.{TermCase}
 use Rattle.mz_core.specs.declared.formula_definiens.FormulaDefiniens.{FormulaDefiniens}
 use Rattle.mz_core.specs.declared.formula_definiens.FormulaDefiniens.TheVariants as formula_definiens
 use Rattle.mz_core.specs.declared.term_definiens.TermDefiniens.{TermDefiniens}

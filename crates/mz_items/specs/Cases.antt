@@ -1,8 +1,8 @@
 -- Definientia by cases.
 use Rattle.std.specs.Prelude.{List, [], ◌∷◌, ◌++◌, map, Option, Some, None}
 use Rattle.mz_logic.specs.Term.{Term}
-use Rattle.mz_core.specs.declared.formula_case.FormulaCase.{FormulaCase}
-use Rattle.mz_core.specs.declared.term_case.TermCase.{TermCase}
+use Rattle.mz_core.specs.declared.formula_definiens.FormulaCase.{FormulaCase}
+use Rattle.mz_core.specs.declared.term_definiens.TermCase.{TermCase}
 use Rattle.mz_core.specs.declared.formula_definiens.FormulaDefiniens.{FormulaDefiniens}
 use Rattle.mz_core.specs.declared.formula_definiens.FormulaDefiniens.TheVariants as formula_definiens
 use Rattle.mz_core.specs.declared.term_definiens.TermDefiniens.{TermDefiniens}

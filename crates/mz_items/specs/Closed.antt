@@ -11,9 +11,9 @@ use Rattle.mz_core.specs.Statement.{Statement}
 use Rattle.mz_core.specs.declared.adjective.Adjective.{Adjective}
 use Rattle.mz_core.specs.declared.radix.Radix.{Radix}
 use Rattle.mz_core.specs.declared.soft_type.SoftType.{SoftType}
-use Rattle.mz_core.specs.declared.field.Field.{Field}
-use Rattle.mz_core.specs.declared.formula_case.FormulaCase.{FormulaCase}
-use Rattle.mz_core.specs.declared.term_case.TermCase.{TermCase}
+use Rattle.mz_core.specs.declared.structure.Field.{Field}
+use Rattle.mz_core.specs.declared.formula_definiens.FormulaCase.{FormulaCase}
+use Rattle.mz_core.specs.declared.term_definiens.TermCase.{TermCase}
 use Rattle.mz_core.specs.declared.formula_definiens.FormulaDefiniens.{FormulaDefiniens}
 use Rattle.mz_core.specs.declared.formula_definiens.FormulaDefiniens.TheVariants as formula_definiens
 use Rattle.mz_core.specs.declared.term_definiens.TermDefiniens.{TermDefiniens}
@@ -23,8 +23,8 @@ use Rattle.mz_core.specs.declared.notation.Meaning.{Meaning}
 use Rattle.mz_core.specs.declared.notation.Meaning.TheVariants.{OfTerm, OfLiteral, OfType}
 use Rattle.mz_core.specs.declared.notation.Notation.{Notation}
 use Rattle.mz_core.specs.declared.scheme.Scheme.{Scheme}
-use Rattle.mz_core.specs.declared.scheme_letter.SchemeLetter.{SchemeLetter}
-use Rattle.mz_core.specs.declared.scheme_letter.SchemeLetter.TheVariants.{OfFunctor, OfPredicate}
+use Rattle.mz_core.specs.declared.scheme.SchemeLetter.{SchemeLetter}
+use Rattle.mz_core.specs.declared.scheme.SchemeLetter.TheVariants.{OfFunctor, OfPredicate}
 use Rattle.mz_core.specs.declared.definition.MeansDefinition.{MeansDefinition}
 use Rattle.mz_core.specs.declared.definition.EqualsDefinition.{EqualsDefinition}
 use Rattle.mz_core.specs.declared.definition.AtomDefinition.{AtomDefinition}

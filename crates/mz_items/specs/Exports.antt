@@ -2,7 +2,7 @@
 use Rattle.std.specs.Prelude.{◌≡◌, Bool, true, false, List, [], ◌∷◌, ◌++◌, flat_map}
 use Rattle.mz_logic.specs.declared.sequent.Sequent.{Sequent}
 use Rattle.mz_logic.specs.Formula.{Formula}
-use Rattle.mz_core.specs.declared.export.Export.{Export}
+use Rattle.mz_core.specs.declared.outcome.Export.{Export}
 use Rattle.mz_core.specs.declared.item.Item.{Item}
 use Rattle.mz_core.specs.declared.pattern.Pattern.{Pattern}
 use Rattle.mz_core.specs.declared.notation.Notation.{Notation as TheNotation}

@@ -7,8 +7,8 @@ use Rattle.mz_core.specs.TypeStatements.{is_of_type}
 use Rattle.mz_core.specs.TypedSequent.{typed_sequent}
 use Rattle.mz_core.specs.declared.typed_sequent.TypedSequent.{TypedSequent}
 use Rattle.mz_core.specs.declared.scheme.Scheme.{Scheme}
-use Rattle.mz_core.specs.declared.scheme_letter.SchemeLetter.{SchemeLetter}
-use Rattle.mz_core.specs.declared.scheme_letter.SchemeLetter.TheVariants.{OfFunctor, OfPredicate}
+use Rattle.mz_core.specs.declared.scheme.SchemeLetter.{SchemeLetter}
+use Rattle.mz_core.specs.declared.scheme.SchemeLetter.TheVariants.{OfFunctor, OfPredicate}
 use Rattle.mz_items.specs.Loci.{over, term_on}
 
 -- the type of a functor letter: for its places holds T(F), also where that is truth

@@ -9,7 +9,7 @@ use Rattle.mz_core.specs.Hidden.{object_type}
 use Rattle.mz_core.specs.Parts.{conjunction}
 use Rattle.mz_core.specs.TypeStatements.{is_of_type, is_of_type_inside}
 use Rattle.mz_core.specs.declared.soft_type.SoftType.{SoftType}
-use Rattle.mz_core.specs.declared.field.Field.{Field}
+use Rattle.mz_core.specs.declared.structure.Field.{Field}
 use Rattle.mz_core.specs.declared.structure.Structure.{Structure}
 use Rattle.mz_items.specs.Loci.{inward, variables}
 

@@ -6,14 +6,12 @@ ghost use Rattle.mz_items.specs.Cases.{agree_in_type, agree_as_formulas, agree_a
 
 use crate::forms::equivalent;
 use crate::quantified::for_each;
-use mz_core::formula_case::FormulaCase;
-use mz_core::formula_definiens::FormulaDefiniens;
+use mz_core::formula_definiens::{FormulaCase, FormulaDefiniens};
 use mz_core::soft_type::SoftType;
 use mz_core::statement::{Statement, StatementNode};
 use mz_core::statement_forms::implication;
 use mz_core::statements::Statements;
-use mz_core::term_case::TermCase;
-use mz_core::term_definiens::TermDefiniens;
+use mz_core::term_definiens::{TermCase, TermDefiniens};
 use std::alloc::{AllocError, Global};
 
 fn both(alloc: Global, c: &Statement, d: &Statement) -> Result<Statement, AllocError>

@@ -3,14 +3,12 @@ ghost use Rattle.std.specs.Prelude.{◌≡◌, ◌++◌, ◌∷◌, [], IfOk, On
 ghost use Rattle.mz_core.specs.StatementForms.{implication, opposite};
 ghost use Rattle.mz_items.specs.Cases.{formula_case_condition, formula_case_definiens, term_case_condition, term_case_definiens, otherwise_of, formula_conditions, term_conditions, formula_definientia, term_definientia, implications, conditioned, each_case};
 
-use mz_core::formula_cases::FormulaCases;
-use mz_core::formula_definiens::FormulaDefiniens;
+use mz_core::formula_definiens::{FormulaCases, FormulaDefiniens};
 use mz_core::parts::conjunction;
 use mz_core::statement::Statement;
 use mz_core::statement_forms::{implication, opposite};
 use mz_core::statements::Statements;
-use mz_core::term_cases::TermCases;
-use mz_core::term_definiens::TermDefiniens;
+use mz_core::term_definiens::{TermCases, TermDefiniens};
 use mz_logic::term::{Term, Terms};
 use std::alloc::{AllocError, Global};
 

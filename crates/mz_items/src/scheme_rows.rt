@@ -7,8 +7,7 @@ ghost use Rattle.mz_items.specs.SchemeRows.{letter_types, scheme_sequent, axiom_
 use crate::loci::term_on;
 use crate::quantified::over;
 use mz_core::parts::conjunction;
-use mz_core::scheme::Scheme;
-use mz_core::scheme_letter::SchemeLetter;
+use mz_core::scheme::{Scheme, SchemeLetter};
 use mz_core::soft_type::SoftType;
 use mz_core::soft_types::SoftTypes;
 use mz_core::statement::Statement;

@@ -8,8 +8,6 @@ ghost use Rattle.mz_core.specs.TypeStatements.{is_of_type_inside};
 ghost use Rattle.mz_items.specs.StructureRows.{structure_atom, strict_atom, aggregate, selected, field_values, selected_values, given_values, field_fits, for_object, grant_of_ancestors, grant_of_fields, fit_each, select_each, for_objects, fitting, aggregate_has, grant_of_aggregate, grant_of_strict, structure_grants};
 
 use crate::loci::{count_of, inward, variables};
-use mz_core::field::Field;
-use mz_core::fields::Fields;
 use mz_core::guard::with_last;
 use mz_core::hidden::object_type;
 use mz_core::parts::conjunction;
@@ -17,7 +15,7 @@ use mz_core::soft_types::SoftTypes;
 use mz_core::statement::{Statement, StatementNode};
 use mz_core::statement_forms::implication;
 use mz_core::statements::Statements;
-use mz_core::structure::Structure;
+use mz_core::structure::{Field, Fields, Structure};
 use mz_core::type_statements::{is_of_type, is_of_type_inside};
 use mz_core::type_substitution::substitute_type;
 use mz_logic::beyond::Beyond;

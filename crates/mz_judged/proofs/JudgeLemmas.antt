@@ -7,7 +7,7 @@ use Rattle.mz_core.specs.declared.fault.Fault.{Fault}
 use Rattle.mz_nf.specs.declared.problem.Problem.{Problem}
 use Rattle.mz_ground.specs.declared.clause.Clause.{Clause}
 use Rattle.mz_by.specs.Verdict.{IsVerdict}
-use Rattle.mz_by.specs.declared.by_verdict.ByVerdict.{ByVerdict}
+use Rattle.mz_by.specs.declared.by.ByVerdict.{ByVerdict}
 use Rattle.mz_obligations.specs.declared.obligation.Obligation.{Obligation}
 use Rattle.mz_judged.specs.Judged.{clauses_for, Decides, told, IsJudged, judged, AreJudged, no_obligations, met, unmet}
 use Rattle.mz_judged.specs.Found.{Found, is_found, fault_in, AreFound}

@@ -5,8 +5,8 @@ use Rattle.mz_core.specs.declared.fault.Fault.{Fault}
 use Rattle.mz_ground.specs.declared.clause.Clause.{Clause}
 use Rattle.mz_ground.proofs.ListLemmas.{contains_none, contains_cases}
 use Rattle.mz_by.specs.Laws.{HaveNoConstants}
-use Rattle.mz_by.specs.declared.by_verdict.ByVerdict.{ByVerdict}
-use Rattle.mz_by.specs.declared.by_verdict.ByVerdict.TheVariants as verdict
+use Rattle.mz_by.specs.declared.by.ByVerdict.{ByVerdict}
+use Rattle.mz_by.specs.declared.by.ByVerdict.TheVariants as verdict
 use Rattle.mz_by.proofs.ClosedSound.{closed_derived}
 use Rattle.mz_obligations.specs.declared.obligation.Duty.{Duty}
 use Rattle.mz_obligations.specs.declared.obligation.Duty.TheVariants.{By}

@@ -2,7 +2,7 @@
 use Rattle.std.proofs.Common.{◌≡◌, List, ◌∷◌, refl, ap, Option, Some, None}
 use Rattle.mz_core.specs.declared.fault.Fault.{Fault}
 use Rattle.mz_ground.specs.declared.clause.Clause.{Clause}
-use Rattle.mz_by.specs.declared.by_verdict.ByVerdict.{ByVerdict}
+use Rattle.mz_by.specs.declared.by.ByVerdict.{ByVerdict}
 use Rattle.mz_by.proofs.OneVerdict.{one_verdict}
 use Rattle.mz_obligations.specs.declared.obligation.Duty.{Duty}
 use Rattle.mz_obligations.specs.declared.obligation.Duty.TheVariants.{By}

@@ -8,8 +8,8 @@ use Rattle.mz_base.specs.declared.rule_code.RuleCode.TheVariants as code
 use Rattle.mz_core.specs.declared.fault.Fault.{Fault}
 use Rattle.mz_ground.specs.declared.clause.Clause.{Clause}
 use Rattle.mz_by.specs.Verdict.{IsVerdict}
-use Rattle.mz_by.specs.declared.by_verdict.ByVerdict.{ByVerdict}
-use Rattle.mz_by.specs.declared.by_verdict.ByVerdict.TheVariants as verdict
+use Rattle.mz_by.specs.declared.by.ByVerdict.{ByVerdict}
+use Rattle.mz_by.specs.declared.by.ByVerdict.TheVariants as verdict
 use Rattle.mz_obligations.specs.declared.obligation.Duty.{Duty}
 use Rattle.mz_obligations.specs.declared.obligation.Duty.TheVariants.{By}
 use Rattle.mz_obligations.specs.declared.obligation.Obligation.{Obligation}

@@ -4,8 +4,7 @@ ghost use Rattle.mz_by.specs.Verdict.{IsVerdict};
 ghost use Rattle.mz_judged.specs.Judged.{clauses_for, Decides, IsJudged};
 
 use crate::told::told;
-use mz_by::by::{by, by_first};
-use mz_by::by_verdict::ByVerdict;
+use mz_by::by::{ByVerdict, by, by_first};
 use mz_core::fault::Fault;
 use mz_ground::clause::Clause;
 use mz_ground::clauses::Clauses;

@@ -5,7 +5,7 @@ ghost use Rattle.mz_judged.specs.Judged.{limit_code, numbered, told};
 use mz_base::limit::Limit;
 use mz_base::place::Place;
 use mz_base::rule_code::RuleCode;
-use mz_by::by_verdict::ByVerdict;
+use mz_by::by::ByVerdict;
 use mz_core::fault::Fault;
 
 fn limit_code(limit: Limit) -> RuleCode

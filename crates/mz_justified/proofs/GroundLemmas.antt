@@ -4,7 +4,7 @@ use Rattle.std.specs.Bool.{OnTrue, OnFalse}
 use Rattle.std.specs.Prelude.{Result, Ok, Err, not}
 use Rattle.mz_base.specs.declared.place.Place.{Place}
 use Rattle.mz_core.specs.Statement.{Statement}
-use Rattle.mz_core.specs.declared.left.Left.{Left}
+use Rattle.mz_core.specs.declared.outcome.Left.{Left}
 use Rattle.mz_context.specs.declared.context.Context.{Context}
 use Rattle.mz_environment.specs.declared.environment.Environment.{Environment}
 use Rattle.mz_cited.specs.Cited.{cites}

@@ -1,7 +1,7 @@
 -- Parts one after another: where each part has one value at most, so has the whole.
 use Rattle.std.proofs.Common.{◌≡◌, Bool, true, false, Option, Some, None, sym, ◌∙◌, subst}
 use Rattle.std.specs.Prelude.{Result, Ok, Err}
-use Rattle.mz_core.specs.declared.left.Left.{Left}
+use Rattle.mz_core.specs.declared.outcome.Left.{Left}
 use Rattle.mz_justified_laws.specs.Determined.{AtMostOne, SameLeft, IsDetermined}
 
 -- as another relation that has

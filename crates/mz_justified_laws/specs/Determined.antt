@@ -1,6 +1,6 @@
 -- Relations that have one value at most.
 use Rattle.std.specs.Prelude.{◌≡◌, Result, Ok, Err}
-use Rattle.mz_core.specs.declared.left.Left.{Left}
+use Rattle.mz_core.specs.declared.outcome.Left.{Left}
 
 -- one thing at most is related
 abbrev pub AtMostOne : {O : Type 0} → (O → Type 0) → Type 0

@@ -4,7 +4,7 @@ use Rattle.std.specs.Prelude.{Option}
 use Rattle.mz_base.specs.declared.place.Place.{Place}
 use Rattle.mz_core.specs.Closed.{statement_under}
 use Rattle.mz_core.specs.Statement.{Statement}
-use Rattle.mz_core.specs.declared.left.Left.{Left}
+use Rattle.mz_core.specs.declared.outcome.Left.{Left}
 use Rattle.mz_context.specs.Context.{next}
 use Rattle.mz_context.specs.Changes.{with_constant}
 use Rattle.mz_context.specs.declared.context.Context.{Context}

@@ -4,9 +4,9 @@ use Rattle.mz_base.specs.Place.{start, end_from}
 use Rattle.mz_base.specs.declared.place.Place.{Place}
 use Rattle.mz_base.specs.declared.token.Token.{Token}
 use Rattle.mz_lex.specs.declared.lexeme.Lexeme.{Lexeme}
-use Rattle.mz_lex.specs.declared.longest.Longest.{Longest}
-use Rattle.mz_lex.specs.declared.part.Part.{Part}
-use Rattle.mz_lex.specs.declared.part.Part.TheVariants.{HeadAlone, Head, Behind}
+use Rattle.mz_lex.specs.declared.lexeme.Longest.{Longest}
+use Rattle.mz_lex.specs.declared.piece.Part.{Part}
+use Rattle.mz_lex.specs.declared.piece.Part.TheVariants.{HeadAlone, Head, Behind}
 use Rattle.mz_lex.specs.Tokens.{opens_pragma, token_of, IsBadByte}
 use Rattle.mz_lex.specs.Piece.{IsTokenPiece, IsCommentPiece, BeginsWithSeparator}
 use Rattle.mz_lex.specs.Part.{symbols_of, mode_of, ends_at, part_behind}

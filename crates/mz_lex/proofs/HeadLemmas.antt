@@ -19,8 +19,8 @@ use Rattle.mz_base.specs.declared.head.Directive.{Directive}
 use Rattle.mz_base.specs.declared.head.PlacedName.{PlacedName}
 use Rattle.mz_lex.specs.declared.head_token.HeadToken.{HeadToken}
 use Rattle.mz_lex.specs.declared.head_token.HeadToken.TheVariants as head_tokens
-use Rattle.mz_lex.specs.declared.state.State.{State}
-use Rattle.mz_lex.specs.declared.state.State.TheVariants.{AtEnviron, AtDirective, AtName, AtSeparator, AtEnd}
+use Rattle.mz_lex.specs.declared.head.State.{State}
+use Rattle.mz_lex.specs.declared.head.State.TheVariants.{AtEnviron, AtDirective, AtName, AtSeparator, AtEnd}
 use Rattle.mz_lex.specs.declared.lex_fault.LexFault.{LexFault}
 use Rattle.mz_lex.specs.declared.lex_fault.LexFault.TheVariants as lex
 use Rattle.mz_lex.specs.declared.head_fault.HeadFault.{HeadFault}

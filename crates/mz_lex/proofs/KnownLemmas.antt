@@ -9,7 +9,7 @@ use Rattle.std.proofs.lemmas.List.Folds.{find-append, list_any-append}
 use Rattle.std.proofs.lemmas.Slice.Eq.{bytes_eq-Decides}
 use Rattle.std.proofs.Math.Seq.{drop-cons}
 use Rattle.mz_base.specs.declared.symbol_kind.SymbolKind.{SymbolKind}
-use Rattle.mz_voc.specs.declared.entry.Entry.{Entry}
+use Rattle.mz_voc.specs.declared.vocabulary.Entry.{Entry}
 use Rattle.mz_voc.specs.declared.spelled.Spelled.{Spelled}
 use Rattle.mz_voc.specs.Spelled.{value_of}
 use Rattle.mz_voc.specs.Vocabulary.{is_spelled, AreDistinct}

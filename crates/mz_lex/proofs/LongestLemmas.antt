@@ -11,7 +11,7 @@ use borrow.Author.Tests.{ltb-true, ltb-false}
 use Rattle.mz_voc.specs.declared.spelled.Spelled.{Spelled}
 use Rattle.mz_voc.specs.Spelled.{value_of}
 use Rattle.mz_lex.specs.declared.lexeme.Lexeme.{Lexeme}
-use Rattle.mz_lex.specs.declared.longest.Longest.{Longest}
+use Rattle.mz_lex.specs.declared.lexeme.Longest.{Longest}
 use Rattle.mz_lex.specs.Tokens.{is_spelled, lexeme_of, is_lexeme}
 use Rattle.mz_lex.specs.Longest.{IsLongestLexeme}
 use Rattle.mz_lex.specs.SymbolTable.{lexeme_at, FindsFirst, NoneLonger}

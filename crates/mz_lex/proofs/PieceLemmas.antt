@@ -7,7 +7,7 @@ use borrow.Author.Tests.{ltb-true, ltb-false, eqb-true}
 use Rattle.mz_base.specs.Words.{is_word_byte}
 use Rattle.mz_base.specs.declared.token.TokenKind.{TokenKind}
 use Rattle.mz_lex.specs.declared.lexeme.Lexeme.{Lexeme}
-use Rattle.mz_lex.specs.declared.longest.Longest.{Longest}
+use Rattle.mz_lex.specs.declared.lexeme.Longest.{Longest}
 use Rattle.mz_lex.specs.Longest.{IsLongestLexeme}
 use Rattle.mz_lex.specs.Tokens.{is_separator, opens_comment, opens_pragma, opens_token, is_spelled, lexeme_of, is_lexeme, is_spelling, word_kind, is_line_end, EndsLine, IsBadByte}
 use Rattle.mz_lex.specs.Piece.{comment_len, word_len, IsLongestToken, IsTokenPiece, IsCommentPiece}

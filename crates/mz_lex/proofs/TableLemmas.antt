@@ -8,7 +8,7 @@ use Rattle.std.proofs.lemmas.List.Folds.{list_any-append}
 use Rattle.mz_base.specs.NamedText.{NamedText}
 use Rattle.mz_base.specs.declared.head.Directive.{Directive}
 use Rattle.mz_base.specs.declared.head.PlacedName.{PlacedName}
-use Rattle.mz_voc.specs.declared.entry.Entry.{Entry}
+use Rattle.mz_voc.specs.declared.vocabulary.Entry.{Entry}
 use Rattle.mz_voc.specs.Vocabulary.{IsVocabulary}
 use Rattle.mz_lex.specs.declared.table_fault.TableFault.{TableFault}
 use Rattle.mz_lex.specs.Table.{names_under, vocabulary_names, is_among, firsts, each_once, is_hidden, text_named, any_clash, joined, Adds, hidden, vocabulary, AddsAll, none, more, IsFaultOf, IsTableRefused}

@@ -3,7 +3,7 @@ use Rattle.std.specs.Prelude.{◌≡◌, ℕ, Bool, false, not, List, find, Opti
 use Rattle.std.specs.Option.{option_map}
 use Rattle.std.specs.Str.{bytes_eq}
 use Rattle.mz_base.specs.declared.symbol_kind.SymbolKind.{SymbolKind}
-use Rattle.mz_voc.specs.declared.entry.Entry.{Entry}
+use Rattle.mz_voc.specs.declared.vocabulary.Entry.{Entry}
 use Rattle.mz_voc.specs.declared.spelled.Spelled.{Spelled}
 use Rattle.mz_voc.specs.Spelled.{value_of}
 use Rattle.mz_lex.specs.Table.{same_kind, clashes}

@@ -1,7 +1,7 @@
 -- The longest lexeme at the start of a text.
 use Rattle.std.specs.Prelude.{◌≡◌, ℕ, ◌<◌, ◌≤◌, true, List, ◌++◌, length, take, Some}
 use Rattle.mz_lex.specs.declared.lexeme.Lexeme.{Lexeme}
-use Rattle.mz_lex.specs.declared.longest.Longest.{Longest}
+use Rattle.mz_lex.specs.declared.lexeme.Longest.{Longest}
 use Rattle.mz_lex.specs.Tokens.{lexeme_of, is_lexeme}
 
 -- the longest lexeme with which the text begins, the first of several; length 0 where there is none

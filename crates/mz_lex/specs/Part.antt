@@ -1,8 +1,8 @@
 -- The part of a text that is cut, as the code keeps it.
 use Rattle.std.specs.Prelude.{ℕ, Bool, false, if◌then◌else◌, List}
 use Rattle.mz_lex.specs.declared.lexeme.Lexeme.{Lexeme}
-use Rattle.mz_lex.specs.declared.part.Part.{Part}
-use Rattle.mz_lex.specs.declared.part.Part.TheVariants.{HeadAlone, Head, Behind}
+use Rattle.mz_lex.specs.declared.piece.Part.{Part}
+use Rattle.mz_lex.specs.declared.piece.Part.TheVariants.{HeadAlone, Head, Behind}
 use Rattle.mz_lex.specs.Cut.{Mode, Same, Stop, Switch, is_begin}
 
 -- the symbols of the part

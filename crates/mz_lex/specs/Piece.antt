@@ -3,7 +3,7 @@ use Rattle.std.specs.Prelude.{◌≡◌, ℕ, ◌<◌, ◌≤◌, true, List, []
 use Rattle.std.specs.List.{position_or_len, prefix_len}
 use Rattle.mz_base.specs.Words.{is_word_byte}
 use Rattle.mz_lex.specs.declared.lexeme.Lexeme.{Lexeme}
-use Rattle.mz_lex.specs.declared.longest.Longest.{Longest}
+use Rattle.mz_lex.specs.declared.lexeme.Longest.{Longest}
 use Rattle.mz_lex.specs.declared.piece.Piece.{Piece}
 use Rattle.mz_lex.specs.declared.piece.Piece.TheVariants.{Separator, Comment, Pragma, Token, BadByte}
 use Rattle.mz_lex.specs.Tokens.{is_separator, opens_pragma, is_line_end, is_spelling, lexeme_of, kind_with, priority_with, IsToken, IsBadByte, IsComment}

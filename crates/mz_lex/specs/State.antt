@@ -2,8 +2,8 @@
 use Rattle.std.specs.Prelude.{◌≡◌, Bool, true, false, ◌&&◌, if◌then◌else◌, List, Option, Some, None}
 use Rattle.mz_base.specs.declared.place.Place.{Place}
 use Rattle.mz_base.specs.declared.token.Token.{Token}
-use Rattle.mz_lex.specs.declared.state.State.{State}
-use Rattle.mz_lex.specs.declared.state.State.TheVariants.{AtEnviron, AtDirective, AtName, AtSeparator, AtEnd}
+use Rattle.mz_lex.specs.declared.head.State.{State}
+use Rattle.mz_lex.specs.declared.head.State.TheVariants.{AtEnviron, AtDirective, AtName, AtSeparator, AtEnd}
 use Rattle.mz_lex.specs.declared.head_token.HeadToken.{HeadToken}
 use Rattle.mz_lex.specs.declared.head_token.HeadToken.TheVariants.{Environ, Begin, Directive, Later, Name, Comma, Semicolon}
 use Rattle.mz_lex.specs.declared.head_fault.HeadFault.{HeadFault}

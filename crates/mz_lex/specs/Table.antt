@@ -11,7 +11,7 @@ use Rattle.mz_base.specs.declared.head.DirectiveKind.{DirectiveKind}
 use Rattle.mz_base.specs.declared.head.DirectiveKind.TheVariants.{Vocabularies}
 use Rattle.mz_base.specs.declared.head.Directive.{Directive}
 use Rattle.mz_base.specs.declared.head.PlacedName.{PlacedName}
-use Rattle.mz_voc.specs.declared.entry.Entry.{Entry}
+use Rattle.mz_voc.specs.declared.vocabulary.Entry.{Entry}
 use Rattle.mz_voc.specs.Lines.{lines_of}
 use Rattle.mz_voc.specs.Vocabulary.{is_spelled, IsVocabulary, IsFirstFault}
 use Rattle.mz_lex.specs.declared.lexeme.Lexeme.{Lexeme}

@@ -6,9 +6,8 @@ ghost use Rattle.mz_lex.specs.Part.{symbols_of, mode_of, ends_at, part_behind};
 ghost use Rattle.mz_lex.specs.Piece.{IsPiece};
 
 use crate::lex_fault::LexFault;
-use crate::longest::Longest;
-use crate::part::Part;
-use crate::piece::{Piece, first_piece};
+use crate::lexeme::Longest;
+use crate::piece::{Part, Piece, first_piece};
 use crate::symbol_table::SymbolTable;
 use mz_base::place::Place;
 use mz_base::text::Text;

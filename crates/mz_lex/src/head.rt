@@ -9,8 +9,7 @@ use crate::built_in::built_in_lexemes;
 use crate::cut::cut;
 use crate::head_fault::HeadFault;
 use crate::head_token::{HeadToken, head_token_of};
-use crate::part::Part;
-use crate::state::State;
+use crate::piece::Part;
 use crate::symbol_table::SymbolTable;
 use mz_base::head::{Directive, DirectiveKind, Head, PlacedName, PlacedNames};
 use mz_base::name::Name;
@@ -18,6 +17,21 @@ use mz_base::place::Place;
 use mz_base::token::Token;
 use std::alloc::{AllocError, Global};
 use std::mem;
+
+/// What may come next in an environment part.
+#[derive(Clone, Copy, Debug, PartialEq, Eq)]
+pub enum State {
+    /// `environ`
+    AtEnviron,
+    /// A directive's word, or `begin`.
+    AtDirective,
+    /// A name.
+    AtName,
+    /// `,` or `;`
+    AtSeparator,
+    /// Nothing: `begin` was read.
+    AtEnd,
+}
 
 /// What may come behind the token, where that may come.
 fn next_of(state: State, head_token: HeadToken) -> Option<State>

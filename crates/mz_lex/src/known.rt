@@ -6,8 +6,8 @@ ghost use Rattle.mz_lex.specs.Table.{letter_of, clashes};
 ghost use Rattle.mz_lex.specs.Known.{differs};
 
 use mz_base::symbol_kind::SymbolKind;
-use mz_voc::entry::Entry;
 use mz_voc::spelled::Spelled;
+use mz_voc::vocabulary::Entry;
 use std::alloc::{AllocError, Global};
 use std::marker::Model;
 
@@ -21,7 +21,7 @@ pub struct Known {
 
 impl Model for Known {
     ghost use Rattle.std.specs.Prelude.{List};
-    ghost use Rattle.mz_voc.specs.declared.entry.Entry.{Entry};
+    ghost use Rattle.mz_voc.specs.declared.vocabulary.Entry.{Entry};
     ghost use Rattle.mz_lex.specs.Known.{HasKinds};
 
     ghost Value = { List Entry };

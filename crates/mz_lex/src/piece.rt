@@ -6,10 +6,21 @@ ghost use Rattle.mz_base.specs.Words.{is_word_byte};
 ghost use Rattle.mz_lex.specs.Tokens.{is_separator, opens_comment, opens_pragma, opens_token, word_kind, is_line_end};
 ghost use Rattle.mz_lex.specs.Piece.{IsPiece, IsLongestToken, comment_len, word_len};
 
-use crate::longest::Longest;
+use crate::lexeme::Longest;
 use crate::symbol_table::SymbolTable;
 use mz_base::token::TokenKind;
 use mz_base::words::{are_digits, is_word_byte};
+
+/// Which part of a text is cut, and so with which symbols.
+#[derive(Clone, Copy, Debug, PartialEq, Eq)]
+pub enum Part {
+    /// The environment part alone, with the built-in symbols.
+    HeadAlone,
+    /// The environment part with the built-in symbols, and then what stands behind it.
+    Head,
+    /// What stands behind the environment part, with the symbols of its table.
+    Behind,
+}
 
 /// What stands at the start of a text that isn't empty.
 #[derive(Clone, Copy, Debug, PartialEq, Eq)]

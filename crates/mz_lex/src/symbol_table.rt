@@ -5,8 +5,7 @@ ghost use Rattle.mz_lex.specs.SymbolTable.{FindsFirst, NoneLonger};
 ghost use Rattle.mz_lex.specs.Longest.{IsLongestLexeme};
 ghost use Rattle.mz_lex.specs.Tokens.{lexeme_of};
 
-use crate::lexeme::Lexeme;
-use crate::longest::Longest;
+use crate::lexeme::{Lexeme, Longest};
 use mz_base::token::TokenKind;
 use mz_voc::spelled::Spelled;
 use std::alloc::{AllocError, Global};

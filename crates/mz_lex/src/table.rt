@@ -18,9 +18,9 @@ use mz_base::symbol_kind::SymbolKind;
 use mz_base::text::Text;
 use mz_base::token::TokenKind;
 use mz_base::vocabularies::{Vocabularies, VocabularyText};
-use mz_voc::entry::Entry;
 use mz_voc::read::read_voc;
 use mz_voc::voc_fault::VocFault;
+use mz_voc::vocabulary::Entry;
 use std::alloc::{AllocError, Global};
 use std::collections::HashSet;
 

@@ -6,7 +6,7 @@ ghost use Rattle.mz_lex.specs.Cut.{Switch, Whole, IsCut, IsStopped, OneCut, Head
 use crate::built_in::built_in_lexemes;
 use crate::cut::cut;
 use crate::lex_fault::LexFault;
-use crate::part::Part;
+use crate::piece::Part;
 use crate::symbol_table::SymbolTable;
 use mz_base::token::Tokens;
 use std::alloc::Global;

@@ -1,6 +1,6 @@
 -- What a run writes.
 use Rattle.std.specs.Prelude.{ℕ, Bool, if◌then◌else◌, List, [], ◌++◌}
-use Rattle.mz_core.specs.declared.export.Export.{Export}
+use Rattle.mz_core.specs.declared.outcome.Export.{Export}
 use Rattle.mz_core.specs.declared.verdict.Entry.{Entry}
 use Rattle.mz_corpus.specs.declared.ordering.Ordering.{Ordering}
 use Rattle.mz_report.specs.Report.{report_text, last_line}

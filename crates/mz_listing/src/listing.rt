@@ -8,8 +8,8 @@ ghost use Rattle.mz_listing.specs.Listing.{kind_text, head_text, further_text, p
 use mz_axioms::exports::Exports;
 use mz_base::name::Name;
 use mz_base::text::Text;
-use mz_core::export::Export;
 use mz_core::item::Item;
+use mz_core::outcome::Export;
 use mz_corpus::ordering::Ordering;
 use mz_items::granted::grants;
 use mz_items::owed::owes;

@@ -1,14 +1,12 @@
 //! Notations, a structure, a set term and a choice.
 use crate::parts::{atom, literal, mode, pattern, sets, sym};
-use mz_core::field::Field;
-use mz_core::fields::Fields;
 use mz_core::hidden::set_type;
 use mz_core::item::Item;
 use mz_core::notation::{Meaning, Notation};
 use mz_core::notations::Notations;
 use mz_core::set_term::{Choice, SetTerm};
 use mz_core::soft_types::SoftTypes;
-use mz_core::structure::Structure;
+use mz_core::structure::{Field, Fields, Structure};
 use mz_logic::kind::Kind;
 use mz_logic::term::Term;
 use std::alloc::Global;

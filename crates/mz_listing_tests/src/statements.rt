@@ -2,9 +2,7 @@
 use crate::parts::{atom, literal, mode, sets, sym};
 use mz_core::item::Item;
 use mz_core::property::{Property, PropertyForm, Relation};
-use mz_core::scheme::Scheme;
-use mz_core::scheme_letter::SchemeLetter;
-use mz_core::scheme_letters::SchemeLetters;
+use mz_core::scheme::{Scheme, SchemeLetter, SchemeLetters};
 use mz_core::soft_types::SoftTypes;
 use mz_core::statements::Statements;
 use mz_logic::kind::Kind;

@@ -7,7 +7,7 @@ ghost use Rattle.mz_match.specs.Matches.{is_index, keep_index, match_index, cong
 
 use crate::assignment::Assignment;
 use crate::assignments::Assignments;
-use crate::matching::match_class;
+use crate::match_terms::match_class;
 use crate::table::Table;
 use mz_logic::formula::{Formula, FormulaNode};
 use mz_logic::term::{Term, TermNode, Terms};

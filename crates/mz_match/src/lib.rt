@@ -7,7 +7,7 @@ pub mod by_class;
 mod congruent;
 mod evaluate;
 pub mod literals;
-mod matching;
+mod match_terms;
 pub mod row;
 pub mod rows;
 pub mod table;

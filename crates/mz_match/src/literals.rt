@@ -6,7 +6,7 @@ ghost use Rattle.mz_logic.specs.Formula.{Eq, Atom};
 
 use crate::assignments::Assignments;
 use crate::congruent::congruent_formula;
-use crate::matching::{match_equal, match_pairs, match_rows};
+use crate::match_terms::{match_equal, match_pairs, match_rows};
 use crate::row::Head;
 use crate::table::Table;
 use mz_logic::formula::{Formula, FormulaNode};

@@ -1,7 +1,7 @@
 -- The latest constant with a name.
 use Rattle.std.proofs.Common.{◌≡◌, ◌≤◌, ◌<◌, ◌-◌, ℕ, zero, suc, Bool, true, false, List, [], ◌∷◌, refl, sym, ap, ◌∙◌, arith, length, Option, Some, None, get_or, if◌then◌else◌, slice_get}
 use Rattle.mz_context.specs.Context.{in_force, numbered}
-use Rattle.mz_context.specs.declared.constant.Constant.{Constant}
+use Rattle.mz_context.specs.declared.constants.Constant.{Constant}
 use Rattle.mz_context.specs.declared.context.Context.{Context}
 use Rattle.mz_logic.specs.Term.{Term}
 use Rattle.mz_names.specs.Names.{has_name, latest_up_to, number_of, argument}

@@ -4,7 +4,7 @@ use Rattle.mz_core.specs.Abstraction.{statement_over}
 use Rattle.mz_core.specs.Statement.{Statement, For}
 use Rattle.mz_core.specs.StatementForms.{opposite}
 use Rattle.mz_context.specs.Changes.{with_constant}
-use Rattle.mz_context.specs.declared.constant.Constant.{Constant}
+use Rattle.mz_context.specs.declared.constants.Constant.{Constant}
 use Rattle.mz_context.specs.declared.context.Context.{Context}
 use Rattle.mz_names.specs.declared.variable.Variable.{Variable}
 

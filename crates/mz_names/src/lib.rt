@@ -2,8 +2,8 @@
 //! letters, labels; and the way back from the constants that variables are to indices.
 #![tactic(auto)]
 
-pub mod closing;
 pub mod names;
+pub mod quantifiers;
 pub mod refusal;
 pub mod scope;
 pub mod variable;

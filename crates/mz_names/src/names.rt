@@ -4,13 +4,13 @@ ghost use Rattle.std.specs.Option.{option_copied};
 ghost use Rattle.mz_names.specs.Names.{has_name, number_of, variable, reserved_as, reserved_type, is_only_reserved, argument, private_functor, private_predicate, functor_letter, predicate_letter, labelled_as, is_reserved_as, is_functor_as, is_predicate_as, is_functor_letter_as, is_predicate_letter_as, has_label, is_of_functor, letter_sym, letter_places};
 
 use crate::scope::type_from;
-use mz_context::constant::Constant;
+use mz_context::constants::Constant;
 use mz_context::context::Context;
 use mz_context::labelled::LabelledStatement;
 use mz_context::letters::NamedLetter;
 use mz_context::private::{PrivateFunctor, PrivatePredicate};
 use mz_context::reserved::ReservedVariable;
-use mz_core::scheme_letter::SchemeLetter;
+use mz_core::scheme::SchemeLetter;
 use mz_core::soft_type::SoftType;
 use mz_core::soft_types::SoftTypes;
 use mz_logic::sym::Sym;

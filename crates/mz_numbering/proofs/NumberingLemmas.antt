@@ -18,7 +18,7 @@ use denote.Param.Members.{Mut}
 use Rattle.mz_logic.specs.Order.{term_cmp}
 use Rattle.mz_logic.proofs.OrderLemmas.{term_cmp_total, term_cmp-App}
 use Rattle.mz_ground.specs.declared.ground_part.Ground.{Ground}
-use Rattle.mz_ground.specs.declared.layer_end.LayerEnd.{LayerEnd}
+use Rattle.mz_ground.specs.declared.layer_ends.LayerEnd.{LayerEnd}
 use Rattle.mz_ground.specs.declared.ground_atom.GroundAtom.{GroundAtom}
 use Rattle.mz_logic.specs.Term.{Term, Const, App, terms_of}
 use Rattle.mz_numbering.specs.Numbering.{layer_of, term_layer, atom_layer, term_at_place, option_atom_cmp, term_place_cmp, atom_place_cmp, numbers_from, AreOrdered}

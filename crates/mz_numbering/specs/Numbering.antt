@@ -10,7 +10,7 @@ use Rattle.mz_logic.specs.Term.{Term}
 use Rattle.mz_ground.specs.Ground.{term_at, ground_terms}
 use Rattle.mz_ground.specs.declared.ground_part.Ground.{Ground}
 use Rattle.mz_ground.specs.declared.ground_atom.GroundAtom.{GroundAtom}
-use Rattle.mz_ground.specs.declared.layer_end.LayerEnd.{LayerEnd}
+use Rattle.mz_ground.specs.declared.layer_ends.LayerEnd.{LayerEnd}
 use Rattle.mz_numbering.specs.declared.numbering.Numbering.{Numbering}
 
 -- how many layers end before the place, where the ends of the layers are given

@@ -1,6 +1,6 @@
 -- What the code of obligations tells.
 use Rattle.std.proofs.Common.{◌≡◌, ◌-◌, ℕ, zero, suc, refl, sym, ap, ◌∙◌, arith, Option, Some, None}
-use Rattle.mz_core.specs.declared.left.Left.{Left}
+use Rattle.mz_core.specs.declared.outcome.Left.{Left}
 use Rattle.mz_obligations.specs.Obligations.{spent, obligation_spent}
 
 spent_one : (l : Left) (n m : ℕ) → (n ≡ 0 → ⊥) → m ≡ n - 1 → spent l n ≡ Some (record l { obligations = m })

@@ -2,10 +2,10 @@
 use Rattle.std.specs.Prelude.{◌≡◌, ℕ, suc, zero, List, Option, Some, None}
 use Rattle.mz_base.specs.declared.place.Place.{Place}
 use Rattle.mz_core.specs.Statement.{Statement}
-use Rattle.mz_core.specs.declared.left.Left.{Left}
-use Rattle.mz_context.specs.declared.constant.Constant.{Constant}
+use Rattle.mz_core.specs.declared.outcome.Left.{Left}
+use Rattle.mz_context.specs.declared.constants.Constant.{Constant}
 use Rattle.mz_ground.specs.declared.clause.Clause.{Clause}
-use Rattle.mz_environment.specs.declared.item_unfolding.Unfolding.{Unfolding}
+use Rattle.mz_environment.specs.declared.unfoldings.Unfolding.{Unfolding}
 use Rattle.mz_problem.specs.Asked.{Asks}
 use Rattle.mz_obligations.specs.declared.obligation.Duty.{Duty}
 use Rattle.mz_obligations.specs.declared.obligation.Duty.TheVariants.{By}

@@ -1,5 +1,4 @@
 //! Obligations: what has to be decided for a justification.
 #![tactic(auto)]
 
-pub mod asking;
 pub mod obligation;

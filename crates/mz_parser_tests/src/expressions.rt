@@ -2,7 +2,7 @@
 use crate::texts::{answer_of, article_tokens, parsed, tokens_behind_begin};
 use mz_parser_samples::answer::Answer;
 use mz_pexpr::forms::Form;
-use mz_pexpr::marking::marked_tokens;
+use mz_pexpr::marked_tokens::marked_tokens;
 use mz_pexpr::parse::read;
 use std::alloc::Global;
 use std::process::Abort;

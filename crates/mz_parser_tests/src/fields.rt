@@ -4,7 +4,7 @@ use mz_base::place::Place;
 use mz_base::token::MarkedToken;
 use mz_parser_samples::answer::Answer;
 use mz_pexpr::forms::{Expression, Form};
-use mz_pexpr::marking::marked_tokens;
+use mz_pexpr::marked_tokens::marked_tokens;
 use mz_pformula::parse::formula;
 use mz_pterm::parse::{ParseFault, term, terms};
 use mz_ptype::parse::{adjectives, declarations, whole_type};

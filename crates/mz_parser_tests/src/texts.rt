@@ -5,7 +5,7 @@ use mz_parser_samples::answer::{Answer, are_same, refused};
 use mz_parser_samples::texts;
 use mz_parser_samples::texts::SYMBOLS;
 use mz_pexpr::forms::{Expression, Form};
-use mz_pexpr::marking::marked_tokens;
+use mz_pexpr::marked_tokens::marked_tokens;
 use mz_pexpr::parse::expression;
 use mz_pterm::parse::ParseFault;
 use mz_tree::tree::{Copied, Spell};

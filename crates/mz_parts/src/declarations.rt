@@ -9,7 +9,7 @@ ghost use Rattle.mz_parts.specs.Declarations.{Declares, DeclaresAll, Declaration
 
 use crate::types::type_at;
 use mz_context::context::Context;
-use mz_core::left::Left;
+use mz_core::outcome::Left;
 use mz_core::soft_type::SoftType;
 use mz_environment::environment::Environment;
 use mz_formulas::declared::put_each;

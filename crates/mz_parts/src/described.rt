@@ -12,7 +12,7 @@ use mz_base::place::Place;
 use mz_choice::fresh::{keep, next_number};
 use mz_context::context::Context;
 use mz_context::labelled::LabelledStatements;
-use mz_core::left::Left;
+use mz_core::outcome::Left;
 use mz_core::statement::Statement;
 use mz_environment::environment::Environment;
 use mz_joined::bound::there_are_within;

@@ -6,7 +6,7 @@ ghost use Rattle.mz_parts.specs.Named.{definition, of_radix, Defines, NamedRead}
 
 use mz_context::context::Context;
 use mz_core::adjectives::Adjectives;
-use mz_core::left::Left;
+use mz_core::outcome::Left;
 use mz_core::radix::Radix;
 use mz_core::soft_type::SoftType;
 use mz_environment::environment::Environment;

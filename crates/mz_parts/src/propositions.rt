@@ -6,7 +6,7 @@ ghost use Rattle.mz_parts.specs.Propositions.{label_in, stated_by, PropositionsR
 use mz_base::text::Text;
 use mz_context::context::Context;
 use mz_context::labelled::{LabelledStatement, LabelledStatements};
-use mz_core::left::Left;
+use mz_core::outcome::Left;
 use mz_environment::environment::Environment;
 use mz_formulas::sentence::Sentence;
 use mz_resolve::calls::sentence;

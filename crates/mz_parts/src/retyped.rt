@@ -13,7 +13,7 @@ use crate::definitions::Definitions;
 use crate::named::definition;
 use mz_choice::fresh::keep;
 use mz_context::context::Context;
-use mz_core::left::Left;
+use mz_core::outcome::Left;
 use mz_core::soft_type::SoftType;
 use mz_environment::environment::Environment;
 use mz_formulas::declared::put_each;

@@ -5,12 +5,12 @@ ghost use Rattle.mz_resolve.specs.Calls.{TypeRead};
 ghost use Rattle.mz_tree.specs.Views.{type_of};
 
 use mz_context::context::Context;
-use mz_core::left::Left;
+use mz_core::outcome::Left;
 use mz_core::soft_type::SoftType;
 use mz_environment::environment::Environment;
 use mz_names::refusal::Refusal;
+use mz_resolve::budget::{budget, spend};
 use mz_resolve::resolve_fault::ResolveFault;
-use mz_resolve::spending::{budget, spend};
 use mz_sizes::nodes::after_type;
 use mz_terms::types::read_type;
 use mz_tree::nodes::TypeNode;

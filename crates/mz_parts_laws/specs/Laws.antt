@@ -1,7 +1,7 @@
 -- Laws of parts of steps: each is read to one thing at most, and behind what is read one thing is left.
 use Rattle.std.specs.Prelude.{◌≡◌, ℕ, List, Result, Ok, Err}
 use Rattle.mz_logic.specs.Term.{Term}
-use Rattle.mz_core.specs.declared.left.Left.{Left}
+use Rattle.mz_core.specs.declared.outcome.Left.{Left}
 use Rattle.mz_base.specs.declared.place.Place.{Place}
 use Rattle.mz_context.specs.declared.context.Context.{Context}
 use Rattle.mz_environment.specs.declared.environment.Environment.{Environment}

@@ -1,7 +1,7 @@
 //! Headings of definitions.
 use crate::texts::{article_tokens, taken};
 use mz_parser_samples::answer::{Answer, refused};
-use mz_pexpr::marking::marked_tokens;
+use mz_pexpr::marked_tokens::marked_tokens;
 use mz_pheading::headings::heading;
 use mz_pterm::parse::fault;
 use mz_pterm::reader::Reader;

@@ -3,7 +3,7 @@ use Rattle.std.proofs.Common.{◌≡◌, List, [], ◌∷◌, refl, sym, ap, ◌
 use Rattle.mz_core.specs.Statement.{Statement}
 use Rattle.mz_context.specs.Changes.{with_constant, mark_of}
 use Rattle.mz_context.specs.declared.context.Context.{Context}
-use Rattle.mz_context.specs.declared.mark.Mark.{Mark}
+use Rattle.mz_context.specs.declared.context.Mark.{Mark}
 use Rattle.mz_names.specs.Closing.{constant_of, with_variables}
 use Rattle.mz_names.specs.declared.variable.Variable.{Variable}
 use Rattle.mz_now.specs.Kept.{IsStated, stated_kept}
@@ -11,7 +11,7 @@ use Rattle.mz_now.specs.declared.now_part.NowPart.{NowPart}
 use Rattle.mz_steps.specs.Changes.{outside_of, at_start_of_proof}
 use Rattle.mz_steps.specs.declared.block.Block.{Block}
 use Rattle.mz_steps.specs.declared.block.Block.TheVariants.{Proof, Now}
-use Rattle.mz_steps.specs.declared.outside.Outside.{Outside}
+use Rattle.mz_steps.specs.declared.block.Outside.{Outside}
 use Rattle.mz_walk.specs.Walk.{stated_in}
 
 -- variables change neither the statement just before nor the thesis

@@ -4,7 +4,7 @@ use Rattle.std.specs.Prelude.{Result, Ok, Err}
 use Rattle.std.proofs.lemmas.List.{append_assoc}
 use Rattle.mz_base.specs.declared.place.Place.{Place}
 use Rattle.mz_core.specs.Statement.{Statement, Truth, Not}
-use Rattle.mz_core.specs.declared.left.Left.{Left}
+use Rattle.mz_core.specs.declared.outcome.Left.{Left}
 use Rattle.mz_context.specs.declared.context.Context.{Context}
 use Rattle.mz_context.specs.declared.labelled.LabelledStatement.{LabelledStatement}
 use Rattle.mz_environment.specs.declared.environment.Environment.{Environment}
@@ -15,7 +15,7 @@ use Rattle.mz_fits.proofs.FitLemmas.{empty}
 use Rattle.mz_resolve.specs.Answers.{OnRead}
 use Rattle.mz_resolve.specs.declared.resolve_fault.ResolveFault.{ResolveFault}
 use Rattle.mz_steps.specs.Changes.{with_stated, at_start_of_now, outside_of}
-use Rattle.mz_steps.specs.declared.outside.Outside.{Outside}
+use Rattle.mz_steps.specs.declared.block.Outside.{Outside}
 use Rattle.mz_tree_proof.specs.declared.propositions.HypothesesTree.{HypothesesTree}
 use Rattle.mz_tree_proof.specs.declared.skeleton.SplitTree.{SplitTree}
 use Rattle.mz_obligations.specs.declared.obligation.Extent.{Extent}

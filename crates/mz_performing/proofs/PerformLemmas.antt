@@ -3,7 +3,7 @@ use Rattle.std.proofs.Common.{◌≡◌, ℕ, List, [], ◌∷◌, length, Bool,
 use Rattle.std.specs.Prelude.{Result, Ok, Err}
 use Rattle.mz_base.specs.declared.place.Place.{Place}
 use Rattle.mz_core.specs.Statement.{Statement}
-use Rattle.mz_core.specs.declared.left.Left.{Left}
+use Rattle.mz_core.specs.declared.outcome.Left.{Left}
 use Rattle.mz_context.specs.declared.context.Context.{Context}
 use Rattle.mz_context.specs.declared.labelled.LabelledStatement.{LabelledStatement}
 use Rattle.mz_environment.specs.declared.environment.Environment.{Environment}
@@ -16,7 +16,7 @@ use Rattle.mz_fits.proofs.FitLemmas.{empty}
 use Rattle.mz_steps.specs.Changes.{block_after, context_after, with_stated}
 use Rattle.mz_steps.specs.Effects.{Acts, IsUnfit}
 use Rattle.mz_steps.specs.declared.block.Block.{Block}
-use Rattle.mz_steps.specs.declared.effect.Effect.{Effect}
+use Rattle.mz_steps.specs.declared.effects.Effect.{Effect}
 use Rattle.mz_steps.specs.declared.read_step.ReadStep.{ReadStep}
 use Rattle.mz_parts.specs.Joined.{joined_within}
 use Rattle.mz_justified.specs.Answers.{OnMade}

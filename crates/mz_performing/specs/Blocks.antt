@@ -1,7 +1,7 @@
 -- Contexts behind blocks.
 use Rattle.std.specs.Prelude.{take}
 use Rattle.mz_context.specs.declared.context.Context.{Context}
-use Rattle.mz_steps.specs.declared.outside.Outside.{Outside}
+use Rattle.mz_steps.specs.declared.block.Outside.{Outside}
 
 -- the lists as long as they were before a block, and what was put aside back
 abbrev pub restored : Context → Outside → Context

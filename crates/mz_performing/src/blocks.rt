@@ -8,11 +8,10 @@ ghost use Rattle.mz_walk.specs.Walk.{is_truth, is_proved, stated_in};
 use mz_context::context::Context;
 use mz_core::statement::{Statement, StatementNode};
 use mz_formulas::sentence::Sentence;
-use mz_names::closing::put_variables;
+use mz_names::quantifiers::put_variables;
 use mz_now::stated::stated_by;
-use mz_steps::block::Block;
+use mz_steps::block::{Block, Outside};
 use mz_steps::changes::begin_proof;
-use mz_steps::outside::Outside;
 use std::alloc::{AllocError, Global};
 
 /// Leaves a block: the lists of the context are as long as they were before it, and what was put aside comes back.

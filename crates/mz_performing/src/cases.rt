@@ -21,8 +21,8 @@ use mz_justified::proof_fault::{ProofFault, ProofRefusal};
 use mz_names::refusal::Refusal;
 use mz_obligations::obligation::{Extent, Obligations};
 use mz_parts::joined::disjoin;
+use mz_steps::block::Outside;
 use mz_steps::changes::{begin_now, state};
-use mz_steps::outside::Outside;
 use mz_tree_proof::skeleton::SplitTree;
 use std::alloc::{AllocError, Global};
 

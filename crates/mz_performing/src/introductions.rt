@@ -1,7 +1,7 @@
 //! Statements that introduce names: `consider`, `reconsider` and `set`.
 ghost use Rattle.std.specs.Prelude.{◌≡◌, ◌∷◌, [], map, is_some, Some, None, IfOk, OnOk};
 ghost use Rattle.std.specs.Bool.{OnTrue, OnFalse};
-ghost use Rattle.mz_core.specs.declared.left.Left.{Left};
+ghost use Rattle.mz_core.specs.declared.outcome.Left.{Left};
 ghost use Rattle.mz_context.specs.Context.{next};
 ghost use Rattle.mz_names.specs.Closing.{there_are};
 ghost use Rattle.mz_cited.specs.Cited.{members, tree_of};
@@ -15,11 +15,11 @@ ghost use Rattle.mz_walk.specs.Answers.{reached, IsBrought, Brings};
 
 use crate::fault::resolved;
 use crate::linked::is_linked;
-use crate::performing::{perform, perform_all, perform_alone};
+use crate::perform::{perform, perform_all, perform_alone};
 use crate::read_steps::reconsider_steps;
 use mz_base::place::Place;
 use mz_context::context::Context;
-use mz_core::left::Left;
+use mz_core::outcome::Left;
 use mz_core::statement::Statement;
 use mz_core::statements::Statements;
 use mz_core::type_statements::is_of_type;
@@ -28,8 +28,7 @@ use mz_justified::grounds::{ground, place_of};
 use mz_justified::justified::{justify_simply, oblige};
 use mz_justified::proof_fault::{ProofFault, ProofRefusal};
 use mz_names::refusal::Refusal;
-use mz_obligations::asking::spend_obligation;
-use mz_obligations::obligation::{Extent, Obligations};
+use mz_obligations::obligation::{Extent, Obligations, spend_obligation};
 use mz_parts::definitions::Definitions;
 use mz_parts::described::{Description, describe};
 use mz_parts::named::read_named;

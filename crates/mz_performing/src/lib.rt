@@ -9,5 +9,5 @@ pub mod fault;
 pub mod introductions;
 pub mod labels;
 pub mod linked;
-pub mod performing;
+pub mod perform;
 pub mod read_steps;

@@ -3,5 +3,5 @@
 #![tactic(auto)]
 
 pub mod forms;
-pub mod marking;
+pub mod marked_tokens;
 pub mod parse;

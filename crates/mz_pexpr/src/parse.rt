@@ -6,7 +6,7 @@ ghost use Rattle.mz_pexpr.specs.declared.forms.Form as rust;
 ghost use Rattle.mz_pexpr.specs.declared.forms.Form.TheVariants as forms;
 
 use crate::forms::{Expression, Form};
-use crate::marking::marked_tokens;
+use crate::marked_tokens::marked_tokens;
 use mz_base::place::Place;
 use mz_base::token::{MarkedToken, Tokens};
 use mz_pformula::parse::formula;

@@ -6,7 +6,7 @@ ghost use Rattle.mz_pitem.specs.Ended.{ended_of};
 use crate::articles;
 use mz_base::place::Place;
 use mz_base::token::{MarkedToken, Tokens};
-use mz_pexpr::marking::marked_tokens;
+use mz_pexpr::marked_tokens::marked_tokens;
 use mz_pterm::parse::{MAX_NESTING, ParseFault, fault};
 use mz_pterm::reader::Reader;
 use mz_tree_item::article::ArticleTree;

@@ -12,7 +12,7 @@ use Rattle.mz_base.specs.declared.name.Name.{Name}
 use Rattle.mz_base.specs.declared.place.Place.{Place}
 use Rattle.mz_base.specs.declared.token.MarkedToken.{MarkedToken}
 use Rattle.mz_base.specs.declared.token.Token.{Token}
-use Rattle.mz_core.specs.declared.export.Export.{Export}
+use Rattle.mz_core.specs.declared.outcome.Export.{Export}
 use Rattle.mz_core.specs.declared.fault.Fault.{Fault}
 use Rattle.mz_env.specs.LetIn.{LetIn, Gives, nothing, refused, let_in, behind, directed, directive_names, directed_names, missing_at, exported, constructors_known, requirement_known, first_missing, fault_of}
 use Rattle.mz_env.specs.Visits.{export_named}

@@ -9,7 +9,7 @@ use crate::forms::{ProofForm, ProofTree};
 use crate::reasonings::{justification, reasoning, statement};
 use mz_base::place::Place;
 use mz_base::token::{MarkedToken, Tokens};
-use mz_pexpr::marking::marked_tokens;
+use mz_pexpr::marked_tokens::marked_tokens;
 use mz_pproposition::parse::proposition;
 use mz_pterm::parse::{MAX_NESTING, ParseFault, fault};
 use mz_pterm::reader::Reader;

@@ -6,9 +6,9 @@ use Rattle.mz_logic.specs.Term.{Term}
 use Rattle.mz_core.specs.Statement.{Statement, Truth, Eq, Atom, Not, And, For}
 use Rattle.mz_core.specs.StatementForms.{opposite}
 use Rattle.mz_core.specs.TypeStatements.{signed}
-use Rattle.mz_context.specs.declared.constant.Constant.{Constant}
+use Rattle.mz_context.specs.declared.constants.Constant.{Constant}
 use Rattle.mz_ground.specs.declared.clause.Clause.{Clause}
-use Rattle.mz_environment.specs.declared.item_unfolding.Unfolding.{Unfolding}
+use Rattle.mz_environment.specs.declared.unfoldings.Unfolding.{Unfolding}
 use Rattle.mz_thesis.specs.Unfolding.{UnfoldsTo}
 use Rattle.mz_problem.specs.Definientia as definientia
 use Rattle.mz_problem.specs.Definientia.{is_atom, is_signed_atom, Adds, AllAdd}

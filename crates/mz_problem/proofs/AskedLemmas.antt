@@ -6,9 +6,9 @@ use Rattle.mz_logic.specs.declared.literal.Literal.{Literal}
 use Rattle.mz_core.specs.Statement.{Statement}
 use Rattle.mz_core.specs.declared.soft_type.SoftType.{SoftType}
 use Rattle.mz_context.specs.Context.{numbers}
-use Rattle.mz_context.specs.declared.constant.Constant.{Constant}
+use Rattle.mz_context.specs.declared.constants.Constant.{Constant}
 use Rattle.mz_ground.specs.declared.clause.Clause.{Clause}
-use Rattle.mz_environment.specs.declared.item_unfolding.Unfolding.{Unfolding}
+use Rattle.mz_environment.specs.declared.unfoldings.Unfolding.{Unfolding}
 use Rattle.mz_nf.specs.declared.problem.Problem.{Problem}
 use Rattle.mz_problem.specs.Opened.{is_universal, Opens, as_it_is, with_all_fresh, guards_from}
 use Rattle.mz_problem.specs.Definientia.{AllAdd}

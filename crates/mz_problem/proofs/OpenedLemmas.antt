@@ -9,7 +9,7 @@ use Rattle.mz_core.specs.Statement.{Statement, Truth, Eq, Atom, Not, And, For}
 use Rattle.mz_core.specs.TypeSubstitution.{substitute_statement, statement_at}
 use Rattle.mz_core.specs.declared.soft_type.SoftType.{SoftType}
 use Rattle.mz_context.specs.Context.{numbers}
-use Rattle.mz_context.specs.declared.constant.Constant.{Constant}
+use Rattle.mz_context.specs.declared.constants.Constant.{Constant}
 use Rattle.mz_thesis.specs.Rows.{with_fresh}
 use Rattle.mz_problem.specs.Opened.{is_universal, Opens, as_it_is, at_constant, with_all_fresh}
 

@@ -13,9 +13,9 @@ use Rattle.mz_core.specs.Erasure.{erase}
 use Rattle.mz_core.specs.declared.soft_type.SoftType.{SoftType}
 use Rattle.mz_context.specs.Context.{numbers}
 use Rattle.mz_context.specs.Gather.{below, reached, known_of_all}
-use Rattle.mz_context.specs.declared.constant.Constant.{Constant}
+use Rattle.mz_context.specs.declared.constants.Constant.{Constant}
 use Rattle.mz_ground.specs.declared.clause.Clause.{Clause}
-use Rattle.mz_environment.specs.declared.item_unfolding.Unfolding.{Unfolding}
+use Rattle.mz_environment.specs.declared.unfoldings.Unfolding.{Unfolding}
 use Rattle.mz_nf.specs.declared.problem.Problem.{Problem}
 use Rattle.mz_problem.specs.Opened.{Opens, with_all_fresh, guards_from}
 use Rattle.mz_problem.specs.Definientia.{AllAdd}

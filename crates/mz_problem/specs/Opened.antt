@@ -7,7 +7,7 @@ use Rattle.mz_core.specs.TypeSubstitution.{statement_at}
 use Rattle.mz_core.specs.Guard.{guard_literals}
 use Rattle.mz_core.specs.declared.soft_type.SoftType.{SoftType}
 use Rattle.mz_context.specs.Context.{numbers}
-use Rattle.mz_context.specs.declared.constant.Constant.{Constant}
+use Rattle.mz_context.specs.declared.constants.Constant.{Constant}
 use Rattle.mz_thesis.specs.Rows.{with_fresh}
 
 abbrev pub is_universal : Statement → Bool

@@ -8,8 +8,7 @@ ghost use Rattle.mz_thesis.specs.Rows.{with_fresh};
 ghost use Rattle.mz_problem.specs.Opened.{is_universal, Opens, with_all_fresh, guards_from};
 
 use mz_base::text::Text;
-use mz_context::constant::Constant;
-use mz_context::constants::Constants;
+use mz_context::constants::{Constant, Constants};
 use mz_core::guard::guard_literals;
 use mz_core::soft_type::SoftType;
 use mz_core::soft_types::SoftTypes;

@@ -8,9 +8,9 @@ use Rattle.mz_core.specs.StatementForms.{opposite}
 use Rattle.mz_core.specs.TypeSubstitution.{statement_at}
 use Rattle.mz_core.specs.declared.soft_type.SoftType.{SoftType}
 use Rattle.mz_context.specs.Context.{numbers}
-use Rattle.mz_context.specs.declared.constant.Constant.{Constant}
+use Rattle.mz_context.specs.declared.constants.Constant.{Constant}
 use Rattle.mz_ground.specs.declared.clause.Clause.{Clause}
-use Rattle.mz_environment.specs.declared.item_unfolding.Unfolding.{Unfolding}
+use Rattle.mz_environment.specs.declared.unfoldings.Unfolding.{Unfolding}
 use Rattle.mz_nf.specs.declared.problem.Problem.{Problem}
 use Rattle.mz_thesis.specs.Rows.{with_fresh}
 use Rattle.mz_thesis.specs.Unfolding.{UnfoldsTo}

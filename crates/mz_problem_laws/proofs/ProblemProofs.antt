@@ -34,10 +34,10 @@ use Rattle.mz_core.proofs.LawProofs.{body_in_force, body_below, more_in_force, g
 use Rattle.mz_laws.proofs.StatementProofs.{more_formula_in_force, more_type_in_force}
 use Rattle.mz_context.specs.Context.{numbers}
 use Rattle.mz_context.specs.Gather.{below, reached, known, known_of_all}
-use Rattle.mz_context.specs.declared.constant.Constant.{Constant}
+use Rattle.mz_context.specs.declared.constants.Constant.{Constant}
 use Rattle.mz_ground.specs.ClauseFormula.{clause_formula}
 use Rattle.mz_ground.specs.declared.clause.Clause.{Clause}
-use Rattle.mz_environment.specs.declared.item_unfolding.Unfolding.{Unfolding}
+use Rattle.mz_environment.specs.declared.unfoldings.Unfolding.{Unfolding}
 use Rattle.mz_nf.specs.declared.problem.Problem.{Problem}
 use Rattle.mz_fits.specs.Laws.{AreGranted}
 use Rattle.mz_thesis.specs.Rows.{with_fresh}

@@ -1,9 +1,9 @@
 -- A statement and what is given have one problem at most.
 use Rattle.std.specs.Prelude.{◌≡◌, List, Option}
 use Rattle.mz_core.specs.Statement.{Statement}
-use Rattle.mz_context.specs.declared.constant.Constant.{Constant}
+use Rattle.mz_context.specs.declared.constants.Constant.{Constant}
 use Rattle.mz_ground.specs.declared.clause.Clause.{Clause}
-use Rattle.mz_environment.specs.declared.item_unfolding.Unfolding.{Unfolding}
+use Rattle.mz_environment.specs.declared.unfoldings.Unfolding.{Unfolding}
 use Rattle.mz_nf.specs.declared.problem.Problem.{Problem}
 use Rattle.mz_problem.specs.Asked.{Asks}
 

@@ -12,9 +12,9 @@ use Rattle.mz_core.specs.InForce.{statement_in_force}
 use Rattle.mz_core.specs.Below.{statement_below}
 use Rattle.mz_context.specs.Context.{numbers}
 use Rattle.mz_context.specs.Gather.{known}
-use Rattle.mz_context.specs.declared.constant.Constant.{Constant}
+use Rattle.mz_context.specs.declared.constants.Constant.{Constant}
 use Rattle.mz_ground.specs.declared.clause.Clause.{Clause}
-use Rattle.mz_environment.specs.declared.item_unfolding.Unfolding.{Unfolding}
+use Rattle.mz_environment.specs.declared.unfoldings.Unfolding.{Unfolding}
 use Rattle.mz_nf.specs.declared.problem.Problem.{Problem}
 use Rattle.mz_fits.specs.Laws.{AreGranted}
 use Rattle.mz_problem.specs.Asked.{Asks}

@@ -4,9 +4,9 @@ use Rattle.std.specs.Prelude.{flat_map, Result, Ok, Err}
 use Rattle.std.proofs.lemmas.List.{append-nil}
 use Rattle.mz_core.specs.Statement.{Statement, Truth}
 use Rattle.mz_base.specs.declared.place.Place.{Place}
-use Rattle.mz_core.specs.declared.left.Left.{Left}
+use Rattle.mz_core.specs.declared.outcome.Left.{Left}
 use Rattle.mz_context.specs.Changes.{with_constant}
-use Rattle.mz_context.specs.declared.constant.Constant.{Constant}
+use Rattle.mz_context.specs.declared.constants.Constant.{Constant}
 use Rattle.mz_context.specs.declared.context.Context.{Context}
 use Rattle.mz_context.specs.declared.labelled.LabelledStatement.{LabelledStatement}
 use Rattle.mz_environment.specs.declared.environment.Environment.{Environment}
@@ -15,8 +15,8 @@ use Rattle.mz_names.specs.declared.refusal.Refusal.{Refusal}
 use Rattle.mz_names.specs.declared.variable.Variable.{Variable}
 use Rattle.mz_steps.specs.Rows.{with_constants, constant_for}
 use Rattle.mz_steps.specs.Changes.{with_thesis, label_of, with_stated, context_after, outside_of, at_start_of_proof, at_start_of_now}
-use Rattle.mz_steps.specs.declared.effect.Effect.{Effect}
-use Rattle.mz_steps.specs.declared.effect.Effect.TheVariants.{Unchanged, Leaves, Says as SaysParts}
+use Rattle.mz_steps.specs.declared.effects.Effect.{Effect}
+use Rattle.mz_steps.specs.declared.effects.Effect.TheVariants.{Unchanged, Leaves, Says as SaysParts}
 use Rattle.mz_steps.specs.declared.read_step.Definition.{Definition}
 use Rattle.mz_steps.specs.declared.read_step.ReadStep.{ReadStep}
 use Rattle.mz_steps.specs.declared.read_step.ReadStep.TheVariants.{Let, Assume, Given, Thus, Take, Consider, Reconsider, Set, State as Stated}

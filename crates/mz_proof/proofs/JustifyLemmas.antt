@@ -2,7 +2,7 @@
 use Rattle.std.proofs.Common.{◌≡◌, List, [], ◌∷◌, Bool, true, false, sym, ap, ◌∙◌, subst}
 use Rattle.std.specs.Prelude.{Result, Ok, Err, OnOk}
 use Rattle.mz_base.specs.declared.place.Place.{Place}
-use Rattle.mz_core.specs.declared.left.Left.{Left}
+use Rattle.mz_core.specs.declared.outcome.Left.{Left}
 use Rattle.mz_context.specs.declared.context.Context.{Context}
 use Rattle.mz_environment.specs.declared.environment.Environment.{Environment}
 use Rattle.mz_formulas.specs.declared.sentence.Sentence.{Sentence}
@@ -18,7 +18,7 @@ use Rattle.mz_walk.specs.Answers.{IsBrought, Brings}
 use Rattle.mz_performing.proofs.AnswerLemmas.{on_err, on_ok, on_made}
 use Rattle.mz_steps.specs.Changes.{outside_of, at_start_of_proof}
 use Rattle.mz_steps.specs.declared.block.Block.TheVariants.{Proof}
-use Rattle.mz_steps.specs.declared.outside.Outside.{Outside}
+use Rattle.mz_steps.specs.declared.block.Outside.{Outside}
 use Rattle.mz_tree_proof.specs.Reasoning.{JustData, StepList, SimpleJust, ProofJust}
 use Rattle.mz_tree_proof.specs.declared.references.SimpleTree.{SimpleTree}
 use Rattle.mz_justified.specs.Justified.{Justified, Put}

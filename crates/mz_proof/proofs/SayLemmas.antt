@@ -4,7 +4,7 @@ use Rattle.std.specs.Prelude.{Result, Ok, Err, OnOk}
 use Rattle.std.proofs.lemmas.List.{append-nil, append_assoc}
 use Rattle.mz_base.specs.declared.place.Place.{Place}
 use Rattle.mz_core.specs.Statement.{Statement}
-use Rattle.mz_core.specs.declared.left.Left.{Left}
+use Rattle.mz_core.specs.declared.outcome.Left.{Left}
 use Rattle.mz_context.specs.declared.context.Context.{Context}
 use Rattle.mz_environment.specs.declared.environment.Environment.{Environment}
 use Rattle.mz_formulas.specs.declared.sentence.Sentence.{Sentence}
@@ -20,7 +20,7 @@ use Rattle.mz_performing.proofs.AnswerLemmas.{on_err, on_ok, on_made}
 use Rattle.mz_now.specs.declared.now_part.NowPart.{NowPart}
 use Rattle.mz_steps.specs.Changes.{block_after, context_after, outside_of, at_start_of_now}
 use Rattle.mz_steps.specs.declared.block.Block.TheVariants.{Now}
-use Rattle.mz_steps.specs.declared.outside.Outside.{Outside}
+use Rattle.mz_steps.specs.declared.block.Outside.{Outside}
 use Rattle.mz_tree_proof.specs.Reasoning.{JustData, CompactData, StepList, StatedCompact}
 use Rattle.mz_tree_proof.specs.declared.equality_step.EqualityStepTree.{EqualityStepTree}
 use Rattle.mz_tree_proof.specs.declared.propositions.PropositionTree.{PropositionTree}

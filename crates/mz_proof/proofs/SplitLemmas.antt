@@ -5,7 +5,7 @@ use Rattle.std.proofs.lemmas.List.{append-nil, append_assoc}
 use Rattle.mz_free.proofs.OccurringLemmas.{drop-at}
 use Rattle.mz_base.specs.declared.place.Place.{Place}
 use Rattle.mz_core.specs.Statement.{Statement}
-use Rattle.mz_core.specs.declared.left.Left.{Left}
+use Rattle.mz_core.specs.declared.outcome.Left.{Left}
 use Rattle.mz_context.specs.declared.context.Context.{Context}
 use Rattle.mz_environment.specs.declared.environment.Environment.{Environment}
 use Rattle.mz_obligations.specs.declared.obligation.Extent.{Extent}
@@ -18,7 +18,7 @@ use Rattle.mz_walk.specs.Walk as wa
 use Rattle.mz_walk.specs.Answers.{IsBrought, Brings}
 use Rattle.mz_performing.proofs.AnswerLemmas.{on_err, on_ok, on_made}
 use Rattle.mz_steps.specs.Changes.{with_stated}
-use Rattle.mz_steps.specs.declared.outside.Outside.{Outside}
+use Rattle.mz_steps.specs.declared.block.Outside.{Outside}
 use Rattle.mz_tree_proof.specs.Reasoning.{SupposeData, SupposeList, StepList, supposes_of, CaseSuppose, more_supposes}
 use Rattle.mz_tree_proof.specs.declared.propositions.HypothesesTree.{HypothesesTree}
 use Rattle.mz_tree_proof.specs.declared.skeleton.SplitTree.{SplitTree}

@@ -1,6 +1,6 @@
 -- Contexts that have grown.
 use Rattle.std.specs.Prelude.{◌≡◌, ◌++◌, List, Option}
-use Rattle.mz_context.specs.declared.constant.Constant.{Constant}
+use Rattle.mz_context.specs.declared.constants.Constant.{Constant}
 use Rattle.mz_context.specs.declared.context.Context.{Context}
 use Rattle.mz_context.specs.declared.labelled.LabelledStatement.{LabelledStatement}
 use Rattle.mz_context.specs.declared.letters.NamedLetter.{NamedLetter}

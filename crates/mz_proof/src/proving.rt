@@ -14,7 +14,7 @@ ghost use Rattle.mz_walk.specs.Answers.{Brings};
 use crate::walk;
 use mz_base::place::Place;
 use mz_context::context::Context;
-use mz_core::left::Left;
+use mz_core::outcome::Left;
 use mz_core::statement::Statement;
 use mz_environment::environment::Environment;
 use mz_formulas::sentence::Sentence;

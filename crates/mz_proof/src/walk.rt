@@ -21,7 +21,7 @@ use mz_compact::cases::begin_case;
 use mz_compact::nows::state_now;
 use mz_compact::sides::{justify_sides, place_behind};
 use mz_context::context::Context;
-use mz_core::left::Left;
+use mz_core::outcome::Left;
 use mz_core::statement::Statement;
 use mz_core::statements::Statements;
 use mz_environment::environment::Environment;

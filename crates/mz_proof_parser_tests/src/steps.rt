@@ -4,7 +4,7 @@ use mz_base::place::Place;
 use mz_base::token::MarkedToken;
 use mz_forms::refusal::Refusal;
 use mz_parser_samples::answer::{Answer, refused};
-use mz_pexpr::marking::marked_tokens;
+use mz_pexpr::marked_tokens::marked_tokens;
 use mz_pstep::equalities::equality_step;
 use mz_pstep::introductions::{consider, deffunc, defpred, reconsider, set_statement};
 use mz_pstep::skeletons::{assume, given, let_step, split, take};

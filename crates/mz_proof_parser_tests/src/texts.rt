@@ -3,7 +3,7 @@ use mz_base::token::{MarkedToken, Tokens};
 use mz_parser_samples::answer;
 use mz_parser_samples::answer::Answer;
 use mz_parser_samples::texts::tokens_behind_begin;
-use mz_pexpr::marking::marked_tokens;
+use mz_pexpr::marked_tokens::marked_tokens;
 use mz_pjustification::parse::simple;
 use mz_pproposition::parse::proposition;
 use mz_tree::tree::Spell;

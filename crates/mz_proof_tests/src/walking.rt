@@ -4,7 +4,7 @@ use mz_base::place::Place;
 use mz_base::token::Tokens;
 use mz_context::context::Context;
 use mz_core::items::Items;
-use mz_core::left::Left;
+use mz_core::outcome::Left;
 use mz_environment::environment::Environment;
 use mz_justified::proof_fault::{ProofFault, ProofRefusal};
 use mz_logic::texts::push_formula;

@@ -12,7 +12,7 @@ use Rattle.mz_core.proofs.AllLemmas.{all-append, is_of_type_all}
 use Rattle.mz_context.specs.declared.context.Context.{Context}
 use Rattle.mz_environment.specs.declared.environment.Environment.{Environment}
 use Rattle.mz_names.specs.declared.refusal.Refusal.{Refusal}
-use Rattle.mz_choice.specs.declared.wanted.Wanted.TheVariants.{Anything}
+use Rattle.mz_choice.specs.declared.choice.Wanted.TheVariants.{Anything}
 use Rattle.mz_sizes.specs.Sizes.{statement_keeps}
 use Rattle.mz_tree.specs.Trees.{TermData, TermsData, TypeData, AdjectiveData}
 use Rattle.mz_tree.specs.declared.word.Word.{Word}

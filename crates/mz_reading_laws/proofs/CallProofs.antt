@@ -3,7 +3,7 @@ use Rattle.std.proofs.Common.{ℕ}
 use Rattle.std.specs.Prelude.{Option, Result, Ok, Err}
 use Rattle.mz_base.specs.declared.place.Place.{Place}
 use Rattle.mz_ground.specs.Instance.{term_nodes}
-use Rattle.mz_core.specs.declared.left.Left.{Left}
+use Rattle.mz_core.specs.declared.outcome.Left.{Left}
 use Rattle.mz_names.specs.declared.refusal.Refusal.{Refusal}
 use Rattle.mz_sizes.specs.Sizes.{type_nodes, statement_nodes}
 use Rattle.mz_tree.specs.Places.{first_place}

@@ -17,8 +17,8 @@ use Rattle.mz_core.specs.Closed.{term_under, type_under, statement_under, loci_c
 use Rattle.mz_core.specs.InForce.{term_in_force, formula_in_force, type_in_force, statement_in_force}
 use Rattle.mz_core.specs.Below.{statement_below}
 use Rattle.mz_core.specs.TypeStatements.{is_of_type}
-use Rattle.mz_core.specs.declared.scheme_letter.SchemeLetter.{SchemeLetter}
-use Rattle.mz_core.specs.declared.scheme_letter.SchemeLetter.TheVariants.{OfFunctor, OfPredicate}
+use Rattle.mz_core.specs.declared.scheme.SchemeLetter.{SchemeLetter}
+use Rattle.mz_core.specs.declared.scheme.SchemeLetter.TheVariants.{OfFunctor, OfPredicate}
 use Rattle.mz_core.proofs.AllLemmas.{all-append, conjunction_all, is_of_type_all}
 use Rattle.mz_core.proofs.LawProofs.{in_force_at, statement_in_force-all, guard_in_force, erasure_in_force}
 use Rattle.mz_items.specs.Closed.{letter_closed}
@@ -28,7 +28,7 @@ use Rattle.mz_items.proofs.RowLemmas.{under_at, over_under, term_on_under}
 use Rattle.mz_context.specs.Context.{in_force, constant_at, next}
 use Rattle.mz_context.specs.Changes.{with_constant, labelled}
 use Rattle.mz_context.specs.Gather.{known_of, equation_if_any}
-use Rattle.mz_context.specs.declared.constant.Constant.{Constant}
+use Rattle.mz_context.specs.declared.constants.Constant.{Constant}
 use Rattle.mz_context.specs.declared.context.Context.{Context}
 use Rattle.mz_context.specs.declared.labelled.LabelledStatement.{LabelledStatement}
 use Rattle.mz_fits.proofs.OneMatch.{some-inj, none_some}
@@ -36,8 +36,8 @@ use Rattle.mz_names.specs.Closing.{constant_of, with_variables}
 use Rattle.mz_names.specs.declared.variable.Variable.{Variable}
 use Rattle.mz_steps.specs.Rows.{constant_for, with_constants}
 use Rattle.mz_steps.specs.Changes.{with_thesis, statement_of, joined_by, label_of, with_stated}
-use Rattle.mz_steps.specs.declared.effect.Effect.{Effect}
-use Rattle.mz_steps.specs.declared.effect.Effect.TheVariants.{Unchanged, Leaves, Says}
+use Rattle.mz_steps.specs.declared.effects.Effect.{Effect}
+use Rattle.mz_steps.specs.declared.effects.Effect.TheVariants.{Unchanged, Leaves, Says}
 use Rattle.mz_steps.specs.declared.read_step.ReadStep.{ReadStep}
 use Rattle.mz_steps.specs.declared.read_step.ReadStep.TheVariants.{Let, Assume, Given, Thus, Take, Consider, Reconsider, Set, State}
 use Rattle.mz_steps_laws.specs.Facts.{known_from, just_before, letter_of, statements_in}

@@ -3,10 +3,10 @@ use crate::samples::{define, element_of, empty, put, reserve, stands_for, two_va
 use mz_core::hidden::{object_type, set_type};
 use mz_core::statement::Statement;
 use mz_logic::term::Term;
-use mz_names::closing::{for_all, put_variables, there_are};
 use mz_names::names::{
     argument, functor_letter, is_only_reserved, labelled_as, private_functor, reserved_type,
 };
+use mz_names::quantifiers::{for_all, put_variables, there_are};
 use std::alloc::Global;
 use std::mem::forget;
 use std::process::Abort;

@@ -1,7 +1,5 @@
 //! Runs, grouped by hand.
-use mz_grouping::grouping::{grouped, has_neighbours};
-use mz_grouping::part::Part;
-use mz_grouping::step::Step;
+use mz_grouping::grouping::{Part, Step, grouped, has_neighbours};
 use std::alloc::Global;
 use std::mem::forget;
 use std::process::Abort;

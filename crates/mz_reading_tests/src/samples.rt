@@ -1,10 +1,9 @@
 //! Small contexts.
 use mz_base::text::Text;
-use mz_context::constant::Constant;
-use mz_context::context::Context;
+use mz_context::constants::Constant;
+use mz_context::context::{Context, SymbolCounts};
 use mz_context::private::PrivateFunctor;
 use mz_context::reserved::ReservedVariable;
-use mz_context::symbol_counts::SymbolCounts;
 use mz_core::adjectives::Adjectives;
 use mz_core::hidden::{object_type, set_type};
 use mz_core::radix::Radix;

@@ -1,6 +1,6 @@
 -- Reservations: identifiers that are reserved for types.
 use Rattle.std.specs.Prelude.{ℕ, List, [], ◌∷◌, ◌++◌, map, Result, Ok, Err}
-use Rattle.mz_core.specs.declared.left.Left.{Left}
+use Rattle.mz_core.specs.declared.outcome.Left.{Left}
 use Rattle.mz_core.specs.declared.soft_type.SoftType.{SoftType}
 use Rattle.mz_context.specs.declared.context.Context.{Context}
 use Rattle.mz_context.specs.declared.reserved.ReservedVariable.{ReservedVariable}

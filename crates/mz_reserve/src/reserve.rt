@@ -6,7 +6,7 @@ ghost use Rattle.mz_reserve.specs.Reserve.{reserved_for, reserved_behind, with_r
 
 use mz_context::context::Context;
 use mz_context::reserved::{ReservedVariable, ReservedVariables};
-use mz_core::left::Left;
+use mz_core::outcome::Left;
 use mz_core::soft_type::SoftType;
 use mz_environment::environment::Environment;
 use mz_resolve::calls::type_of;

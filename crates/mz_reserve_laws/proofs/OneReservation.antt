@@ -1,7 +1,7 @@
 -- What reservations lead to, and what the article has left behind them, is determined.
 use Rattle.std.proofs.Common.{List, [], ◌∷◌, refl}
 use Rattle.std.specs.Prelude.{Result, Ok, Err}
-use Rattle.mz_core.specs.declared.left.Left.{Left}
+use Rattle.mz_core.specs.declared.outcome.Left.{Left}
 use Rattle.mz_core.specs.declared.soft_type.SoftType.{SoftType}
 use Rattle.mz_context.specs.declared.context.Context.{Context}
 use Rattle.mz_environment.specs.declared.environment.Environment.{Environment}

@@ -1,6 +1,6 @@
 -- The law of reservations: they lead to one context, or to one refusal.
 use Rattle.std.specs.Prelude.{List}
-use Rattle.mz_core.specs.declared.left.Left.{Left}
+use Rattle.mz_core.specs.declared.outcome.Left.{Left}
 use Rattle.mz_context.specs.declared.context.Context.{Context}
 use Rattle.mz_environment.specs.declared.environment.Environment.{Environment}
 use Rattle.mz_tree_part.specs.declared.reserve.SegmentTree.{SegmentTree}

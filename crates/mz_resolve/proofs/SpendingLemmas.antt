@@ -1,7 +1,7 @@
 -- What is spent of what an article has left.
 use Rattle.std.proofs.Common.{◌≡◌, ◌<◌, ◌≤◌, ◌-◌, ◌+◌, ℕ, refl, sym, ap, ◌∙◌, subst, arith, Option, Some, None, Bool, true, false}
 use Rattle.std.specs.Prelude.{min, MatchBool}
-use Rattle.mz_core.specs.declared.left.Left.{Left}
+use Rattle.mz_core.specs.declared.outcome.Left.{Left}
 use Rattle.mz_ground.specs.Nodes.{IsSpent}
 use Rattle.mz_resolve.specs.Spending.{spent}
 

@@ -1,6 +1,6 @@
 -- What an article has left of its nodes.
 use Rattle.std.specs.Prelude.{◌-◌, ℕ}
-use Rattle.mz_core.specs.declared.left.Left.{Left}
+use Rattle.mz_core.specs.declared.outcome.Left.{Left}
 
 -- so many nodes fewer
 abbrev pub spent : Left → ℕ → Left

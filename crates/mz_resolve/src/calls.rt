@@ -11,10 +11,10 @@ ghost use Rattle.std.specs.Prelude.{◌≡◌};
 ghost use Rattle.mz_resolve.specs.Answers.{OnRead};
 ghost use Rattle.mz_resolve.specs.Calls.{TermRead, TypeRead, FormulaRead, SentenceRead};
 
+use crate::budget::{budget, spend};
 use crate::resolve_fault::ResolveFault;
-use crate::spending::{budget, spend};
 use mz_context::context::Context;
-use mz_core::left::Left;
+use mz_core::outcome::Left;
 use mz_core::soft_type::SoftType;
 use mz_core::statement::Statement;
 use mz_environment::environment::Environment;

@@ -2,6 +2,6 @@
 //! has left then.
 #![tactic(auto)]
 
+pub mod budget;
 pub mod calls;
 pub mod resolve_fault;
-pub mod spending;

@@ -1,12 +1,11 @@
 //! Environments of small articles and contexts in them, from rows. What a test is done with is forgotten, not dropped.
 use mz_base::numbers::Numbers;
 use mz_base::text::Text;
-use mz_context::constant::Constant;
-use mz_context::context::Context;
+use mz_context::constants::Constant;
+use mz_context::context::{Context, SymbolCounts};
 use mz_context::letters::NamedLetter;
 use mz_context::private::{PrivateFunctor, PrivatePredicate};
 use mz_context::reserved::ReservedVariable;
-use mz_context::symbol_counts::SymbolCounts;
 use mz_core::definition::{AtomDefinition, AttributeDefinition, MeansDefinition};
 use mz_core::formula_definiens::FormulaDefiniens;
 use mz_core::item::Item;
@@ -14,7 +13,7 @@ use mz_core::notation::{Meaning, Notation};
 use mz_core::pattern::Pattern;
 use mz_core::redefinition::FunctorRedefinition;
 use mz_core::registration::ExistentialRegistration;
-use mz_core::scheme_letter::SchemeLetter;
+use mz_core::scheme::SchemeLetter;
 use mz_core::soft_type::SoftType;
 use mz_core::soft_types::SoftTypes;
 use mz_core::statement::Statement;

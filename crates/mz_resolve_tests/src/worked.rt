@@ -6,13 +6,11 @@ use crate::making::{
 };
 use crate::reading::{Call, Row, Symbols, check};
 use mz_context::context::Context;
-use mz_core::field::Field;
-use mz_core::fields::Fields;
 use mz_core::item::Item;
 use mz_core::notation::{Meaning, Notation};
 use mz_core::notations::Notations;
 use mz_core::soft_types::SoftTypes;
-use mz_core::structure::Structure;
+use mz_core::structure::{Field, Fields, Structure};
 use mz_environment::environment::Environment;
 use mz_fits_tests::samples::T;
 use mz_logic::kind::Kind;

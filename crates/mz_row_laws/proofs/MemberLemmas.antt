@@ -11,7 +11,7 @@ use Rattle.mz_ground.specs.declared.trigger.Trigger.TheVariants.{Atom}
 use Rattle.mz_ground.specs.Variables.{has_all_below}
 use Rattle.mz_ground.specs.declared.clause.Clause.{Clause}
 use Rattle.mz_clauses.specs.Groups.{one_group, group_if_any, clause_where, clause_if_triggered, groups_clauses}
-use Rattle.mz_environment.specs.declared.row.Row.{Row}
+use Rattle.mz_environment.specs.declared.rows.Row.{Row}
 use Rattle.mz_environment.specs.Rows.{row_where}
 use Rattle.mz_row_laws.specs.RowLaws.{HasClause}
 

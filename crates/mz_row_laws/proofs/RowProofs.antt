@@ -12,8 +12,8 @@ use Rattle.mz_core.specs.Hidden.{is_of_any_object, set_type}
 use Rattle.mz_core.specs.Guard.{guard_literals}
 use Rattle.mz_core.specs.declared.adjective.Adjective.{Adjective}
 use Rattle.mz_core.specs.declared.soft_type.SoftType.{SoftType}
-use Rattle.mz_core.specs.declared.scheme_letter.SchemeLetter.{SchemeLetter}
-use Rattle.mz_core.specs.declared.scheme_letter.SchemeLetter.TheVariants.{OfFunctor, OfPredicate}
+use Rattle.mz_core.specs.declared.scheme.SchemeLetter.{SchemeLetter}
+use Rattle.mz_core.specs.declared.scheme.SchemeLetter.TheVariants.{OfFunctor, OfPredicate}
 use Rattle.mz_core.specs.declared.set_term.SetTerm.{SetTerm as TheSetTerm}
 use Rattle.mz_core.specs.declared.item.Item.{Item}
 use Rattle.mz_core.specs.declared.item.Item.TheVariants.{Axiom, AxiomScheme, Primitive, Theorem, Scheme, FunctorMeans, FunctorEquals, Predicate, Attribute, ModeMeans, Abbreviation, Notation, RedefinedFunctor, RedefinedMode, RedefinedPredicate, RedefinedAttribute, Property, Existential, Conditional, Functorial, Reduction, Identification, Structure, SetTerm, Choice}
@@ -24,7 +24,7 @@ use Rattle.mz_clauses.specs.Guards.{loci_guards, guard_at_object}
 use Rattle.mz_clauses.specs.Groups.{groups_clauses}
 use Rattle.mz_clauses.specs.DefinitionClauses.{functor_type_groups, new_functor_type_groups, mode_parent_groups, new_mode_parent_groups}
 use Rattle.mz_clauses.specs.Clauses.{typing_clauses, letter_clauses}
-use Rattle.mz_environment.specs.declared.row.Row.{Row}
+use Rattle.mz_environment.specs.declared.rows.Row.{Row}
 use Rattle.mz_environment.specs.Rows.{row, row_on, redefined_functor_rows, redefined_mode_rows, is_empty, is_bare, is_mode, has_loci, functor_rows, mode_rows, letter_rows}
 use Rattle.mz_row_laws.specs.RowLaws.{row_term, row_mode, functor_row_clauses, mode_row_clauses, FunctorRowLaw, ModeRowLaw, LetterRowLaw, HasTypeClauses, HasParentClauses, HasClause, FunctorClauseLaw, ModeClauseLaw, LetterClauseLaw}
 use Rattle.mz_row_laws.proofs.IndexLemmas.{term_full, atom_full, subject_full}

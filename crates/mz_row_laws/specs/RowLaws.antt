@@ -5,14 +5,14 @@ use Rattle.mz_logic.specs.declared.literal.Literal.{Literal}
 use Rattle.mz_core.specs.Hidden.{is_of_any_object}
 use Rattle.mz_core.specs.Guard.{guard_literals}
 use Rattle.mz_core.specs.declared.soft_type.SoftType.{SoftType}
-use Rattle.mz_core.specs.declared.scheme_letter.SchemeLetter.{SchemeLetter}
+use Rattle.mz_core.specs.declared.scheme.SchemeLetter.{SchemeLetter}
 use Rattle.mz_core.specs.declared.item.Item.{Item}
 use Rattle.mz_ground.specs.declared.clause.Clause.{Clause}
 use Rattle.mz_clauses.specs.Guards.{loci_guards, guard_at_object}
 use Rattle.mz_clauses.specs.Groups.{groups_clauses}
 use Rattle.mz_clauses.specs.DefinitionClauses.{functor_type_groups, mode_parent_groups}
 use Rattle.mz_clauses.specs.Clauses.{typing_clauses, letter_clauses}
-use Rattle.mz_environment.specs.declared.row.Row.{Row}
+use Rattle.mz_environment.specs.declared.rows.Row.{Row}
 use Rattle.mz_environment.specs.Rows.{functor_rows, mode_rows, letter_rows}
 
 -- the application of a row

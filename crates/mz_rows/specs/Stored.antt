@@ -1,6 +1,6 @@
 -- What a table keeps.
 use Rattle.std.specs.Prelude.{◌≡◌, ℕ, List, length, map}
-use Rattle.mz_core.specs.declared.export.Export.{Export}
+use Rattle.mz_core.specs.declared.outcome.Export.{Export}
 use Rattle.mz_core.specs.declared.verdict.Entry.{Entry}
 use Rattle.mz_corpus.specs.Article.{Article}
 use Rattle.mz_turns.specs.Dependencies.{direct_rows}

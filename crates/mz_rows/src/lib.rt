@@ -1,7 +1,7 @@
 //! The rows of a corpus: how each article stands, what the report tells of it, and the library.
 #![tactic(auto)]
 
-pub mod blocking;
+pub mod blocked;
 pub mod counts;
 pub mod laws;
 pub mod links;

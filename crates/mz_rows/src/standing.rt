@@ -4,7 +4,7 @@ ghost use Rattle.mz_rows.specs.declared.standing.RowState.TheVariants.{Claimed};
 ghost use Rattle.mz_rows.specs.Standing.{standing_state, is_settled_state, is_waiting_state, is_claimed_state, is_accepted_state};
 
 use mz_base::name::Name;
-use mz_core::export::Export;
+use mz_core::outcome::Export;
 use std::sync::Arc;
 
 /// How an article stands: all but the first two are settled.

@@ -18,8 +18,8 @@ use crate::standing::{RowState, Standing};
 use mz_axioms::built_in::built_in;
 use mz_axioms::exports::Exports;
 use mz_base::name::Name;
-use mz_core::export::Export;
 use mz_core::fault::Faults;
+use mz_core::outcome::Export;
 use mz_core::verdict::{Counts, Entry, Verdict, Verdicts};
 use mz_corpus::article::Article;
 use mz_corpus::corpus::Corpus;
@@ -44,7 +44,7 @@ impl Model for Table {
     ghost use Rattle.mz_rows.specs.Standing.{rows_from};
     ghost use Rattle.mz_rows.specs.Stored.{IsStored};
     ghost use Rattle.std.specs.Coded.{codes};
-    ghost use Rattle.mz_core.specs.contracts.export.Export as export_contract;
+    ghost use Rattle.mz_core.specs.contracts.outcome.Export as export_contract;
 
     ghost Value = { TableValue };
 

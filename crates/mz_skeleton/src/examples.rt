@@ -1,6 +1,6 @@
 //! `take`: examples, each fitted before the next one is read.
 ghost use Rattle.std.specs.Prelude.{◌≡◌, map};
-ghost use Rattle.mz_core.specs.declared.left.Left.{Left};
+ghost use Rattle.mz_core.specs.declared.outcome.Left.{Left};
 ghost use Rattle.mz_cited.specs.Cited.{members, tree_of};
 ghost use Rattle.mz_justified.specs.Answers.{OnMade};
 ghost use Rattle.mz_walk.specs.Walked.{state, OneByOne};
@@ -9,12 +9,12 @@ ghost use Rattle.mz_walk.specs.Answers.{reached};
 
 use mz_base::place::Place;
 use mz_context::context::Context;
-use mz_core::left::Left;
+use mz_core::outcome::Left;
 use mz_environment::environment::Environment;
 use mz_justified::proof_fault::ProofFault;
 use mz_parts::named::read_named;
 use mz_performing::fault::resolved;
-use mz_performing::performing::{perform_all, perform_alone};
+use mz_performing::perform::{perform_all, perform_alone};
 use mz_performing::read_steps::take_and_set;
 use mz_resolve::calls::term;
 use mz_steps::block::Block;

@@ -1,6 +1,6 @@
 //! `assume`: hypotheses, each fitted before the next one is read, and stated together behind the last.
 ghost use Rattle.std.specs.Prelude.{◌≡◌, ◌++◌, ◌∷◌, [], map, IfOk, OnOk};
-ghost use Rattle.mz_core.specs.declared.left.Left.{Left};
+ghost use Rattle.mz_core.specs.declared.outcome.Left.{Left};
 ghost use Rattle.mz_parts.specs.Propositions.{stated_by, behind_and, propositions_in, hypotheses_in};
 ghost use Rattle.mz_steps.specs.declared.read_step.ReadStep.TheVariants as read;
 ghost use Rattle.mz_justified.specs.Answers.{OnMade};
@@ -11,13 +11,13 @@ ghost use Rattle.mz_walk.specs.Answers.{reached};
 use mz_base::place::Place;
 use mz_context::context::Context;
 use mz_context::labelled::LabelledStatements;
-use mz_core::left::Left;
+use mz_core::outcome::Left;
 use mz_environment::environment::Environment;
 use mz_formulas::sentence::Sentence;
 use mz_justified::proof_fault::ProofFault;
 use mz_parts::propositions::stated_by;
 use mz_performing::fault::resolved;
-use mz_performing::performing::{perform_alone, state_within};
+use mz_performing::perform::{perform_alone, state_within};
 use mz_resolve::calls::sentence;
 use mz_steps::block::Block;
 use mz_steps::read_step::ReadStep;

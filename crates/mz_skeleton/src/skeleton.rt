@@ -1,6 +1,6 @@
 //! The steps of the skeleton: `let`, `assume`, `given` and `take`.
 ghost use Rattle.std.specs.Prelude.{◌≡◌};
-ghost use Rattle.mz_core.specs.declared.left.Left.{Left};
+ghost use Rattle.mz_core.specs.declared.outcome.Left.{Left};
 ghost use Rattle.mz_steps.specs.declared.read_step.ReadStep.TheVariants as read;
 ghost use Rattle.mz_justified.specs.Answers.{OnMade};
 ghost use Rattle.mz_walk.specs.Walked.{state};
@@ -13,13 +13,13 @@ use crate::hypotheses::{assume_conditions, assumes};
 use crate::variables::lets;
 use mz_base::place::Place;
 use mz_context::context::Context;
-use mz_core::left::Left;
+use mz_core::outcome::Left;
 use mz_environment::environment::Environment;
 use mz_justified::proof_fault::{ProofFault, ProofRefusal};
 use mz_parts::described::{Description, describe};
 use mz_performing::fault::resolved;
 use mz_performing::linked::is_now;
-use mz_performing::performing::perform;
+use mz_performing::perform::perform;
 use mz_steps::block::Block;
 use mz_steps::read_step::ReadStep;
 use mz_tree_proof::skeleton::{GivenTree, LetTree, SkeletonTree};

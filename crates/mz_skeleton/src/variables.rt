@@ -1,6 +1,6 @@
 //! `let`: variables, each in force before the next one is read.
 ghost use Rattle.std.specs.Prelude.{◌≡◌, ◌∷◌, [], map};
-ghost use Rattle.mz_core.specs.declared.left.Left.{Left};
+ghost use Rattle.mz_core.specs.declared.outcome.Left.{Left};
 ghost use Rattle.mz_tree.specs.Views.{declared_of};
 ghost use Rattle.mz_formulas.specs.Declarations.{declared_tree};
 ghost use Rattle.mz_parts.specs.Declarations.{declared_in};
@@ -11,12 +11,12 @@ ghost use Rattle.mz_walk.specs.Answers.{reached};
 
 use mz_base::place::Place;
 use mz_context::context::Context;
-use mz_core::left::Left;
+use mz_core::outcome::Left;
 use mz_environment::environment::Environment;
 use mz_justified::proof_fault::{ProofFault, ProofRefusal};
 use mz_parts::declarations::{declare, reserved_variable};
 use mz_performing::fault::resolved;
-use mz_performing::performing::{perform_all, perform_alone};
+use mz_performing::perform::{perform_all, perform_alone};
 use mz_performing::read_steps::let_steps;
 use mz_steps::block::Block;
 use mz_steps::read_step::ReadStep;

@@ -4,7 +4,7 @@ ghost use Rattle.mz_sound_proof.specs.Sound.{IsProved, IsJustified, IsStated};
 
 use mz_base::place::Place;
 use mz_context::context::Context;
-use mz_core::left::Left;
+use mz_core::outcome::Left;
 use mz_core::statement::Statement;
 use mz_environment::environment::Environment;
 use mz_formulas::sentence::Sentence;

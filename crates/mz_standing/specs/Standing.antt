@@ -3,7 +3,7 @@ use Rattle.std.specs.Prelude.{ℕ, ◌+◌, ◌*◌, List, [], ◌∷◌, ◌++�
 use Rattle.mz_base.specs.declared.name.Name.{Name}
 use Rattle.mz_core.specs.Statement.{Statement}
 use Rattle.mz_core.specs.declared.item.Item.{Item}
-use Rattle.mz_core.specs.declared.left.Left.{Left}
+use Rattle.mz_core.specs.declared.outcome.Left.{Left}
 use Rattle.mz_ground.specs.declared.clause.Clause.{Clause}
 use Rattle.mz_clauses.specs.Clauses.{typing_clauses, further_clauses, equality_clauses}
 use Rattle.mz_environment.specs.Cited.{at_start, numbered}
@@ -11,7 +11,7 @@ use Rattle.mz_environment.specs.Environment.{joined, of_item}
 use Rattle.mz_environment.specs.declared.environment.Environment.{Environment}
 use Rattle.mz_context.specs.Changes.{labelled}
 use Rattle.mz_context.specs.declared.context.Context.{Context}
-use Rattle.mz_context.specs.declared.symbol_counts.SymbolCounts.{SymbolCounts}
+use Rattle.mz_context.specs.declared.context.SymbolCounts.{SymbolCounts}
 use Rattle.mz_obligations.specs.declared.obligation.Extent.{Extent}
 use Rattle.mz_standing.specs.declared.standing.Standing.{Standing}
 

@@ -11,7 +11,7 @@ use mz_clauses::clauses_of::{equality_clauses, further_clauses, typing_clauses};
 use mz_context::context::Context;
 use mz_core::item::Item;
 use mz_core::statement::Statement;
-use mz_environment::joining::push_clauses;
+use mz_environment::join::push_clauses;
 use mz_ground::clauses::Clauses;
 use mz_obligations::obligation::Extent;
 use std::alloc::{AllocError, Global};

@@ -1,7 +1,7 @@
 //! Where the reading of an article's items stands.
 use mz_context::context::Context;
 use mz_core::items::Items;
-use mz_core::left::Left;
+use mz_core::outcome::Left;
 use mz_environment::environment::Environment;
 use mz_environment::numbering::Numbering;
 use mz_ground::clauses::Clauses;

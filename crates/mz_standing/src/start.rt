@@ -4,12 +4,11 @@ ghost use Rattle.mz_standing.specs.Standing.{clauses_in, no_symbols, no_context,
 
 use crate::standing::Standing;
 use mz_base::name::Name;
-use mz_context::context::Context;
-use mz_context::symbol_counts::SymbolCounts;
+use mz_context::context::{Context, SymbolCounts};
 use mz_core::items::Items;
-use mz_core::left::Left;
+use mz_core::outcome::Left;
 use mz_environment::environment::Environment;
-use mz_environment::joining::push_clauses;
+use mz_environment::join::push_clauses;
 use mz_environment::numbering::Numbering;
 use mz_ground::clauses::Clauses;
 use std::alloc::{AllocError, Global};

@@ -11,7 +11,7 @@ use Rattle.mz_core.specs.Erasure.{erase}
 use Rattle.mz_core.specs.Statement.{Statement}
 use Rattle.mz_core.specs.declared.item.Item.{Item}
 use Rattle.mz_core.specs.declared.item.Item.TheVariants.{Theorem}
-use Rattle.mz_core.specs.declared.export.Export.{Export}
+use Rattle.mz_core.specs.declared.outcome.Export.{Export}
 use Rattle.mz_core.proofs.AllLemmas.{all-append}
 use Rattle.mz_ground.proofs.ListLemmas.{contains_first, contains_later, contains_get}
 use Rattle.mz_items.specs.Items.{owes}

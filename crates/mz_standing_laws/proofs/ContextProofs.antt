@@ -7,7 +7,7 @@ use Rattle.mz_logic.specs.Literal.{literal_formula}
 use Rattle.mz_core.specs.Erasure.{erase}
 use Rattle.mz_core.specs.Statement.{Statement}
 use Rattle.mz_core.specs.TypeStatements.{literal_statement}
-use Rattle.mz_core.specs.declared.left.Left.{Left}
+use Rattle.mz_core.specs.declared.outcome.Left.{Left}
 use Rattle.mz_ground.proofs.ListLemmas.{contains_none, contains_one, contains_map, map_contains}
 use Rattle.mz_context.specs.Changes.{labelled}
 use Rattle.mz_context.specs.Context.{next, numbers}

@@ -2,7 +2,7 @@
 use Rattle.std.specs.Prelude.{◌≡◌, List, Ok, Contains}
 use Rattle.mz_base.specs.declared.name.Name.{Name}
 use Rattle.mz_base.specs.declared.head.Directive.{Directive}
-use Rattle.mz_core.specs.declared.export.Export.{Export}
+use Rattle.mz_core.specs.declared.outcome.Export.{Export}
 use Rattle.mz_items.specs.Exports.{HasNotationsOfItems}
 use Rattle.mz_axioms.specs.Library.{HasName, Sound, AreExportsOf, added}
 use Rattle.mz_environment.specs.declared.environment.Environment.{Environment}

@@ -3,8 +3,8 @@ use Rattle.std.specs.Prelude.{◌≡◌, ℕ, Bool, List, Ok, All}
 use Rattle.mz_base.specs.declared.place.Place.{Place}
 use Rattle.mz_base.specs.declared.head.Directive.{Directive}
 use Rattle.mz_core.specs.declared.item.Item.TheVariants.{Theorem}
-use Rattle.mz_core.specs.declared.export.Export.{Export}
-use Rattle.mz_core.specs.declared.left.Left.{Left}
+use Rattle.mz_core.specs.declared.outcome.Export.{Export}
+use Rattle.mz_core.specs.declared.outcome.Left.{Left}
 use Rattle.mz_axioms.specs.Library.{HasClosedItems}
 use Rattle.mz_context.specs.Context.{next}
 use Rattle.mz_context.specs.declared.context.Context.{Context}

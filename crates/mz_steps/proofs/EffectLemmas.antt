@@ -5,14 +5,14 @@ use Rattle.std.proofs.lemmas.Result.{IfOk-weaker}
 use Rattle.mz_core.specs.Statement.{Statement}
 use Rattle.mz_context.specs.declared.context.Context.{Context}
 use Rattle.mz_ground.specs.declared.clause.Clause.{Clause}
-use Rattle.mz_environment.specs.declared.item_unfolding.Unfolding.{Unfolding}
+use Rattle.mz_environment.specs.declared.unfoldings.Unfolding.{Unfolding}
 use Rattle.mz_thesis.specs.Applied.{Leads, Refuses}
 use Rattle.mz_thesis.specs.declared.step.Step.{Step}
 use Rattle.mz_thesis.specs.declared.thesis_fault.ThesisFault.{ThesisFault}
 use Rattle.mz_thesis.specs.declared.thesis_fault.ThesisFault.TheVariants.{NoFit, Memory}
 use Rattle.mz_steps.specs.Effects.{Led, IsUnled}
-use Rattle.mz_steps.specs.declared.effect.Effect.{Effect}
-use Rattle.mz_steps.specs.declared.effect.Effect.TheVariants.{Unchanged, Leaves, Says}
+use Rattle.mz_steps.specs.declared.effects.Effect.{Effect}
+use Rattle.mz_steps.specs.declared.effects.Effect.TheVariants.{Unchanged, Leaves, Says}
 
 pub told_led : (cs : List Clause) (us : List Unfolding) (c : Context) (o : Option Statement) (thesis after : Statement) (step : Step) → o ≡ Some thesis → Leads cs c.constants us thesis step after → Led cs us c o step (Some (Leaves after))
 told_led cs us c o thesis after step e h = subst (λ p. Led cs us c p step (Some (Leaves after))) (sym e) (Some after, h, refl)

@@ -3,7 +3,7 @@ use Rattle.std.proofs.Common.{◌≡◌, List, ap, sym, ◌∙◌, Option, Some,
 use Rattle.mz_core.specs.Statement.{Statement}
 use Rattle.mz_context.specs.declared.context.Context.{Context}
 use Rattle.mz_ground.specs.declared.clause.Clause.{Clause}
-use Rattle.mz_environment.specs.declared.item_unfolding.Unfolding.{Unfolding}
+use Rattle.mz_environment.specs.declared.unfoldings.Unfolding.{Unfolding}
 use Rattle.mz_thesis.specs.Applied.{most_unfoldings}
 use Rattle.mz_thesis.specs.declared.step.Step.{Step}
 use Rattle.mz_thesis.proofs.OneValue.{one_thesis_law}
@@ -12,7 +12,7 @@ use Rattle.mz_steps.specs.Effects.{left_of, Led, ActsBy, Acts}
 use Rattle.mz_steps.specs.declared.read_step.ReadStep.{ReadStep}
 use Rattle.mz_steps.specs.declared.block.Block.{Block}
 use Rattle.mz_steps.specs.declared.block.Block.TheVariants.{Proof, Now}
-use Rattle.mz_steps.specs.declared.effect.Effect.{Effect}
+use Rattle.mz_steps.specs.declared.effects.Effect.{Effect}
 use Rattle.mz_steps.specs.Laws.{OneEffectLaw}
 
 one_led : (cs : List Clause) (us : List Unfolding) (c : Context) (thesis : Option Statement) (step : Step) (o p : Option Effect) → Led cs us c thesis step o → Led cs us c thesis step p → o ≡ p

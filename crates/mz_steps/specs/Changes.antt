@@ -5,15 +5,15 @@ use Rattle.mz_core.specs.Parts.{conjunction}
 use Rattle.mz_context.specs.Changes.{labelled, mark_of, cut_back}
 use Rattle.mz_context.specs.declared.context.Context.{Context}
 use Rattle.mz_context.specs.declared.labelled.LabelledStatement.{LabelledStatement}
-use Rattle.mz_context.specs.declared.mark.Mark.{Mark}
+use Rattle.mz_context.specs.declared.context.Mark.{Mark}
 use Rattle.mz_steps.specs.Rows.{with_constants}
 use Rattle.mz_now.specs.declared.now_part.NowPart.{NowPart}
 use Rattle.mz_steps.specs.declared.read_step.ReadStep.{ReadStep}
 use Rattle.mz_steps.specs.declared.block.Block.{Block}
 use Rattle.mz_steps.specs.declared.block.Block.TheVariants.{Proof, Now}
-use Rattle.mz_steps.specs.declared.effect.Effect.{Effect}
-use Rattle.mz_steps.specs.declared.effect.Effect.TheVariants.{Unchanged, Leaves, Says}
-use Rattle.mz_steps.specs.declared.outside.Outside.{Outside}
+use Rattle.mz_steps.specs.declared.effects.Effect.{Effect}
+use Rattle.mz_steps.specs.declared.effects.Effect.TheVariants.{Unchanged, Leaves, Says}
+use Rattle.mz_steps.specs.declared.block.Outside.{Outside}
 
 -- the block behind a step that does this in it
 abbrev pub block_after : Block → Effect → Block

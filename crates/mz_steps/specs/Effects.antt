@@ -4,7 +4,7 @@ use Rattle.std.specs.List.{list_any}
 use Rattle.mz_core.specs.Statement.{Statement}
 use Rattle.mz_context.specs.declared.context.Context.{Context}
 use Rattle.mz_ground.specs.declared.clause.Clause.{Clause}
-use Rattle.mz_environment.specs.declared.item_unfolding.Unfolding.{Unfolding}
+use Rattle.mz_environment.specs.declared.unfoldings.Unfolding.{Unfolding}
 use Rattle.mz_thesis.specs.Applied.{Applied, most_unfoldings}
 use Rattle.mz_thesis.specs.declared.step.Step.{Step}
 use Rattle.mz_thesis.specs.declared.thesis_fault.ThesisFault.{ThesisFault}
@@ -15,8 +15,8 @@ use Rattle.mz_now.specs.declared.now_part.NowPart.{NowPart}
 use Rattle.mz_steps.specs.declared.read_step.ReadStep.{ReadStep}
 use Rattle.mz_steps.specs.declared.block.Block.{Block}
 use Rattle.mz_steps.specs.declared.block.Block.TheVariants.{Proof, Now}
-use Rattle.mz_steps.specs.declared.effect.Effect.{Effect}
-use Rattle.mz_steps.specs.declared.effect.Effect.TheVariants.{Unchanged, Leaves, Says}
+use Rattle.mz_steps.specs.declared.effects.Effect.{Effect}
+use Rattle.mz_steps.specs.declared.effects.Effect.TheVariants.{Unchanged, Leaves, Says}
 
 -- the thesis after the step is left, or the step doesn't fit
 abbrev pub left_of : Option Statement → Option Effect

@@ -2,11 +2,11 @@
 use Rattle.std.specs.Prelude.{◌≡◌, List, Option}
 use Rattle.mz_context.specs.declared.context.Context.{Context}
 use Rattle.mz_ground.specs.declared.clause.Clause.{Clause}
-use Rattle.mz_environment.specs.declared.item_unfolding.Unfolding.{Unfolding}
+use Rattle.mz_environment.specs.declared.unfoldings.Unfolding.{Unfolding}
 use Rattle.mz_steps.specs.Effects.{Acts}
 use Rattle.mz_steps.specs.declared.read_step.ReadStep.{ReadStep}
 use Rattle.mz_steps.specs.declared.block.Block.{Block}
-use Rattle.mz_steps.specs.declared.effect.Effect.{Effect}
+use Rattle.mz_steps.specs.declared.effects.Effect.{Effect}
 
 -- a step does one thing at most in a block
 abbrev pub OneEffectLaw : Type 0

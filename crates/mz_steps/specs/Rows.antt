@@ -5,7 +5,7 @@ use Rattle.mz_core.specs.Statement.{Statement}
 use Rattle.mz_core.specs.TypeStatements.{is_of_type}
 use Rattle.mz_context.specs.Context.{next}
 use Rattle.mz_context.specs.Changes.{with_constant}
-use Rattle.mz_context.specs.declared.constant.Constant.{Constant}
+use Rattle.mz_context.specs.declared.constants.Constant.{Constant}
 use Rattle.mz_context.specs.declared.context.Context.{Context}
 use Rattle.mz_names.specs.Closing.{constant_of, with_variables, there_are}
 use Rattle.mz_names.specs.declared.variable.Variable.{Variable}

@@ -4,11 +4,9 @@
 
 pub mod block;
 pub mod changes;
-pub mod effect;
 pub mod effects;
 pub mod equalities;
 pub mod laws;
-pub mod outside;
 pub mod premises;
 pub mod read_step;
 pub mod rows;

@@ -7,10 +7,10 @@ ghost use Rattle.mz_now.specs.Stated.{defined};
 ghost use Rattle.mz_steps.specs.Rows.{constant_for, with_constants, hidden_from, parts_said, stands_in_now};
 
 use crate::read_step::{Definition, ReadStep};
-use mz_context::constant::Constant;
+use mz_context::constants::Constant;
 use mz_context::context::Context;
 use mz_core::statement::Statement;
-use mz_names::closing::{put_variable, put_variables, there_are};
+use mz_names::quantifiers::{put_variable, put_variables, there_are};
 use mz_names::variable::{Variable, Variables};
 use mz_now::hidden::defined;
 use mz_now::now_part::{NowPart, NowParts};

@@ -4,15 +4,15 @@ use Rattle.std.specs.Prelude.{flat_map}
 use Rattle.std.proofs.lemmas.List.{append-nil}
 use Rattle.mz_core.specs.Statement.{Statement}
 use Rattle.mz_context.specs.Changes.{trimmed, with_constant}
-use Rattle.mz_context.specs.declared.constant.Constant.{Constant}
+use Rattle.mz_context.specs.declared.constants.Constant.{Constant}
 use Rattle.mz_context.specs.declared.context.Context.{Context}
 use Rattle.mz_context.specs.declared.labelled.LabelledStatement.{LabelledStatement}
 use Rattle.mz_names.specs.Closing.{constant_of, with_variables}
 use Rattle.mz_names.specs.declared.variable.Variable.{Variable}
 use Rattle.mz_steps.specs.Rows.{with_constants, constant_for}
 use Rattle.mz_steps.specs.Changes.{with_thesis, label_of, with_stated, context_after, outside_of, at_start_of_proof, at_start_of_now, behind_block}
-use Rattle.mz_steps.specs.declared.effect.Effect.{Effect}
-use Rattle.mz_steps.specs.declared.effect.Effect.TheVariants.{Unchanged, Leaves, Says}
+use Rattle.mz_steps.specs.declared.effects.Effect.{Effect}
+use Rattle.mz_steps.specs.declared.effects.Effect.TheVariants.{Unchanged, Leaves, Says}
 use Rattle.mz_steps.specs.declared.read_step.ReadStep.{ReadStep}
 use Rattle.mz_steps.specs.declared.read_step.ReadStep.TheVariants.{Let, Assume, Given, Thus, Take, Consider, Reconsider, Set, State}
 use Rattle.mz_steps_laws.specs.BlockLaws.{Grew, StepGrowsLaw, MoreGrewLaw, ProofGrewLaw, NowGrewLaw, BlockLaw}

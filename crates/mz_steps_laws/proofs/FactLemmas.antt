@@ -15,10 +15,10 @@ use Rattle.mz_core.specs.Erasure.{erase}
 use Rattle.mz_context.specs.Context.{next, numbered, numbers, in_force}
 use Rattle.mz_context.specs.Changes.{with_constant}
 use Rattle.mz_context.specs.Gather.{known, known_of, equation_if_any}
-use Rattle.mz_context.specs.declared.constant.Constant.{Constant}
+use Rattle.mz_context.specs.declared.constants.Constant.{Constant}
 use Rattle.mz_context.specs.declared.context.Context.{Context}
 use Rattle.mz_ground.specs.declared.clause.Clause.{Clause}
-use Rattle.mz_environment.specs.declared.item_unfolding.Unfolding.{Unfolding}
+use Rattle.mz_environment.specs.declared.unfoldings.Unfolding.{Unfolding}
 use Rattle.mz_fits.specs.Laws.{AreGranted}
 use Rattle.mz_names.specs.Closing.{constant_of, with_variables}
 use Rattle.mz_names.specs.declared.variable.Variable.{Variable}

@@ -23,7 +23,7 @@ use Rattle.mz_context.specs.Context.{next}
 use Rattle.mz_context.specs.Changes.{with_constant}
 use Rattle.mz_context.specs.declared.context.Context.{Context}
 use Rattle.mz_ground.specs.declared.clause.Clause.{Clause}
-use Rattle.mz_environment.specs.declared.item_unfolding.Unfolding.{Unfolding}
+use Rattle.mz_environment.specs.declared.unfoldings.Unfolding.{Unfolding}
 use Rattle.mz_names.specs.Closing.{constant_of, with_variables, there_are}
 use Rattle.mz_names.specs.declared.variable.Variable.{Variable}
 use Rattle.mz_thesis.specs.Applied.{most_unfoldings}
@@ -41,8 +41,8 @@ use Rattle.mz_steps.specs.Effects.{ActsBy}
 use Rattle.mz_steps.specs.declared.read_step.Definition.{Definition}
 use Rattle.mz_steps.specs.declared.read_step.ReadStep.{ReadStep}
 use Rattle.mz_steps.specs.declared.read_step.ReadStep.TheVariants.{Let, Assume, Given, Thus, Take, Consider, Reconsider, Set, State}
-use Rattle.mz_steps.specs.declared.effect.Effect.{Effect}
-use Rattle.mz_steps.specs.declared.effect.Effect.TheVariants.{Unchanged, Leaves}
+use Rattle.mz_steps.specs.declared.effects.Effect.{Effect}
+use Rattle.mz_steps.specs.declared.effects.Effect.TheVariants.{Unchanged, Leaves}
 use Rattle.mz_steps_laws.specs.Facts.{facts, Rests}
 use Rattle.mz_steps_laws.specs.StepLaws.{AreDeclared, guards_of, IsReadIn, gained, OwedDerives, thesis_left, StepInProofLaw}
 use Rattle.mz_steps_laws.proofs.FactLemmas.{granted, each_with_constant, each_with_variables, each_of_variable, each_of_definition}

@@ -16,10 +16,10 @@ use Rattle.mz_core.proofs.LawProofs.{more_in_force, body_in_force, body_below, n
 use Rattle.mz_core.proofs.AllLemmas.{opposite_all, conjunction_all, parts_all}
 use Rattle.mz_context.specs.Context.{next, numbers}
 use Rattle.mz_context.specs.Changes.{with_constant}
-use Rattle.mz_context.specs.declared.constant.Constant.{Constant}
+use Rattle.mz_context.specs.declared.constants.Constant.{Constant}
 use Rattle.mz_context.specs.declared.context.Context.{Context}
 use Rattle.mz_ground.specs.declared.clause.Clause.{Clause}
-use Rattle.mz_environment.specs.declared.item_unfolding.Unfolding.{Unfolding}
+use Rattle.mz_environment.specs.declared.unfoldings.Unfolding.{Unfolding}
 use Rattle.mz_names.specs.Closing.{constant_of, with_variables}
 use Rattle.mz_names.specs.declared.variable.Variable.{Variable}
 use Rattle.mz_thesis.specs.declared.step.Step.{Step}
@@ -33,8 +33,8 @@ use Rattle.mz_steps.specs.Rows.{thesis_step, with_constants, constant_for}
 use Rattle.mz_steps.specs.Effects.{left_of, Led, ActsBy, Acts}
 use Rattle.mz_steps.specs.declared.read_step.ReadStep.{ReadStep}
 use Rattle.mz_steps.specs.declared.read_step.ReadStep.TheVariants.{Let, Assume, Given, Thus, Take, Consider, Reconsider, Set, State}
-use Rattle.mz_steps.specs.declared.effect.Effect.{Effect}
-use Rattle.mz_steps.specs.declared.effect.Effect.TheVariants.{Unchanged, Leaves, Says}
+use Rattle.mz_steps.specs.declared.effects.Effect.{Effect}
+use Rattle.mz_steps.specs.declared.effects.Effect.TheVariants.{Unchanged, Leaves, Says}
 use Rattle.mz_steps_laws.specs.Facts.{facts, Rests}
 use Rattle.mz_steps_laws.specs.StepLaws.{IsReadIn, thesis_left, ThesisStandsLaw}
 use Rattle.mz_steps_laws.proofs.FactLemmas.{next_with}

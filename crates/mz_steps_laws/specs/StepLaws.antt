@@ -13,7 +13,7 @@ use Rattle.mz_context.specs.Context.{next}
 use Rattle.mz_context.specs.declared.context.Context.{Context}
 use Rattle.mz_context.specs.declared.labelled.LabelledStatement.{LabelledStatement}
 use Rattle.mz_ground.specs.declared.clause.Clause.{Clause}
-use Rattle.mz_environment.specs.declared.item_unfolding.Unfolding.{Unfolding}
+use Rattle.mz_environment.specs.declared.unfoldings.Unfolding.{Unfolding}
 use Rattle.mz_names.specs.Closing.{there_are}
 use Rattle.mz_names.specs.declared.variable.Variable.{Variable}
 use Rattle.mz_thesis_laws.specs.RowLaws.{AreInForce}
@@ -23,8 +23,8 @@ use Rattle.mz_steps.specs.Changes.{statement_of, with_stated}
 use Rattle.mz_steps.specs.declared.read_step.ReadStep.{ReadStep}
 use Rattle.mz_steps.specs.declared.read_step.ReadStep.TheVariants.{Let, Assume, Given, Thus, Take, Consider, Reconsider, Set, State}
 use Rattle.mz_steps.specs.declared.block.Block.TheVariants.{Proof}
-use Rattle.mz_steps.specs.declared.effect.Effect.{Effect}
-use Rattle.mz_steps.specs.declared.effect.Effect.TheVariants.{Unchanged, Leaves, Says}
+use Rattle.mz_steps.specs.declared.effects.Effect.{Effect}
+use Rattle.mz_steps.specs.declared.effects.Effect.TheVariants.{Unchanged, Leaves, Says}
 use Rattle.mz_steps_laws.specs.Facts.{facts, Rests}
 
 -- the type of each variable is in force behind the variables before it, and the statement behind all; the first one has

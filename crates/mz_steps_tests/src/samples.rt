@@ -1,8 +1,7 @@
 //! Statements, variables and parts of a `now`, read from their texts.
 use mz_base::text::Text;
 use mz_context::constants::Constants;
-use mz_context::context::Context;
-use mz_context::symbol_counts::SymbolCounts;
+use mz_context::context::{Context, SymbolCounts};
 use mz_core::statement::Statement;
 use mz_fits_tests::samples::{T, ty};
 use mz_logic::formula::{Formula, FormulaNode};

@@ -21,7 +21,7 @@ use Rattle.mz_core.specs.declared.notation.Meaning.{Meaning}
 use Rattle.mz_core.specs.declared.notation.Meaning.TheVariants.{OfTerm, OfLiteral, OfType}
 use Rattle.mz_core.proofs.AllLemmas.{literal_statement_all}
 use Rattle.mz_context.specs.Context.{numbered, numbers, next}
-use Rattle.mz_context.specs.declared.constant.Constant.{Constant}
+use Rattle.mz_context.specs.declared.constants.Constant.{Constant}
 use Rattle.mz_context.specs.declared.context.Context.{Context}
 use Rattle.mz_context.specs.declared.letters.NamedLetter.{NamedLetter}
 use Rattle.mz_context.specs.declared.private.PrivateFunctor.{PrivateFunctor}
@@ -38,9 +38,9 @@ use Rattle.mz_names.specs.declared.refusal.Refusal.{Refusal}
 use Rattle.mz_names.specs.declared.refusal.Refusal.TheVariants.{NoNotation}
 use Rattle.mz_choice.specs.Choice as co
 use Rattle.mz_choice.specs.Choice.{Suits, EndsWithFresh}
-use Rattle.mz_choice.specs.declared.applied.Applied.{Applied}
-use Rattle.mz_choice.specs.declared.wanted.Wanted.{Wanted}
-use Rattle.mz_choice.specs.declared.wanted.Wanted.TheVariants.{Anything, AdjectiveOf, AdjectiveOfFresh}
+use Rattle.mz_choice.specs.declared.choice.Applied.{Applied}
+use Rattle.mz_choice.specs.declared.choice.Wanted.{Wanted}
+use Rattle.mz_choice.specs.declared.choice.Wanted.TheVariants.{Anything, AdjectiveOf, AdjectiveOfFresh}
 use Rattle.mz_sizes.specs.Sizes.{term_keeps, adjective_keeps, statement_keeps}
 use Rattle.mz_applied.specs.Within.{within}
 use Rattle.mz_applied.specs.Meant.{as_term, as_type, as_statement, as_attributed, as_adjective, adjective_of, sign_of, literal_of, but_last}

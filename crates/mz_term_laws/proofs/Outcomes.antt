@@ -13,10 +13,10 @@ use Rattle.mz_names.specs.Names.{known_or}
 use Rattle.mz_names.specs.declared.refusal.Refusal.{Refusal}
 use Rattle.mz_names.specs.declared.refusal.Refusal.TheVariants as refusal
 use Rattle.mz_choice.specs.Resolution.{Resolves}
-use Rattle.mz_choice.specs.declared.applied.Applied.{Applied}
-use Rattle.mz_choice.specs.declared.wanted.Wanted.{Wanted}
-use Rattle.mz_choice.specs.declared.resolution.Resolution.{Resolution}
-use Rattle.mz_choice.specs.declared.resolution.Resolution.TheVariants as resolution
+use Rattle.mz_choice.specs.declared.choice.Applied.{Applied}
+use Rattle.mz_choice.specs.declared.choice.Wanted.{Wanted}
+use Rattle.mz_choice.specs.declared.resolve.Resolution.{Resolution}
+use Rattle.mz_choice.specs.declared.resolve.Resolution.TheVariants as resolution
 use Rattle.mz_applied.specs.Within.{within}
 use Rattle.mz_applied.specs.Meant.{meant}
 use Rattle.mz_applied.specs.Reading as rd

@@ -11,9 +11,9 @@ use Rattle.mz_context.specs.declared.context.Context.{Context}
 use Rattle.mz_environment.specs.declared.environment.Environment.{Environment}
 use Rattle.mz_names.specs.Names.{variable, argument, known_or}
 use Rattle.mz_names.specs.declared.refusal.Refusal.{Refusal}
-use Rattle.mz_choice.specs.declared.applied.Applied.{Applied}
-use Rattle.mz_choice.specs.declared.wanted.Wanted.TheVariants.{Anything}
-use Rattle.mz_grouping.specs.declared.step.Step.{Step}
+use Rattle.mz_choice.specs.declared.choice.Applied.{Applied}
+use Rattle.mz_choice.specs.declared.choice.Wanted.TheVariants.{Anything}
+use Rattle.mz_grouping.specs.declared.grouping.Step.{Step}
 use Rattle.mz_tree.specs.Trees.{TermData, TermsData, PieceData, PrefixData, BaseData}
 use Rattle.mz_tree.specs.declared.word.Word.{Word}
 use Rattle.mz_applied.specs.Application.{application, bracketed}

@@ -8,7 +8,7 @@ use Rattle.mz_logic.specs.Constants.{occurs}
 use Rattle.mz_core.specs.declared.adjective.Adjective.{Adjective}
 use Rattle.mz_core.specs.declared.soft_type.SoftType.{SoftType}
 use Rattle.mz_core.proofs.AllLemmas.{all-append}
-use Rattle.mz_context.specs.declared.constant.Constant.{Constant}
+use Rattle.mz_context.specs.declared.constants.Constant.{Constant}
 use Rattle.mz_context.specs.declared.context.Context.{Context}
 use Rattle.mz_context.specs.Context.{constant_at, next}
 use Rattle.mz_context.specs.Changes.{with_constant}
@@ -16,8 +16,8 @@ use Rattle.mz_environment.specs.declared.environment.Environment.{Environment}
 use Rattle.mz_fits.proofs.OneMatch.{none_some}
 use Rattle.mz_names.specs.Names.{variable, known_or}
 use Rattle.mz_names.specs.declared.refusal.Refusal.{Refusal}
-use Rattle.mz_choice.specs.declared.wanted.Wanted.{Wanted}
-use Rattle.mz_choice.specs.declared.wanted.Wanted.TheVariants.{Anything, AdjectiveOfFresh}
+use Rattle.mz_choice.specs.declared.choice.Wanted.{Wanted}
+use Rattle.mz_choice.specs.declared.choice.Wanted.TheVariants.{Anything, AdjectiveOfFresh}
 use Rattle.mz_choice.specs.Cover.{bare}
 use Rattle.mz_choice.specs.Fresh.{fresh, with_fresh}
 use Rattle.mz_sizes.specs.Sizes.{type_keeps}

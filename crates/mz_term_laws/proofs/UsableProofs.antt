@@ -15,7 +15,7 @@ use Rattle.mz_core.specs.declared.soft_type.SoftType.{SoftType}
 use Rattle.mz_core.proofs.LawProofs.{in_force_at, statement_in_force-all, any_term, all_any, type_any, statement_any}
 use Rattle.mz_context.specs.Context.{numbered, numbers, next}
 use Rattle.mz_context.specs.Changes.{with_constant}
-use Rattle.mz_context.specs.declared.constant.Constant.{Constant}
+use Rattle.mz_context.specs.declared.constants.Constant.{Constant}
 use Rattle.mz_context.specs.declared.context.Context.{Context}
 use Rattle.mz_fits.proofs.OneMatch.{some-inj, none_some}
 use Rattle.mz_names.specs.Scope.{term_from, args_from, type_from, types_from, statement_from}

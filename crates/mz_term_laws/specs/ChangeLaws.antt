@@ -10,7 +10,7 @@ use Rattle.mz_logic.specs.Indices.{closed}
 use Rattle.mz_items.specs.Closed.{letter_closed}
 use Rattle.mz_context.specs.Context.{next}
 use Rattle.mz_context.specs.Changes.{with_constant, with_statement}
-use Rattle.mz_context.specs.declared.constant.Constant.{Constant}
+use Rattle.mz_context.specs.declared.constants.Constant.{Constant}
 use Rattle.mz_context.specs.declared.context.Context.{Context}
 use Rattle.mz_context.specs.declared.letters.NamedLetter.{NamedLetter}
 use Rattle.mz_context.specs.declared.private.PrivateFunctor.{PrivateFunctor}

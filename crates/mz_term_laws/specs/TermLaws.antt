@@ -11,7 +11,7 @@ use Rattle.mz_closed_laws.specs.ClosedEnvironment.{IsClosedEnvironment}
 use Rattle.mz_types.specs.Known.{typing}
 use Rattle.mz_types.specs.Chain.{IsChain}
 use Rattle.mz_names.specs.Names.{reserved_type}
-use Rattle.mz_choice.specs.declared.wanted.Wanted.{Wanted}
+use Rattle.mz_choice.specs.declared.choice.Wanted.{Wanted}
 use Rattle.mz_tree.specs.Trees.{TermData, TermsData, AdjectiveData, TypeData}
 use Rattle.mz_terms.specs.Terms.{ReadsTerm, ReadsAll}
 use Rattle.mz_terms.specs.Adjectives.{ReadsAdjectives}

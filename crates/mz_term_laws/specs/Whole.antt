@@ -5,7 +5,7 @@ use Rattle.mz_logic.specs.Term.{Term}
 use Rattle.mz_core.specs.Statement.{Statement}
 use Rattle.mz_items.specs.Closed.{letter_closed}
 use Rattle.mz_context.specs.Context.{constant_at}
-use Rattle.mz_context.specs.declared.constant.Constant.{Constant}
+use Rattle.mz_context.specs.declared.constants.Constant.{Constant}
 use Rattle.mz_context.specs.declared.context.Context.{Context}
 use Rattle.mz_context.specs.declared.labelled.LabelledStatement.{LabelledStatement}
 use Rattle.mz_context.specs.declared.letters.NamedLetter.{NamedLetter}

@@ -10,8 +10,8 @@ use Rattle.mz_environment.specs.declared.environment.Environment.{Environment}
 use Rattle.mz_names.specs.Names.{variable, argument, known_or}
 use Rattle.mz_names.specs.declared.refusal.Refusal.{Refusal}
 use Rattle.mz_names.specs.declared.refusal.Refusal.TheVariants.{UnknownSymbol, UnknownVariable}
-use Rattle.mz_choice.specs.declared.applied.Applied.{Applied}
-use Rattle.mz_choice.specs.declared.wanted.Wanted.TheVariants.{Anything}
+use Rattle.mz_choice.specs.declared.choice.Applied.{Applied}
+use Rattle.mz_choice.specs.declared.choice.Wanted.TheVariants.{Anything}
 use Rattle.mz_tree.specs.Trees.{BaseData, SelectorBase, adjectives_of}
 use Rattle.mz_tree.specs.Views.{base_of, terms_of, term_of, type_of, formula_of, adjective_of}
 use Rattle.mz_tree.specs.declared.word.Word.{Word}

@@ -3,10 +3,10 @@ use Rattle.std.proofs.Common.{◌≡◌, ◌+◌, ℕ, suc, Bool, List, [], ◌�
 use Rattle.std.specs.Prelude.{nat_lt}
 use Rattle.mz_grouping.specs.Grouping as gr
 use Rattle.mz_grouping.specs.Grouping.{Head, head_of, Grouped}
-use Rattle.mz_grouping.specs.declared.part.Part.{Part}
-use Rattle.mz_grouping.specs.declared.part.Part.TheVariants.{Operand, Symbol}
-use Rattle.mz_grouping.specs.declared.step.Step.{Step}
-use Rattle.mz_grouping.specs.declared.step.Step.TheVariants.{Take, Apply}
+use Rattle.mz_grouping.specs.declared.grouping.Part.{Part}
+use Rattle.mz_grouping.specs.declared.grouping.Part.TheVariants.{Operand, Symbol}
+use Rattle.mz_grouping.specs.declared.grouping.Step.{Step}
+use Rattle.mz_grouping.specs.declared.grouping.Step.TheVariants.{Take, Apply}
 
 record Same (before others behind rest : List Part) : Type 0 where
   front : before ≡ others

@@ -9,12 +9,12 @@ use Rattle.mz_environment.specs.declared.environment.Environment.{Environment}
 use Rattle.mz_names.specs.Names.{variable, argument, known_or}
 use Rattle.mz_names.specs.declared.refusal.Refusal.{Refusal}
 use Rattle.mz_names.specs.declared.refusal.Refusal.TheVariants.{UnknownSymbol, UnknownVariable, NoNotation}
-use Rattle.mz_choice.specs.declared.applied.Applied.{Applied}
-use Rattle.mz_choice.specs.declared.wanted.Wanted.TheVariants.{Anything}
+use Rattle.mz_choice.specs.declared.choice.Applied.{Applied}
+use Rattle.mz_choice.specs.declared.choice.Wanted.TheVariants.{Anything}
 use Rattle.mz_fits.proofs.FitLemmas.{not_both}
 use Rattle.mz_grouping.specs.Grouping.{Grouped, has_neighbours}
-use Rattle.mz_grouping.specs.declared.step.Step.{Step}
-use Rattle.mz_grouping.specs.declared.step.Step.TheVariants.{Take, Apply}
+use Rattle.mz_grouping.specs.declared.grouping.Step.{Step}
+use Rattle.mz_grouping.specs.declared.grouping.Step.TheVariants.{Take, Apply}
 use Rattle.mz_tree.specs.Trees.{TermData, TermsData, PieceData, PrefixData, BaseData, NextTermData, NextTermList, PieceList, PrefixList, RunTerm, FunctorPiece, OperandPiece, ListTerms, SelectorPrefix, ChoiceOfPrefix, ChoiceOverPrefix, IdentifierBase, SubjectBase, ArgumentBase, GroupBase, CallBase, CallWithBase, SelectorBase, AggregateBase, BracketsBase, BracesBase, SquaresBase, SetOfBase, ChoiceBase, ChoiceStructureBase, no_pieces, more_pieces, no_prefixs, more_prefixs, no_next_terms, more_next_terms, pieces_of, prefixs_of, next_terms_of}
 use Rattle.mz_tree.specs.Places.{first_place}
 use Rattle.mz_tree.specs.Spell.{spell_term, spell_piece}

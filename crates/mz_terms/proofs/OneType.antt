@@ -12,8 +12,8 @@ use Rattle.mz_types.specs.Known.{typing}
 use Rattle.mz_names.specs.Names.{variable, known_or}
 use Rattle.mz_names.specs.declared.refusal.Refusal.{Refusal}
 use Rattle.mz_names.specs.declared.refusal.Refusal.TheVariants.{Unregistered}
-use Rattle.mz_choice.specs.declared.wanted.Wanted.{Wanted}
-use Rattle.mz_choice.specs.declared.wanted.Wanted.TheVariants.{Anything, AdjectiveOfFresh}
+use Rattle.mz_choice.specs.declared.choice.Wanted.{Wanted}
+use Rattle.mz_choice.specs.declared.choice.Wanted.TheVariants.{Anything, AdjectiveOfFresh}
 use Rattle.mz_choice.specs.Cover.{bare, IsCovered}
 use Rattle.mz_choice.specs.Fresh.{with_fresh}
 use Rattle.mz_sizes.specs.Sizes.{type_keeps}

@@ -6,7 +6,7 @@ use Rattle.mz_core.specs.declared.notation.Notation.{Notation}
 use Rattle.mz_environment.specs.declared.environment.Environment.{Environment}
 use Rattle.mz_environment.specs.Keys.{is_spelled}
 use Rattle.mz_fits.proofs.FitLemmas.{not_both, empty}
-use Rattle.mz_grouping.specs.declared.part.Part.{Part}
+use Rattle.mz_grouping.specs.declared.grouping.Part.{Part}
 use Rattle.mz_tree.specs.declared.nodes.PieceNode.{PieceNode}
 use Rattle.mz_tree.specs.Views.{piece_of}
 use Rattle.mz_terms.specs.declared.neighbour.Neighbour.{Neighbour}

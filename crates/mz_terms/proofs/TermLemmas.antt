@@ -9,13 +9,13 @@ use Rattle.mz_context.specs.declared.context.Context.{Context}
 use Rattle.mz_environment.specs.declared.environment.Environment.{Environment}
 use Rattle.mz_names.specs.declared.refusal.Refusal.{Refusal}
 use Rattle.mz_names.specs.declared.refusal.Refusal.TheVariants.{NoNotation}
-use Rattle.mz_choice.specs.declared.applied.Applied.{Applied}
-use Rattle.mz_choice.specs.declared.wanted.Wanted.TheVariants.{Anything}
+use Rattle.mz_choice.specs.declared.choice.Applied.{Applied}
+use Rattle.mz_choice.specs.declared.choice.Wanted.TheVariants.{Anything}
 use Rattle.mz_fits.proofs.FitLemmas.{empty}
 use Rattle.mz_grouping.specs.Grouping.{Grouped, has_neighbours}
-use Rattle.mz_grouping.specs.declared.part.Part.{Part}
-use Rattle.mz_grouping.specs.declared.step.Step.{Step}
-use Rattle.mz_grouping.specs.declared.step.Step.TheVariants.{Take, Apply}
+use Rattle.mz_grouping.specs.declared.grouping.Part.{Part}
+use Rattle.mz_grouping.specs.declared.grouping.Step.{Step}
+use Rattle.mz_grouping.specs.declared.grouping.Step.TheVariants.{Take, Apply}
 use Rattle.mz_tree.specs.Trees.{PieceData, BaseData, RunTerm, FunctorPiece, OperandPiece, pieces_of, prefixs_of}
 use Rattle.mz_tree.specs.Views.{term_of, terms_of, piece_of, prefix_of, base_of, operand_of, next_term_of}
 use Rattle.mz_tree.specs.Places.{first_place}

@@ -7,7 +7,7 @@ use Rattle.mz_logic.specs.Term.{Term, Const}
 use Rattle.mz_logic.specs.declared.kind.Kind.{Kind}
 use Rattle.mz_core.specs.declared.adjective.Adjective.{Adjective}
 use Rattle.mz_core.specs.declared.soft_type.SoftType.{SoftType}
-use Rattle.mz_context.specs.declared.constant.Constant.{Constant}
+use Rattle.mz_context.specs.declared.constants.Constant.{Constant}
 use Rattle.mz_context.specs.declared.context.Context.{Context}
 use Rattle.mz_context.specs.Context.{next}
 use Rattle.mz_context.specs.Changes.{with_constant}
@@ -16,9 +16,9 @@ use Rattle.mz_types.specs.Known.{typing}
 use Rattle.mz_names.specs.declared.refusal.Refusal.{Refusal}
 use Rattle.mz_names.specs.declared.refusal.Refusal.TheVariants.{Unregistered}
 use Rattle.mz_fits.proofs.FitLemmas.{not_both}
-use Rattle.mz_choice.specs.declared.applied.Applied.{Applied}
-use Rattle.mz_choice.specs.declared.wanted.Wanted.{Wanted}
-use Rattle.mz_choice.specs.declared.wanted.Wanted.TheVariants.{Anything, AdjectiveOfFresh}
+use Rattle.mz_choice.specs.declared.choice.Applied.{Applied}
+use Rattle.mz_choice.specs.declared.choice.Wanted.{Wanted}
+use Rattle.mz_choice.specs.declared.choice.Wanted.TheVariants.{Anything, AdjectiveOfFresh}
 use Rattle.mz_choice.specs.Cover.{bare, IsCovered}
 use Rattle.mz_choice.specs.Fresh.{fresh, with_fresh}
 use Rattle.mz_choice.proofs.CoverLemmas.{told_fresh_left}

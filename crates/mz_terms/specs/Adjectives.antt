@@ -7,7 +7,7 @@ use Rattle.mz_context.specs.declared.context.Context.{Context}
 use Rattle.mz_environment.specs.declared.environment.Environment.{Environment}
 use Rattle.mz_names.specs.Names.{variable, known_or, is_some}
 use Rattle.mz_names.specs.declared.refusal.Refusal.{Refusal}
-use Rattle.mz_choice.specs.declared.wanted.Wanted.{Wanted}
+use Rattle.mz_choice.specs.declared.choice.Wanted.{Wanted}
 use Rattle.mz_tree.specs.Trees.{TermsData, AdjectiveData, PlainAdjective, WithIdentifierAdjective, WithTermsAdjective}
 use Rattle.mz_tree.specs.Places.{first_place}
 use Rattle.mz_tree.specs.Spell.{spell_adjective}

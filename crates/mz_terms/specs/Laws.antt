@@ -6,7 +6,7 @@ use Rattle.mz_core.specs.declared.soft_type.SoftType.{SoftType}
 use Rattle.mz_context.specs.declared.context.Context.{Context}
 use Rattle.mz_environment.specs.declared.environment.Environment.{Environment}
 use Rattle.mz_names.specs.declared.refusal.Refusal.{Refusal}
-use Rattle.mz_choice.specs.declared.wanted.Wanted.{Wanted}
+use Rattle.mz_choice.specs.declared.choice.Wanted.{Wanted}
 use Rattle.mz_tree.specs.Trees.{TermData, TermsData, AdjectiveData, TypeData}
 use Rattle.mz_terms.specs.Terms.{ReadsTerm, ReadsAll}
 use Rattle.mz_terms.specs.Adjectives.{ReadsOwn, ReadsAdjectives}

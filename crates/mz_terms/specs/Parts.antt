@@ -5,8 +5,8 @@ use Rattle.mz_logic.specs.Sym.{kind_number}
 use Rattle.mz_logic.specs.declared.kind.Kind.TheVariants as kind
 use Rattle.mz_core.specs.declared.notation.Notation.{Notation}
 use Rattle.mz_environment.specs.declared.environment.Environment.{Environment}
-use Rattle.mz_grouping.specs.declared.part.Part.{Part}
-use Rattle.mz_grouping.specs.declared.part.Part.TheVariants as part
+use Rattle.mz_grouping.specs.declared.grouping.Part.{Part}
+use Rattle.mz_grouping.specs.declared.grouping.Part.TheVariants as part
 use Rattle.mz_tree.specs.Trees.{PieceData, FunctorPiece, OperandPiece}
 use Rattle.mz_terms.specs.declared.neighbour.Neighbour.{Neighbour}
 use Rattle.mz_terms.specs.declared.neighbour.Neighbour.TheVariants.{Operand, Nullary, Other}

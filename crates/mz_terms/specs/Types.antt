@@ -14,7 +14,7 @@ use Rattle.mz_names.specs.declared.refusal.Refusal.{Refusal}
 use Rattle.mz_names.specs.declared.refusal.Refusal.TheVariants.{Unregistered}
 use Rattle.mz_choice.specs.Cover.{bare, IsCovered}
 use Rattle.mz_choice.specs.Fresh.{with_fresh}
-use Rattle.mz_choice.specs.declared.wanted.Wanted.TheVariants.{Anything, AdjectiveOfFresh}
+use Rattle.mz_choice.specs.declared.choice.Wanted.TheVariants.{Anything, AdjectiveOfFresh}
 use Rattle.mz_sizes.specs.Sizes.{type_keeps}
 use Rattle.mz_tree.specs.Trees.{TermsData, TypeData, AdjectiveData, AdjectiveList, ModeType, ModeOfType, StructureType, StructureOverType, adjectives_of}
 use Rattle.mz_tree.specs.Places.{first_place}

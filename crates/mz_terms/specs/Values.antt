@@ -5,7 +5,7 @@ use Rattle.mz_logic.specs.Term.{Term}
 use Rattle.mz_logic.specs.declared.kind.Kind.TheVariants.{Functor}
 use Rattle.mz_names.specs.declared.refusal.Refusal.{Refusal}
 use Rattle.mz_names.specs.declared.refusal.Refusal.TheVariants.{NoNotation}
-use Rattle.mz_choice.specs.declared.applied.Applied.{Applied}
+use Rattle.mz_choice.specs.declared.choice.Applied.{Applied}
 use Rattle.mz_tree.specs.declared.word.Word.{Word}
 use Rattle.mz_applied.specs.Application.{application}
 use Rattle.mz_terms.specs.declared.values.RunValue.{RunValue}

@@ -6,8 +6,8 @@ ghost use Rattle.mz_terms.specs.Adjectives.{is_denied, attribute_in, ReadsOwn, R
 use crate::bases::identifier;
 use crate::terms::read_terms;
 use mz_applied::application::attribute_of;
-use mz_applied::reading::applied_adjective;
-use mz_choice::wanted::Wanted;
+use mz_applied::applied::applied_adjective;
+use mz_choice::choice::Wanted;
 use mz_context::context::Context;
 use mz_core::adjective::Adjective;
 use mz_core::adjectives::Adjectives;

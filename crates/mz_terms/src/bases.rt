@@ -11,10 +11,10 @@ ghost use Rattle.mz_tree.specs.Trees.{SelectorBase};
 
 use crate::values::as_list;
 use mz_applied::application::{application, bracketed};
+use mz_applied::applied::applied_term;
 use mz_applied::private::applied_functor;
-use mz_applied::reading::applied_term;
 use mz_base::place::Place;
-use mz_choice::applied::Applied;
+use mz_choice::choice::Applied;
 use mz_context::context::Context;
 use mz_environment::environment::Environment;
 use mz_logic::kind::Kind;

@@ -9,7 +9,7 @@ use crate::neighbour::Neighbour;
 use mz_base::text::Text;
 use mz_core::notation::Notation;
 use mz_environment::environment::Environment;
-use mz_grouping::part::Part;
+use mz_grouping::grouping::Part;
 use mz_logic::kind::Kind;
 use mz_tree::nodes::{PieceNode, TermNode};
 use std::alloc::{AllocError, Global};

@@ -8,11 +8,11 @@ ghost use Rattle.mz_terms.specs.Types.{adjectives_in, radix_in, radix_kind, Read
 use crate::adjectives::read_adjectives;
 use crate::terms::read_terms;
 use mz_applied::application::application;
-use mz_applied::reading::applied_type;
+use mz_applied::applied::applied_type;
 use mz_applied::within::within_type;
+use mz_choice::choice::Wanted;
 use mz_choice::fresh::{fresh, keep};
 use mz_choice::resolve::is_covered;
-use mz_choice::wanted::Wanted;
 use mz_context::context::Context;
 use mz_core::adjectives::Adjectives;
 use mz_core::soft_type::SoftType;

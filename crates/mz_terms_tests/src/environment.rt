@@ -1,9 +1,8 @@
 //! A small environment, and a context of it.
 use mz_base::numbers::Numbers;
 use mz_base::text::Text;
-use mz_context::constant::Constant;
-use mz_context::context::Context;
-use mz_context::symbol_counts::SymbolCounts;
+use mz_context::constants::Constant;
+use mz_context::context::{Context, SymbolCounts};
 use mz_core::hidden::{object_type, set_type};
 use mz_core::notation::{Meaning, Notation};
 use mz_core::pattern::Pattern;

@@ -4,9 +4,9 @@ use Rattle.std.specs.Prelude.{reverse}
 use Rattle.mz_logic.specs.declared.sym.Sym.{Sym}
 use Rattle.mz_logic.specs.Term.{Term}
 use Rattle.mz_core.specs.Statement.{Statement, Truth, Eq, Atom, Not, And, For}
-use Rattle.mz_context.specs.declared.constant.Constant.{Constant}
+use Rattle.mz_context.specs.declared.constants.Constant.{Constant}
 use Rattle.mz_ground.specs.declared.clause.Clause.{Clause}
-use Rattle.mz_environment.specs.declared.item_unfolding.Unfolding.{Unfolding}
+use Rattle.mz_environment.specs.declared.unfoldings.Unfolding.{Unfolding}
 use Rattle.mz_fits.specs.Matching.{Fixed, unfixed, AllMatched, Accepted}
 use Rattle.mz_fits.proofs.OneMatch.{one_match_law, one_accepted_law}
 use Rattle.mz_thesis.specs.declared.sought.Sought.{Sought}

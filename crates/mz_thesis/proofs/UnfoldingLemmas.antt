@@ -5,9 +5,9 @@ use Rattle.std.proofs.lemmas.List.{reverse-append, take_all}
 use Rattle.mz_logic.specs.declared.sym.Sym.{Sym}
 use Rattle.mz_logic.specs.Term.{Term}
 use Rattle.mz_core.specs.Statement.{Statement, Eq, Atom}
-use Rattle.mz_context.specs.declared.constant.Constant.{Constant}
+use Rattle.mz_context.specs.declared.constants.Constant.{Constant}
 use Rattle.mz_ground.specs.declared.clause.Clause.{Clause}
-use Rattle.mz_environment.specs.declared.item_unfolding.Unfolding.{Unfolding}
+use Rattle.mz_environment.specs.declared.unfoldings.Unfolding.{Unfolding}
 use Rattle.mz_fits.specs.Matching.{Fixed, unfixed, AllMatched, Accepted}
 use Rattle.mz_thesis.specs.declared.sought.Sought.{Sought}
 use Rattle.mz_thesis.specs.declared.sought.Sought.TheVariants.{AtomOf, Equation}

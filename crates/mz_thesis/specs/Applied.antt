@@ -1,9 +1,9 @@
 -- The thesis after a step, which may unfold the first part of the thesis before.
 use Rattle.std.specs.Prelude.{ℕ, zero, suc, List, Option, Some, None}
 use Rattle.mz_core.specs.Statement.{Statement, Truth, Eq, Atom, Not, And, For}
-use Rattle.mz_context.specs.declared.constant.Constant.{Constant}
+use Rattle.mz_context.specs.declared.constants.Constant.{Constant}
 use Rattle.mz_ground.specs.declared.clause.Clause.{Clause}
-use Rattle.mz_environment.specs.declared.item_unfolding.Unfolding.{Unfolding}
+use Rattle.mz_environment.specs.declared.unfoldings.Unfolding.{Unfolding}
 use Rattle.mz_thesis.specs.Unfolding.{UnfoldsTo}
 use Rattle.mz_thesis.specs.Rows.{Admits, thesis_after}
 use Rattle.mz_thesis.specs.declared.step.Step.{Step}

@@ -1,9 +1,9 @@
 -- One value at most.
 use Rattle.std.specs.Prelude.{◌≡◌, ℕ, List, Option}
 use Rattle.mz_core.specs.Statement.{Statement}
-use Rattle.mz_context.specs.declared.constant.Constant.{Constant}
+use Rattle.mz_context.specs.declared.constants.Constant.{Constant}
 use Rattle.mz_ground.specs.declared.clause.Clause.{Clause}
-use Rattle.mz_environment.specs.declared.item_unfolding.Unfolding.{Unfolding}
+use Rattle.mz_environment.specs.declared.unfoldings.Unfolding.{Unfolding}
 use Rattle.mz_thesis.specs.Unfolding.{UnfoldsTo}
 use Rattle.mz_thesis.specs.Applied.{Applied}
 use Rattle.mz_thesis.specs.declared.step.Step.{Step}

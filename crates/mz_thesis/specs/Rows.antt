@@ -9,7 +9,7 @@ use Rattle.mz_core.specs.Parts.{parts, conjunction}
 use Rattle.mz_core.specs.Erasure.{erase}
 use Rattle.mz_core.specs.declared.soft_type.SoftType.{SoftType}
 use Rattle.mz_context.specs.Context.{numbers}
-use Rattle.mz_context.specs.declared.constant.Constant.{Constant}
+use Rattle.mz_context.specs.declared.constants.Constant.{Constant}
 use Rattle.mz_ground.specs.declared.clause.Clause.{Clause}
 use Rattle.mz_fits.specs.Fits.{TypeFits}
 use Rattle.mz_thesis.specs.declared.step.Step.{Step}

@@ -8,11 +8,11 @@ use Rattle.mz_logic.specs.Substitution.{value_at}
 use Rattle.mz_core.specs.Statement as statement
 use Rattle.mz_core.specs.Statement.{Statement, Truth, Eq, Not, And, For}
 use Rattle.mz_core.specs.TypeSubstitution.{substitute_statement}
-use Rattle.mz_context.specs.declared.constant.Constant.{Constant}
+use Rattle.mz_context.specs.declared.constants.Constant.{Constant}
 use Rattle.mz_ground.specs.declared.clause.Clause.{Clause}
 use Rattle.mz_ground.specs.declared.trigger.Trigger.{Trigger}
 use Rattle.mz_ground.specs.declared.trigger.Trigger.TheVariants.{Term, Atom}
-use Rattle.mz_environment.specs.declared.item_unfolding.Unfolding.{Unfolding}
+use Rattle.mz_environment.specs.declared.unfoldings.Unfolding.{Unfolding}
 use Rattle.mz_fits.specs.Matching.{Fixed, unfixed, AllMatched, Accepted}
 use Rattle.mz_thesis.specs.declared.sought.Sought.{Sought}
 use Rattle.mz_thesis.specs.declared.sought.Sought.TheVariants.{AtomOf, Equation}

@@ -5,8 +5,7 @@ ghost use Rattle.mz_context.specs.Context.{numbers};
 ghost use Rattle.mz_thesis.specs.Rows.{with_fresh, FitsFresh};
 
 use mz_base::text::Text;
-use mz_context::constant::Constant;
-use mz_context::constants::Constants;
+use mz_context::constants::{Constant, Constants};
 use mz_core::guard::guard_literals;
 use mz_core::soft_type::SoftType;
 use mz_fits::fits::all_fit;

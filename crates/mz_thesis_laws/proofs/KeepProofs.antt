@@ -19,9 +19,9 @@ use Rattle.mz_core.specs.declared.adjective.Adjective.{Adjective}
 use Rattle.mz_core.specs.declared.soft_type.SoftType.{SoftType}
 use Rattle.mz_core.proofs.LawProofs.{in_force_at, statement_in_force-all}
 use Rattle.mz_laws.proofs.StatementProofs.{statement_substitution_in_force, statement_substitution_below}
-use Rattle.mz_context.specs.declared.constant.Constant.{Constant}
+use Rattle.mz_context.specs.declared.constants.Constant.{Constant}
 use Rattle.mz_ground.specs.declared.clause.Clause.{Clause}
-use Rattle.mz_environment.specs.declared.item_unfolding.Unfolding.{Unfolding}
+use Rattle.mz_environment.specs.declared.unfoldings.Unfolding.{Unfolding}
 use Rattle.mz_closed_laws.specs.ClosedClauses.{trigger_under, unfolding_closed}
 use Rattle.mz_thesis.specs.declared.sought.Sought.{Sought}
 use Rattle.mz_thesis.specs.declared.sought.Sought.TheVariants.{AtomOf, Equation}

@@ -31,7 +31,7 @@ use Rattle.mz_core.proofs.LawProofs.{erasure_in_force, negation_in_force, next_i
 use Rattle.mz_laws.proofs.StatementProofs.{body_under_guard, more_formula_in_force, term_shift_in_force}
 use Rattle.mz_context.specs.Context.{numbered, numbers, in_force}
 use Rattle.mz_context.specs.Gather.{known, known_of, equation_if_any}
-use Rattle.mz_context.specs.declared.constant.Constant.{Constant}
+use Rattle.mz_context.specs.declared.constants.Constant.{Constant}
 use Rattle.mz_ground.specs.ClauseFormula.{clause_formula}
 use Rattle.mz_ground.specs.declared.clause.Clause.{Clause}
 use Rattle.mz_fits.specs.Fits.{TypeFits}

@@ -37,7 +37,7 @@ use Rattle.mz_core.proofs.TermMaps.{formula_with, guard_inside-with}
 use Rattle.mz_core.proofs.MapInstances.{substitutes, substitutes_go_under, substitute_formula-with}
 use Rattle.mz_core.proofs.LawProofs.{map_is, erasure_of_substitution}
 use Rattle.mz_laws.proofs.StatementProofs.{guard_at_term}
-use Rattle.mz_context.specs.declared.constant.Constant.{Constant}
+use Rattle.mz_context.specs.declared.constants.Constant.{Constant}
 use Rattle.mz_ground.specs.declared.clause.Clause.{Clause}
 use Rattle.mz_ground.specs.declared.trigger.Trigger.{Trigger}
 use Rattle.mz_ground.specs.declared.trigger.Trigger.TheVariants.{Term, Atom}
@@ -45,7 +45,7 @@ use Rattle.mz_clauses.specs.Guards.{loci_guards}
 use Rattle.mz_clause_laws.specs.RowLaws.{AllFollow}
 use Rattle.mz_clause_laws.proofs.Instances.{formulas_at, formulas_at-append, guard_at_values}
 use Rattle.mz_clause_laws.proofs.Literals.{implication_at}
-use Rattle.mz_environment.specs.declared.item_unfolding.Unfolding.{Unfolding}
+use Rattle.mz_environment.specs.declared.unfoldings.Unfolding.{Unfolding}
 use Rattle.mz_closed_laws.specs.ClosedClauses.{trigger_under, unfolding_closed}
 use Rattle.mz_unfolding_laws.specs.UnfoldingLaw.{head_statement, Unfolds}
 use Rattle.mz_fits.specs.Fits.{TypeFits, type_at, LociFit, no_loci, and_locus}

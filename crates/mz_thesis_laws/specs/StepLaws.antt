@@ -10,9 +10,9 @@ use Rattle.mz_core.specs.Erasure.{erase}
 use Rattle.mz_core.specs.InForce.{type_in_force, statement_in_force}
 use Rattle.mz_core.specs.Below.{statement_below}
 use Rattle.mz_context.specs.Context.{numbers}
-use Rattle.mz_context.specs.declared.constant.Constant.{Constant}
+use Rattle.mz_context.specs.declared.constants.Constant.{Constant}
 use Rattle.mz_ground.specs.declared.clause.Clause.{Clause}
-use Rattle.mz_environment.specs.declared.item_unfolding.Unfolding.{Unfolding}
+use Rattle.mz_environment.specs.declared.unfoldings.Unfolding.{Unfolding}
 use Rattle.mz_closed_laws.specs.ClosedClauses.{unfolding_closed}
 use Rattle.mz_unfolding_laws.specs.UnfoldingLaw.{Unfolds}
 use Rattle.mz_fits.specs.Laws.{AreGranted}

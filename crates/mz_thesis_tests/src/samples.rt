@@ -2,8 +2,7 @@
 use mz_context::constants::Constants;
 use mz_core::soft_type::SoftType;
 use mz_core::statement::Statement;
-use mz_environment::item_unfolding::Unfolding;
-use mz_environment::unfoldings::Unfoldings;
+use mz_environment::unfoldings::{Unfolding, Unfoldings};
 use mz_fits_tests::samples::{C, K, T, clauses, constants, ty, types};
 use mz_ground::clauses::Clauses;
 use mz_ground::trigger::Trigger;

@@ -4,7 +4,7 @@ use Rattle.std.specs.Prelude.{◌⊎◌, ◌==◌, Some, slice_get, slice_set}
 use Rattle.std.proofs.lemmas.Option.{slice_get_within}
 use Rattle.std.proofs.lemmas.List.{ext_get_or}
 use Rattle.std.proofs.lemmas.Bool.{cases_eq}
-use Rattle.mz_core.specs.declared.export.Export.{Export}
+use Rattle.mz_core.specs.declared.outcome.Export.{Export}
 use Rattle.mz_core.specs.declared.outcome.Outcome.{Outcome}
 use Rattle.mz_axioms.specs.Checker.{OutcomeRelation, HasOneOutcome, AnswersName}
 use Rattle.mz_corpus.specs.Article.{Article}

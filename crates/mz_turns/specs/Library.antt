@@ -2,7 +2,7 @@
 use Rattle.std.specs.Prelude.{◌≡◌, ℕ, Bool, List, [], ◌∷◌, ◌++◌, ◌||◌, All, Contains}
 use Rattle.std.specs.List.{filter}
 use Rattle.mz_base.specs.Name.{is_built_in}
-use Rattle.mz_core.specs.declared.export.Export.{Export}
+use Rattle.mz_core.specs.declared.outcome.Export.{Export}
 use Rattle.mz_axioms.specs.BuiltIn.{built_in_exports}
 use Rattle.mz_axioms.specs.Library.{AreInOrder, added}
 use Rattle.mz_corpus.specs.Article.{Article}

@@ -1,7 +1,7 @@
 -- How an article stands.
 use Rattle.std.specs.Prelude.{ℕ, Bool, true, false, List, slice_index_or}
 use Rattle.mz_base.specs.declared.name.Name.{Name}
-use Rattle.mz_core.specs.declared.export.Export.{Export}
+use Rattle.mz_core.specs.declared.outcome.Export.{Export}
 use Rattle.mz_core.specs.declared.fault.Fault.{Fault}
 use Rattle.mz_core.specs.declared.outcome.Outcome.{Outcome}
 use Rattle.mz_core.specs.declared.outcome.Outcome.TheVariants as outcome

@@ -1,7 +1,7 @@
 -- The verdict of each article, as a relation: the articles are checked one after another along their
 -- dependencies.
 use Rattle.std.specs.Prelude.{◌≡◌, ◌<◌, ℕ, true, false, List, [], ◌∷◌, length, Some, slice_get}
-use Rattle.mz_core.specs.declared.export.Export.{Export}
+use Rattle.mz_core.specs.declared.outcome.Export.{Export}
 use Rattle.mz_core.specs.declared.outcome.Outcome.{Outcome}
 use Rattle.mz_axioms.specs.Checker.{OutcomeRelation}
 use Rattle.mz_corpus.specs.Article.{Article}

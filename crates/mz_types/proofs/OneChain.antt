@@ -7,7 +7,7 @@ use Rattle.mz_logic.specs.declared.kind.Kind.TheVariants as kind
 use Rattle.mz_logic.specs.Term.{Term, Bound, Const, App, terms_of, list_of}
 use Rattle.mz_logic.specs.TermStorage.{list_of-terms_of}
 use Rattle.mz_core.specs.declared.radix.Radix.{Radix}
-use Rattle.mz_context.specs.declared.constant.Constant.{Constant}
+use Rattle.mz_context.specs.declared.constants.Constant.{Constant}
 use Rattle.mz_context.specs.declared.context.Context.{Context}
 use Rattle.mz_context.specs.Context.{constant_at}
 use Rattle.mz_ground.specs.declared.clause.Clause.{Clause}

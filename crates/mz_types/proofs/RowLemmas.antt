@@ -7,9 +7,9 @@ use Rattle.mz_logic.specs.declared.sym.Sym.{Sym}
 use Rattle.mz_logic.specs.Sym.{same_sym}
 use Rattle.mz_logic.specs.Term.{Term}
 use Rattle.mz_core.specs.declared.radix.Radix.{Radix}
-use Rattle.mz_context.specs.declared.constant.Constant.{Constant}
+use Rattle.mz_context.specs.declared.constants.Constant.{Constant}
 use Rattle.mz_ground.specs.declared.clause.Clause.{Clause}
-use Rattle.mz_environment.specs.declared.row.Row.{Row}
+use Rattle.mz_environment.specs.declared.rows.Row.{Row}
 use Rattle.mz_environment.specs.Keys.{row_has}
 use Rattle.mz_fits.specs.Matching.{Fixed, unfixed, AllMatched, Accepted}
 use Rattle.mz_types.proofs.OneRow.{RowsAs, rows_as}

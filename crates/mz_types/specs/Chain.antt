@@ -6,13 +6,13 @@ use Rattle.mz_logic.specs.declared.kind.Kind.{Kind}
 use Rattle.mz_logic.specs.Term.{Term, Bound, Const, App, terms_of}
 use Rattle.mz_core.specs.Hidden.{object_mode, set_mode}
 use Rattle.mz_core.specs.declared.radix.Radix.{Radix}
-use Rattle.mz_context.specs.declared.constant.Constant.{Constant}
+use Rattle.mz_context.specs.declared.constants.Constant.{Constant}
 use Rattle.mz_context.specs.declared.context.Context.{Context}
 use Rattle.mz_context.specs.declared.letters.NamedLetter.{NamedLetter}
 use Rattle.mz_context.specs.Context.{constant_at}
 use Rattle.mz_ground.specs.Instance.{args_nodes}
 use Rattle.mz_environment.specs.Rows.{is_mode, letter_rows}
-use Rattle.mz_environment.specs.declared.row.Row.{Row}
+use Rattle.mz_environment.specs.declared.rows.Row.{Row}
 use Rattle.mz_ground.specs.declared.clause.Clause.{Clause}
 use Rattle.mz_environment.specs.declared.environment.Environment.{Environment}
 use Rattle.mz_types.specs.RowTypes.{RowsAdd}

@@ -7,9 +7,8 @@ ghost use Rattle.mz_types.specs.Structures.{is_structure, has_aggregate, has_sel
 use crate::radices::Radixes;
 use crate::row_types::{radix_at, reversed};
 use mz_context::constants::Constants;
-use mz_core::field::Field;
 use mz_core::radix::Radix;
-use mz_core::structure::Structure;
+use mz_core::structure::{Field, Structure};
 use mz_environment::structures::Structures;
 use mz_fits::fits::{loci_fit, type_at, type_fits};
 use mz_ground::clause::Clause;

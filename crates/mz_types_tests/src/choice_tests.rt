@@ -4,9 +4,8 @@ use crate::items::{
     text_of, with_letter,
 };
 use crate::making::{A, Row, applied, check_as, check_rows, means, reads};
-use mz_choice::choice::chosen_by;
+use mz_choice::choice::{Wanted, chosen_by};
 use mz_choice::resolve::resolve_by;
-use mz_choice::wanted::Wanted;
 use mz_context::context::Context;
 use mz_fits_tests::samples::K;
 use mz_logic::kind::Kind;

@@ -1,13 +1,10 @@
 //! Items of small articles, and environments of them. What a test is done with is forgotten, not dropped.
 use mz_base::numbers::Numbers;
 use mz_base::text::Text;
-use mz_context::context::Context;
+use mz_context::context::{Context, SymbolCounts};
 use mz_context::letters::NamedLetter;
-use mz_context::symbol_counts::SymbolCounts;
 use mz_core::adjectives::Adjectives;
 use mz_core::definition::{AtomDefinition, AttributeDefinition, MeansDefinition};
-use mz_core::field::Field;
-use mz_core::fields::Fields;
 use mz_core::formula_definiens::FormulaDefiniens;
 use mz_core::item::Item;
 use mz_core::notations::Notations;
@@ -16,11 +13,11 @@ use mz_core::redefinition::{FunctorRedefinition, ModeRedefinition};
 use mz_core::registration::{
     ConditionalRegistration, ExistentialRegistration, FunctorialRegistration,
 };
-use mz_core::scheme_letter::SchemeLetter;
+use mz_core::scheme::SchemeLetter;
 use mz_core::soft_type::SoftType;
 use mz_core::soft_types::SoftTypes;
 use mz_core::statement::Statement;
-use mz_core::structure::Structure;
+use mz_core::structure::{Field, Fields, Structure};
 use mz_environment::environment::Environment;
 use mz_environment::numbering::Numbering;
 use mz_fits_tests::samples::{K, T, constants, ty, types};

@@ -1,10 +1,8 @@
 //! Applications, and what they read to.
 use crate::items::{Made, text_of};
 use mz_base::text::Text;
-use mz_choice::applied::Applied;
-use mz_choice::resolution::Resolution;
-use mz_choice::resolve::resolve;
-use mz_choice::wanted::Wanted;
+use mz_choice::choice::{Applied, Wanted};
+use mz_choice::resolve::{Resolution, resolve};
 use mz_context::context::Context;
 use mz_core::notation::Meaning;
 use mz_logic::kind::Kind;

@@ -4,7 +4,7 @@ use crate::items::{
     mode_again, structure, sym_of, term_of, type_of, with_letter,
 };
 use mz_base::text::Text;
-use mz_context::constant::Constant;
+use mz_context::constants::Constant;
 use mz_context::context::Context;
 use mz_core::adjectives::Adjectives;
 use mz_core::radix::Radix;

@@ -17,7 +17,7 @@ use Rattle.mz_ground.specs.declared.trigger.Trigger.{Trigger}
 use Rattle.mz_ground.specs.declared.trigger.Trigger.TheVariants.{Term, Atom}
 use Rattle.mz_items.specs.Exports.{item_statements}
 use Rattle.mz_clauses.specs.Guards.{loci_guards}
-use Rattle.mz_environment.specs.declared.item_unfolding.Unfolding.{Unfolding}
+use Rattle.mz_environment.specs.declared.unfoldings.Unfolding.{Unfolding}
 use Rattle.mz_environment.specs.Unfoldings.{unfoldings_of}
 use Rattle.mz_clause_laws.specs.RowLaws.{AllFollow}
 

@@ -3,7 +3,7 @@ use Rattle.std.proofs.Common.{◌≡◌, ℕ, ◌+◌, Bool, true, false, cond, 
 use Rattle.std.specs.Option.{is_some}
 use Rattle.std.specs.Str.{bytes_eq}
 use Rattle.std.proofs.lemmas.List.Folds.{list_any-append}
-use Rattle.mz_voc.specs.declared.entry.Entry.{Entry}
+use Rattle.mz_voc.specs.declared.vocabulary.Entry.{Entry}
 use Rattle.mz_voc.specs.declared.line.Line.{Line}
 use Rattle.mz_voc.specs.declared.line.Line.TheVariants.{Blank, Good}
 use Rattle.mz_voc.specs.declared.spelled.Spelled.{Spelled}

@@ -4,7 +4,7 @@ use Rattle.std.specs.List.{list_any}
 use Rattle.std.specs.Str.{bytes_eq}
 use Rattle.mz_base.specs.declared.symbol_kind.SymbolKind.{SymbolKind}
 use Rattle.mz_base.specs.declared.symbol_kind.SymbolKind.TheVariants.{Functor}
-use Rattle.mz_voc.specs.declared.entry.Entry.{Entry}
+use Rattle.mz_voc.specs.declared.vocabulary.Entry.{Entry}
 use Rattle.mz_voc.specs.declared.line.Line.{Line}
 use Rattle.mz_voc.specs.declared.line.Line.TheVariants.{Blank, Good, NoEntry, NoPriority}
 use Rattle.mz_voc.specs.declared.voc_fault.VocFault.{VocFault}

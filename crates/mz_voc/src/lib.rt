@@ -1,7 +1,6 @@
 //! Vocabularies, read line by line.
 #![tactic(auto)]
 
-pub mod entry;
 pub mod line;
 pub mod read;
 pub mod spelled;

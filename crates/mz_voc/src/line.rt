@@ -6,8 +6,8 @@ ghost use Rattle.mz_voc.specs.Symbol.{priority_of, number_of};
 ghost use Rattle.mz_voc.specs.Vocabulary.{functor_line, entry_line, line_of};
 ghost use Rattle.mz_voc.specs.Lines.{is_line_end, is_space, lines_of, without_return};
 
-use crate::entry::Entry;
 use crate::symbol::{is_symbol, kind_of};
+use crate::vocabulary::Entry;
 use mz_base::symbol_kind::SymbolKind;
 use mz_base::text::Text;
 use mz_base::words::are_digits;

@@ -4,11 +4,10 @@ ghost use Rattle.std.specs.Option.{is_some};
 ghost use Rattle.mz_voc.specs.Spelled.{value_of};
 ghost use Rattle.mz_voc.specs.Vocabulary.{IsVocabulary, IsRefused, AreDistinct};
 
-use crate::entry::Entry;
 use crate::line::{Line, first_line, read_line, without_return};
 use crate::spelled::Spelled;
 use crate::voc_fault::VocFault;
-use crate::vocabulary::Vocabulary;
+use crate::vocabulary::{Entry, Vocabulary};
 use std::alloc::{AllocError, Global};
 
 /// Whether the entry's symbol stood on one of the lines.

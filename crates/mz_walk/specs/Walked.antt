@@ -1,6 +1,6 @@
 -- Where a walk over the steps of a reasoning stands, and what comes of a part of it.
 use Rattle.std.specs.Prelude.{List, [], ◌∷◌, ◌++◌, Result, Ok, Err}
-use Rattle.mz_core.specs.declared.left.Left.{Left}
+use Rattle.mz_core.specs.declared.outcome.Left.{Left}
 use Rattle.mz_context.specs.declared.context.Context.{Context}
 use Rattle.mz_steps.specs.declared.block.Block.{Block}
 use Rattle.mz_obligations.specs.declared.obligation.Obligation.{Obligation}

@@ -9,7 +9,7 @@ use Rattle.mz_logic.specs.Derives.{Derives}
 use Rattle.mz_core.specs.Statement.{Statement, Eq}
 use Rattle.mz_core.specs.Erasure.{erase}
 use Rattle.mz_core.specs.InForce.{term_in_force}
-use Rattle.mz_core.specs.declared.left.Left.{Left}
+use Rattle.mz_core.specs.declared.outcome.Left.{Left}
 use Rattle.mz_context.specs.Context.{next}
 use Rattle.mz_context.specs.declared.context.Context.{Context}
 use Rattle.mz_names.specs.Closing.{with_variables, for_all}

@@ -9,7 +9,7 @@ use Rattle.mz_logic.proofs.Each.{cut_each}
 use Rattle.mz_core.specs.Statement.{Statement}
 use Rattle.mz_core.specs.TypeStatements.{is_of_type}
 use Rattle.mz_core.specs.Erasure.{erase}
-use Rattle.mz_core.specs.declared.left.Left.{Left}
+use Rattle.mz_core.specs.declared.outcome.Left.{Left}
 use Rattle.mz_core.proofs.AllLemmas.{is_of_type_all}
 use Rattle.mz_core.proofs.LawProofs.{in_force_at, statement_in_force-all}
 use Rattle.mz_context.specs.Context.{next}

@@ -7,7 +7,7 @@ use Rattle.mz_logic.specs.Formula.{Formula}
 use Rattle.mz_logic.specs.Derives.{Derives}
 use Rattle.mz_core.specs.Statement.{Statement}
 use Rattle.mz_core.specs.Erasure.{erase}
-use Rattle.mz_core.specs.declared.left.Left.{Left}
+use Rattle.mz_core.specs.declared.outcome.Left.{Left}
 use Rattle.mz_context.specs.Context.{next}
 use Rattle.mz_context.specs.declared.context.Context.{Context}
 use Rattle.mz_ground.specs.declared.clause.Clause.{Clause}

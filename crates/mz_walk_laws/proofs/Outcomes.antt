@@ -1,7 +1,7 @@
 -- What holds where something was answered or made.
 use Rattle.std.proofs.Common.{◌≡◌, Bool, true, false, if◌then◌else◌, List, [], ◌∷◌, ◌++◌, refl, subst, Result, Ok, Err}
 use Rattle.mz_base.specs.declared.place.Place.{Place}
-use Rattle.mz_core.specs.declared.left.Left.{Left}
+use Rattle.mz_core.specs.declared.outcome.Left.{Left}
 use Rattle.mz_names.specs.declared.refusal.Refusal.TheVariants.{TooLarge}
 use Rattle.mz_applied.specs.Within.{within}
 use Rattle.mz_obligations.specs.declared.obligation.Obligation.{Obligation}

@@ -6,7 +6,7 @@ use Rattle.mz_base.specs.declared.place.Place.{Place}
 use Rattle.mz_logic.specs.Term.{Term}
 use Rattle.mz_core.specs.Statement.{Statement}
 use Rattle.mz_core.specs.Parts.{conjunction}
-use Rattle.mz_core.specs.declared.left.Left.{Left}
+use Rattle.mz_core.specs.declared.outcome.Left.{Left}
 use Rattle.mz_core.specs.declared.soft_type.SoftType.{SoftType}
 use Rattle.mz_core.proofs.LawProofs.{more_in_force}
 use Rattle.mz_laws.proofs.StatementProofs.{more_type_in_force}

@@ -12,7 +12,7 @@ use Rattle.mz_core.specs.Statement.{Statement}
 use Rattle.mz_core.specs.Guard.{guard}
 use Rattle.mz_core.specs.Erasure.{erase}
 use Rattle.mz_core.specs.InForce.{formula_in_force}
-use Rattle.mz_core.specs.declared.left.Left.{Left}
+use Rattle.mz_core.specs.declared.outcome.Left.{Left}
 use Rattle.mz_core.proofs.AllLemmas.{all-append}
 use Rattle.mz_core.proofs.LawProofs.{erasure_in_force}
 use Rattle.mz_laws.proofs.StatementProofs.{more_term_in_force}

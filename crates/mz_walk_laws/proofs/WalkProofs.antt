@@ -8,7 +8,7 @@ use Rattle.mz_logic.proofs.Each.{each_itself, each_right}
 use Rattle.mz_core.specs.Statement.{Statement, Truth, Eq, Atom, Not, And, For}
 use Rattle.mz_core.specs.Parts.{conjunction}
 use Rattle.mz_core.specs.Erasure.{erase}
-use Rattle.mz_core.specs.declared.left.Left.{Left}
+use Rattle.mz_core.specs.declared.outcome.Left.{Left}
 use Rattle.mz_context.specs.Context.{next}
 use Rattle.mz_context.specs.declared.context.Context.{Context}
 use Rattle.mz_context.specs.declared.labelled.LabelledStatement.{LabelledStatement}

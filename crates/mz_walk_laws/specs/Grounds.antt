@@ -3,12 +3,12 @@ use Rattle.std.specs.Prelude.{◌≡◌, List, ◌∷◌, ◌++◌, Some, None, 
 use Rattle.mz_logic.specs.Term.{Term}
 use Rattle.mz_logic.specs.Formula.{Formula}
 use Rattle.mz_core.specs.Statement.{Statement}
-use Rattle.mz_core.specs.declared.left.Left.{Left}
+use Rattle.mz_core.specs.declared.outcome.Left.{Left}
 use Rattle.mz_core.specs.declared.radix.Radix.{Radix}
 use Rattle.mz_core.specs.declared.soft_type.SoftType.{SoftType}
 use Rattle.mz_context.specs.Context.{next}
 use Rattle.mz_context.specs.Changes.{with_constant}
-use Rattle.mz_context.specs.declared.constant.Constant.{Constant}
+use Rattle.mz_context.specs.declared.constants.Constant.{Constant}
 use Rattle.mz_context.specs.declared.context.Context.{Context}
 use Rattle.mz_context.specs.declared.labelled.LabelledStatement.{LabelledStatement}
 use Rattle.mz_context.specs.declared.letters.NamedLetter.{NamedLetter}

@@ -1,7 +1,7 @@
 -- What obligations carry.
 use Rattle.std.specs.Prelude.{◌≡◌, Bool, List, Contains}
 use Rattle.mz_base.specs.declared.place.Place.{Place}
-use Rattle.mz_core.specs.declared.left.Left.{Left}
+use Rattle.mz_core.specs.declared.outcome.Left.{Left}
 use Rattle.mz_context.specs.declared.context.Context.{Context}
 use Rattle.mz_context.specs.declared.letters.NamedLetter.{NamedLetter}
 use Rattle.mz_environment.specs.declared.environment.Environment.{Environment}

@@ -2,7 +2,7 @@
 -- it, or a refusal.
 use Rattle.std.specs.Prelude.{Bool}
 use Rattle.mz_base.specs.declared.place.Place.{Place}
-use Rattle.mz_core.specs.declared.left.Left.{Left}
+use Rattle.mz_core.specs.declared.outcome.Left.{Left}
 use Rattle.mz_context.specs.declared.context.Context.{Context}
 use Rattle.mz_environment.specs.declared.environment.Environment.{Environment}
 use Rattle.mz_formulas.specs.declared.sentence.Sentence.{Sentence}

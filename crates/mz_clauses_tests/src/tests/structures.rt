@@ -2,12 +2,10 @@
 use crate::tests::gives;
 use crate::tests::parts::{mode, one_set, sym, typed};
 use mz_core::adjectives::Adjectives;
-use mz_core::field::Field;
-use mz_core::fields::Fields;
 use mz_core::item::Item;
 use mz_core::notations::Notations;
 use mz_core::soft_types::SoftTypes;
-use mz_core::structure::Structure;
+use mz_core::structure::{Field, Fields, Structure};
 use mz_logic::kind::Kind;
 use std::alloc::Global;
 use std::process::Abort;

@@ -2,9 +2,7 @@
 use crate::tests::parts::{atom, bounds, mode, negative_mode, sets, sym};
 use crate::tests::rows::{NOTHING, Row, check};
 use mz_core::item::Item;
-use mz_core::scheme::Scheme;
-use mz_core::scheme_letter::SchemeLetter;
-use mz_core::scheme_letters::SchemeLetters;
+use mz_core::scheme::{Scheme, SchemeLetter, SchemeLetters};
 use mz_core::statement::Statement;
 use mz_core::statements::Statements;
 use mz_logic::kind::Kind;

@@ -2,15 +2,13 @@
 use crate::tests::parts::{atom, mode, more, pattern, radix, sets, sym, term};
 use crate::tests::rows::{NOTHING, Row, check};
 use mz_compare::items::item_equal;
-use mz_core::field::Field;
-use mz_core::fields::Fields;
 use mz_core::item::Item;
 use mz_core::notation::{Meaning, Notation};
 use mz_core::notations::Notations;
 use mz_core::set_term::{Choice, SetTerm};
 use mz_core::soft_type::SoftType;
 use mz_core::soft_types::SoftTypes;
-use mz_core::structure::Structure;
+use mz_core::structure::{Field, Fields, Structure};
 use mz_items::condition::Condition;
 use mz_logic::kind::Kind;
 use mz_logic::term::Terms;

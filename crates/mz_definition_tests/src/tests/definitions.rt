@@ -2,14 +2,10 @@
 use crate::tests::parts::{atom, mode, pattern, sets, sym, term};
 use crate::tests::rows::{NOTHING, Row, check};
 use mz_core::definition::{AtomDefinition, AttributeDefinition, EqualsDefinition, MeansDefinition};
-use mz_core::formula_case::FormulaCase;
-use mz_core::formula_cases::FormulaCases;
-use mz_core::formula_definiens::FormulaDefiniens;
+use mz_core::formula_definiens::{FormulaCase, FormulaCases, FormulaDefiniens};
 use mz_core::hidden::set_type;
 use mz_core::item::Item;
-use mz_core::term_case::TermCase;
-use mz_core::term_cases::TermCases;
-use mz_core::term_definiens::TermDefiniens;
+use mz_core::term_definiens::{TermCase, TermCases, TermDefiniens};
 use mz_items::condition::Condition;
 use mz_logic::kind::Kind;
 use mz_logic::term::Term;

@@ -1,8 +1,7 @@
 //! The lists of an environment as a text: for each list that isn't empty its word and its entries, by their symbols.
 //! Those of HIDDEN are left out.
 use mz_base::name::Name;
-use mz_environment::cited_schemes::CitedSchemes;
-use mz_environment::cited_statements::CitedStatements;
+use mz_environment::cited::{CitedSchemes, CitedStatements};
 use mz_environment::environment::Environment;
 use mz_environment::existentials::Existentials;
 use mz_environment::notation_table::NotationTable;

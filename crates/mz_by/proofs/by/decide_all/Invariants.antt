@@ -1,5 +1,5 @@
 use Rattle.std.proofs.Common.{◌≡◌, ◌+◌, drop}
-use Rattle.mz_by.specs.declared.by_verdict.ByVerdict.{ByVerdict}
+use Rattle.mz_by.specs.declared.by.ByVerdict.{ByVerdict}
 use Rattle.mz_by.specs.Verdict.{DecidesAll}
 use Rattle.mz_by.proofs.by.decide_all.Given as goal
 

@@ -1,6 +1,6 @@
 use Rattle.std.proofs.Common.{subst, sym}
 use Rattle.mz_base.specs.declared.limit.Limit.TheVariants.{Disjuncts}
-use Rattle.mz_by.specs.declared.by_verdict.ByVerdict.TheVariants.{Over}
+use Rattle.mz_by.specs.declared.by.ByVerdict.TheVariants.{Over}
 use Rattle.mz_by.specs.Verdict.{IsVerdict}
 use Rattle.mz_by.proofs.LimitLemmas.{gives_count, gives_all}
 use Rattle.mz_by.proofs.by.decide_problem.Goals as goal

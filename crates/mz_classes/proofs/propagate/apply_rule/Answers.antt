@@ -1,7 +1,7 @@
 use Rattle.std.proofs.Common.{ap, sym, ◌∙◌, List}
 use Rattle.std.specs.Prelude.{slice_index}
 use Rattle.std.specs.List.{list_all}
-use Rattle.mz_congruence.specs.declared.pair.Pair.{Pair}
+use Rattle.mz_congruence.specs.declared.graph.Pair.{Pair}
 use Rattle.mz_congruence.specs.Closing.{same}
 use Rattle.mz_congruence.proofs.ClosingLemmas.{contains_from}
 use Rattle.mz_classes.proofs.LabelLemmas.{rule_equal}

@@ -1,6 +1,6 @@
 use Rattle.std.proofs.Common.{arith, ap, sym, ◌∙◌, List}
 use Rattle.std.specs.List.{list_all}
-use Rattle.mz_congruence.specs.declared.pair.Pair.{Pair}
+use Rattle.mz_congruence.specs.declared.graph.Pair.{Pair}
 use Rattle.mz_congruence.specs.Classes.{root}
 use Rattle.mz_congruence.specs.Closing.{same}
 use Rattle.mz_congruence.proofs.ClosingLemmas.{contains_from, told_applied, told_not_applied}

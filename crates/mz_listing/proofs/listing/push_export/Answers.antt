@@ -1,5 +1,5 @@
 use Rattle.std.proofs.Common.{◌+◌, ◌++◌, ap, ◌∙◌}
-use Rattle.mz_core.specs.declared.export.Export.{Export}
+use Rattle.mz_core.specs.declared.outcome.Export.{Export}
 use Rattle.mz_listing.specs.Listing.{item_lines}
 use Rattle.mz_listing.proofs.LineLemmas.{items_viewed}
 use Rattle.mz_listing.proofs.listing.push_export.Goals as goal

@@ -1,8 +1,0 @@
-//! Pairs of nodes.
-
-/// Two nodes, by their numbers.
-#[derive(Clone, Copy, Debug, PartialEq, Eq)]
-pub struct Pair {
-    pub left: usize,
-    pub right: usize,
-}

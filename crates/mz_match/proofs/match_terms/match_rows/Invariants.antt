@@ -1,0 +1,9 @@
+use Rattle.std.proofs.Common.{◌≡◌, ◌∷◌, [], take, flat_map}
+use Rattle.mz_logic.specs.Term.{terms_of}
+use Rattle.mz_match.specs.Evaluate.{evaluate_at}
+use Rattle.mz_match.specs.Matches.{by_rows, match_args}
+use Rattle.mz_match.specs.Table.{rows_of}
+use Rattle.mz_match.proofs.match_terms.match_rows.Given as goal
+
+abbrev pub invariant-loop-e : goal.invariant-loop-e
+invariant-loop-e l = l.out ≡ flat_map (λ e. by_rows (evaluate_at l.table 0 e l.h [] (terms_of l.ts)) e (flat_map (λ r. match_args l.table 0 (terms_of l.ts) r.args.items (e ∷ [])) (rows_of l.table l.h))) (take l.e-index l.e-items)

@@ -1,7 +1,0 @@
-use Rattle.std.proofs.Common.{◌≡◌, take, flat_map}
-use Rattle.mz_logic.specs.Term.{terms_of}
-use Rattle.mz_match.specs.Matches.{match_args}
-use Rattle.mz_match.proofs.matching.match_each_row.Given as goal
-
-abbrev pub invariant-loop-r : goal.invariant-loop-r
-invariant-loop-r l = l.out ≡ flat_map (λ r. match_args l.table 0 (terms_of l.ts) r.args.items l.es) (take l.r-index l.r-items)
