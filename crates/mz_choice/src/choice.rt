@@ -25,7 +25,7 @@ use mz_logic::beyond::Beyond;
 use mz_logic::kind::Kind;
 use mz_logic::literal::Literal;
 use mz_logic::substitution::substitute;
-use mz_logic::term::{Term, Term, Terms, Terms};
+use mz_logic::term::{Term, Terms};
 use mz_types::chain::chain_by;
 use mz_types::row_types::reversed;
 use std::alloc::{AllocError, Global};

@@ -16,7 +16,7 @@ use mz_lex::symbol_table::SymbolTable;
 use mz_lex::table::table;
 use mz_lex::tokens::tokens;
 use mz_pitem::parse::article;
-use mz_tree_item::article::{ArticleTree, ArticleTree, end, end as end_tree};
+use mz_tree_item::article::{ArticleTree, end as end_tree};
 use std::alloc::Global;
 
 /// The environment part.

@@ -19,7 +19,7 @@ use mz_ground::clause::Clause;
 use mz_logic::term::Term;
 use mz_names::variable::{Variable, Variables};
 use mz_now::hidden::brings_hidden;
-use mz_now::now_part::{NowPart, NowParts, NowParts};
+use mz_now::now_part::{NowPart, NowParts};
 use mz_thesis::apply::apply;
 use mz_thesis::step::Step;
 use mz_thesis::thesis_fault::ThesisFault;
