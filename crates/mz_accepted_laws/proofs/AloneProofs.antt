@@ -44,15 +44,15 @@ tarski_a_says : statements_of tarski_a ≡ of_tarski_a
 unfolding owes grants
 tarski_a_says = refl
 
-axioms_are : of_tarski_0 ++ of_tarski_a ≡ axioms
+append-axioms_are : of_tarski_0 ++ of_tarski_a ≡ axioms
 unfolding axioms
-axioms_are = refl
+append-axioms_are = refl
 
 said_by : (d c : Export) (f : Formula) → d ≡ c → Contains (statements_of c) f → Contains (statements_of d) f
 said_by d c f same said = subst (λ (x : Export). Contains (statements_of x) f) (sym same) said
 
 is_axiom : (f : Formula) → Contains (of_tarski_0 ++ of_tarski_a) f → Contains axioms f
-is_axiom f is = subst (λ fs. Contains fs f) axioms_are is
+is_axiom f is = subst (λ fs. Contains fs f) append-axioms_are is
 
 built_in_says : (d : Export) (f : Formula) → Contains built_in_exports d → Contains (statements_of d) f → Contains axioms f
 built_in_says d f is said = elim (contains_cases hidden d (tarski_0 ∷ tarski_a ∷ []) is) [

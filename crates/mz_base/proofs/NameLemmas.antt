@@ -98,12 +98,12 @@ name_bytes (b ∷ bs) h =
     in
     (and_both _ _ (is_name_byte-letter b letter) rest, omega arith)
 
-nonzero-name_bytes : (bs : List ℕ) → list_all is_name_byte bs ≡ true → filter (λ b. not (b == 0)) bs ≡ bs
-nonzero-name_bytes [] h = refl
-nonzero-name_bytes (b ∷ bs) h =
+filter-nonzero-name_bytes : (bs : List ℕ) → list_all is_name_byte bs ≡ true → filter (λ b. not (b == 0)) bs ≡ bs
+filter-nonzero-name_bytes [] h = refl
+filter-nonzero-name_bytes (b ∷ bs) h =
     let some : 0 < b = (is_name_byte_range b (and_left _ _ h)).0 in
     let test : not (b == 0) ≡ true = grind (arith, nat_tests) in
-    rw test (ap (λ xs. b ∷ xs) (nonzero-name_bytes bs (and_right _ _ h)))
+    rw test (ap (λ xs. b ∷ xs) (filter-nonzero-name_bytes bs (and_right _ _ h)))
 
 nonzero-replicate : (n : ℕ) → filter (λ b. not (b == 0)) (replicate n 0) ≡ []
 nonzero-replicate zero = refl
@@ -128,7 +128,7 @@ text_of-from_be_bytes n bs h e =
     let known = name_bytes bs h in
     let bytes : to_be_bytes w64 n ≡ filled bs = be_bytes_8 (filled bs) n (length-filled bs known.1) (padded_below_256 bs (8 - length bs) known.0) e in
     let kept : filter (λ b. not (b == 0)) (filled bs) ≡ bs =
-    filter-append (λ b. not (b == 0)) bs (replicate (8 - length bs) 0) ∙ rw (nonzero-name_bytes bs known.0, nonzero-replicate (8 - length bs)) (append-nil bs)
+    filter-append (λ b. not (b == 0)) bs (replicate (8 - length bs) 0) ∙ rw (filter-nonzero-name_bytes bs known.0, nonzero-replicate (8 - length bs)) (append-nil bs)
     in
     ap (λ xs. filter (λ b. not (b == 0)) xs) bytes ∙ kept
 

@@ -65,14 +65,14 @@ worth_says (x ∷ xs) (y ∷ ys) e h k =
     let below : worth ys < weight (length xs) = rw tail (worth-lt ys k.1) in
     rw (sym tail) (digits_says x y (worth xs) (worth ys) (weight (length xs)) (nat_cmp x y) (slice_cmp nat_cmp xs ys) (worth-lt xs h.1) below (nat_cmp_says x y) (worth_says xs ys tail h.1 k.1))
 
-zeros_equal : (n : ℕ) → slice_cmp nat_cmp (replicate n 0) (replicate n 0) ≡ Equal
-zeros_equal zero = refl
-zeros_equal (suc n) = zeros_equal n
+slice_cmp-zeros_equal : (n : ℕ) → slice_cmp nat_cmp (replicate n 0) (replicate n 0) ≡ Equal
+slice_cmp-zeros_equal zero = refl
+slice_cmp-zeros_equal (suc n) = slice_cmp-zeros_equal n
 
 padded_cmp : (bs cs : List ℕ) (m n : ℕ) → length bs + m ≡ length cs + n → list_all is_name_byte bs ≡ true → list_all is_name_byte cs ≡ true → slice_cmp nat_cmp (bs ++ replicate m 0) (cs ++ replicate n 0) ≡ slice_cmp nat_cmp bs cs
 padded_cmp [] [] m n e h k =
     let same : m ≡ n = omega arith in
-    rw same (zeros_equal n)
+    rw same (slice_cmp-zeros_equal n)
 padded_cmp [] (c ∷ cs) zero n e h k = absurd (omega arith)
 padded_cmp [] (c ∷ cs) (suc m) n e h k =
     let range = is_name_byte_range c (and_left _ _ k) in

@@ -128,18 +128,18 @@ gives_open d cs g number e h n same x =
     is_open (keeps_limits d cs g h) (none_closed d cs n r.0) r.1
 
 -- the disjuncts that are left
-next_left : (ds : List Disjunct) (i : ℕ) (d : Disjunct) → i < length ds → d ≡ get_or ds i d → drop i ds ≡ d ∷ drop (i + 1) ds
-next_left ds i d lt at =
+drop-next_left : (ds : List Disjunct) (i : ℕ) (d : Disjunct) → i < length ds → d ≡ get_or ds i d → drop i ds ≡ d ∷ drop (i + 1) ds
+drop-next_left ds i d lt at =
     let e : suc i ≡ (i + 1) = omega arith in
     drop-cons ds i d lt ∙ (λ j. sym at j ∷ drop (e j) ds)
 
 pub left_decided : (cs : List Clause) (ds : List Disjunct) (i number : ℕ) (d : Disjunct) (v : ByVerdict) → i < length ds → d ≡ get_or ds i d → ((w : ByVerdict) → DecidesAll cs number (drop i ds) w → DecidesAll cs 1 ds w) → Decides d cs number v → DecidesAll cs 1 ds v
-left_decided cs ds i number d v lt at so h = so v (subst (λ xs. DecidesAll cs number xs v) (sym (next_left ds i d lt at)) (decided number d (drop (i + 1) ds) v h))
+left_decided cs ds i number d v lt at so h = so v (subst (λ xs. DecidesAll cs number xs v) (sym (drop-next_left ds i d lt at)) (decided number d (drop (i + 1) ds) v h))
 
 pub left_passed : (cs : List Clause) (ds : List Disjunct) (i number next : ℕ) (d : Disjunct) → i < length ds → d ≡ get_or ds i d → next ≡ number + 1 → ((w : ByVerdict) → DecidesAll cs number (drop i ds) w → DecidesAll cs 1 ds w) → IsClosedWithin d cs → (w : ByVerdict) → DecidesAll cs next (drop (i + 1) ds) w → DecidesAll cs 1 ds w
 left_passed cs ds i number next d lt at en so h w x =
     let e : next ≡ suc number = omega (arith, en) in
-    so w (subst (λ xs. DecidesAll cs number xs w) (sym (next_left ds i d lt at)) (passed number d (drop (i + 1) ds) w h (subst (λ m. DecidesAll cs m (drop (i + 1) ds) w) e x)))
+    so w (subst (λ xs. DecidesAll cs number xs w) (sym (drop-next_left ds i d lt at)) (passed number d (drop (i + 1) ds) w h (subst (λ m. DecidesAll cs m (drop (i + 1) ds) w) e x)))
 
 pub none_left : (cs : List Clause) (ds : List Disjunct) (i number : ℕ) → length ds ≤ i → ((w : ByVerdict) → DecidesAll cs number (drop i ds) w → DecidesAll cs 1 ds w) → DecidesAll cs 1 ds Closed
 none_left cs ds i number le so = so Closed (subst (λ xs. DecidesAll cs number xs Closed) (sym (drop_all i ds le)) (all_closed number))

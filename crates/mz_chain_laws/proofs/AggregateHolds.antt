@@ -43,7 +43,7 @@ use Rattle.mz_types.specs.Structures.{has_aggregate, made_by, FieldsFit, no_fiel
 use Rattle.mz_chain_laws.specs.ChainLaw.{HasAggregateClause, made_of_variables}
 use Rattle.mz_chain_laws.proofs.Fired.{fired, fit_length, loci_hold}
 use Rattle.mz_chain_laws.proofs.Said.{closed_append, closed_reverse, Holds, of_atom}
-use Rattle.mz_chain_laws.proofs.StructureHolds.{variables_at, loci_at, map_reverse, inward_at, found, Under, structure_under, twice, length_inward}
+use Rattle.mz_chain_laws.proofs.StructureHolds.{variables_at, loci_at, map_reverse, inward_at, found, Under, structure_under, map-twice, length_inward}
 
 -- structures with the clause of their aggregate
 abbrev pub AreMade : List Clause → List Structure → Type 0
@@ -58,12 +58,12 @@ adjectives_twice : (ts us : List Term) (xs : List Adjective) → list_all (adjec
 adjectives_twice ts us [] h = refl
 adjectives_twice ts us (a ∷ xs) h =
     let both : (adjective_under (length us) a ≡ true) × (list_all (adjective_under (length us)) xs ≡ true) = and_parts (adjective_under (length us) a) (list_all (adjective_under (length us)) xs) h in
-    λ i. record { positive = a.positive; sym = a.sym; args = twice ts us a.args both.0 i } ∷ adjectives_twice ts us xs both.1 i
+    λ i. record { positive = a.positive; sym = a.sym; args = map-twice ts us a.args both.0 i } ∷ adjectives_twice ts us xs both.1 i
 
 type_twice : (ts us : List Term) (ty : SoftType) → type_under (length us) ty ≡ true → substitute_type 0 (value_at ts) (substitute_type 0 (value_at us) ty) ≡ substitute_type 0 (value_at (map (substitute 0 (value_at ts)) us)) ty
 type_twice ts us ty h =
     let both : (list_all (adjective_under (length us)) ty.adjectives ≡ true) × (list_all (term_under (length us)) ty.radix.args ≡ true) = and_parts (list_all (adjective_under (length us)) ty.adjectives) (list_all (term_under (length us)) ty.radix.args) h in
-    λ i. record { adjectives = adjectives_twice ts us ty.adjectives both.0 i; radix = record { sym = ty.radix.sym; args = twice ts us ty.radix.args both.1 i } }
+    λ i. record { adjectives = adjectives_twice ts us ty.adjectives both.0 i; radix = record { sym = ty.radix.sym; args = map-twice ts us ty.radix.args both.1 i } }
 
 first_same : (x y : Term) (xs ys : List Term) → x ∷ xs ≡ y ∷ ys → x ≡ y
 first_same x y xs ys e = ap (λ (zs : List Term). get_or zs 0 x) e

@@ -74,8 +74,8 @@ fit_length cs ks before tys vs (no_loci b) = refl
 fit_length cs ks before tys vs (and_locus b ty others t us f rest) = ap suc (fit_length cs ks (t ∷ b) others us rest)
 
 -- one value more, the innermost ones being the last
-pub one_value_more : (t : Term) (us before : List Term) → reverse (t ∷ us) ++ before ≡ reverse us ++ (t ∷ before)
-one_value_more t us before = ap (λ xs. xs ++ before) (reverse-append (t ∷ []) us) ∙ append_assoc (reverse us) (t ∷ []) before
+pub append-one_value_more : (t : Term) (us before : List Term) → reverse (t ∷ us) ++ before ≡ reverse us ++ (t ∷ before)
+append-one_value_more t us before = ap (λ xs. xs ++ before) (reverse-append (t ∷ []) us) ∙ append_assoc (reverse us) (t ∷ []) before
 
 -- values that fit the loci: their guards hold there, whatever stands for further variables
 pub loci_hold : (ax g : List Formula) (cs : List Clause) (ks : List (Option Constant)) → AreGranted ax g cs ks → (by : ℕ) (ws before : List Term) (tys : List SoftType) (vs : List Term) → length ws ≡ by → LociFit cs ks before tys vs → Along ax g (formulas_at (ws ++ (reverse vs ++ before)) (loci_guards by tys))
@@ -99,4 +99,4 @@ loci_hold ax g cs ks grants by ws before tys vs long (and_locus b ty others t us
     let here : Along ax g (formulas_at (ws ++ (reverse us ++ (t ∷ b))) first) = subst (λ m. Along ax g (map (substitute_formula 0 (value_at (ws ++ (reverse us ++ (t ∷ b))))) (guard (shift_type 0 m ty) (Bound (length others + by))))) above raised in
     let both : Along ax g (formulas_at (ws ++ (reverse us ++ (t ∷ b))) (loci_guards by (ty ∷ others))) = subst (Along ax g) (sym (formulas_at-append (ws ++ (reverse us ++ (t ∷ b))) first (loci_guards by others)))
     (along_append ax g (formulas_at (ws ++ (reverse us ++ (t ∷ b))) first) (formulas_at (ws ++ (reverse us ++ (t ∷ b))) (loci_guards by others)) here (loci_hold ax g cs ks grants by ws (t ∷ b) others us long rest)) in
-    subst (λ (xs : List Term). Along ax g (formulas_at (ws ++ xs) (loci_guards by (ty ∷ others)))) (sym (one_value_more t us b)) both
+    subst (λ (xs : List Term). Along ax g (formulas_at (ws ++ xs) (loci_guards by (ty ∷ others)))) (sym (append-one_value_more t us b)) both

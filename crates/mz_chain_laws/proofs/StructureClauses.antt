@@ -66,15 +66,15 @@ made_full m n s =
 pub among : (cs ds : List Clause) → ((c : Clause) → Contains cs c → Contains ds c) → (n : ℕ) (ps : List Literal) (k : Literal) → HasClause cs n ps k → HasClause ds n ps k
 among cs ds f n ps k w = (w.0, f w.0 w.1, w.2, w.3, w.4)
 
-both_groups : (x : TheStructure) → typing_clauses (Structure x) ≡ groups_clauses (part_groups x) ++ groups_clauses (aggregate_groups x)
-both_groups x = flat_map-append group_clauses (part_groups x) (aggregate_groups x)
+typing_clauses-both_groups : (x : TheStructure) → typing_clauses (Structure x) ≡ groups_clauses (part_groups x) ++ groups_clauses (aggregate_groups x)
+typing_clauses-both_groups x = flat_map-append group_clauses (part_groups x) (aggregate_groups x)
 
 parts_there : (x : TheStructure) → HasPartClauses (typing_clauses (Structure x)) x
 parts_there x k h =
     let w : HasClause (groups_clauses (part_groups x)) (length x.loci + 1) (loci_guards 1 x.loci ++ structure_literal 1 x (Bound 0) ∷ []) k =
     group_has (length x.loci + 1) (Atom x.sym (structure_arguments 1 x (Bound 0))) (loci_guards 1 x.loci ++ structure_literal 1 x (Bound 0) ∷ []) (structure_parts x) k (part_full (length x.loci) x.sym) h in
     among (groups_clauses (part_groups x)) (typing_clauses (Structure x))
-    (λ c i. subst (λ (ds : List Clause). Contains ds c) (sym (both_groups x)) (Contains-append_left (groups_clauses (part_groups x)) (groups_clauses (aggregate_groups x)) c i)) (length x.loci + 1) (loci_guards 1 x.loci ++ structure_literal 1 x (Bound 0) ∷ []) k w
+    (λ c i. subst (λ (ds : List Clause). Contains ds c) (sym (typing_clauses-both_groups x)) (Contains-append_left (groups_clauses (part_groups x)) (groups_clauses (aggregate_groups x)) c i)) (length x.loci + 1) (loci_guards 1 x.loci ++ structure_literal 1 x (Bound 0) ∷ []) k w
 
 made_there : (x : TheStructure) → HasAggregateClause (typing_clauses (Structure x)) x
 made_there x =
@@ -86,7 +86,7 @@ made_there x =
     group_has (length x.loci + length x.fields) (Term (made_of_variables x)) ps (structure_literal (length x.fields) x (made_of_variables x) ∷ strict_literal (length x.fields) x (made_of_variables x) ∷ selection_equations (made_of_variables x) x.fields (variables 0 (length x.fields)))
     k (made_full (length x.fields) (length x.loci) x.aggregate) (0, omega arith, refl) in
     among (groups_clauses (aggregate_groups x)) (typing_clauses (Structure x))
-    (λ c i. subst (λ (ds : List Clause). Contains ds c) (sym (both_groups x)) (Contains-append_right (groups_clauses (part_groups x)) (groups_clauses (aggregate_groups x)) c i)) (length x.loci + length x.fields) ps k w
+    (λ c i. subst (λ (ds : List Clause). Contains ds c) (sym (typing_clauses-both_groups x)) (Contains-append_right (groups_clauses (part_groups x)) (groups_clauses (aggregate_groups x)) c i)) (length x.loci + length x.fields) ps k w
 
 pub structure_clause_law : StructureClauseLaw
 structure_clause_law (Axiom d) x h = absurd (in_none x h)

@@ -42,7 +42,7 @@ use Rattle.mz_types.specs.RowTypes.{radix_at}
 use Rattle.mz_types.specs.Structures as st
 use Rattle.mz_types.specs.Structures.{is_structure, has_selector, structure_of, field_radix, MemberGives, FirstGives, ancestors_at, AncestorsGive}
 use Rattle.mz_chain_laws.specs.ChainLaw.{HasPartClauses, as_type}
-use Rattle.mz_chain_laws.proofs.Fired.{fired_all, guard_at_term, fit_length, one_value_more, loci_hold}
+use Rattle.mz_chain_laws.proofs.Fired.{fired_all, guard_at_term, fit_length, append-one_value_more, loci_hold}
 use Rattle.mz_chain_laws.proofs.Said.{closed_append, closed_reverse, closed_at_values, Holds, radix_part, atom_of, AllHold}
 
 -- variables at the values that stand for them
@@ -56,7 +56,7 @@ one_variable_more by n = reverse-append (inward by n) (Bound (by + n) ∷ [])
 pub variables_at : (ws before vs : List Term) → map (substitute 0 (value_at (ws ++ (reverse vs ++ before)))) (variables (length ws) (length vs)) ≡ vs
 variables_at ws before [] = refl
 variables_at ws before (x ∷ xs) =
-    let same : ws ++ (reverse (x ∷ xs) ++ before) ≡ ws ++ (reverse xs ++ (x ∷ before)) = ap (λ ys. ws ++ ys) (one_value_more x xs before) in
+    let same : ws ++ (reverse (x ∷ xs) ++ before) ≡ ws ++ (reverse xs ++ (x ∷ before)) = ap (λ ys. ws ++ ys) (append-one_value_more x xs before) in
     let split : ws ++ (reverse xs ++ (x ∷ before)) ≡ (ws ++ reverse xs) ++ (x ∷ before) = sym (append_assoc ws (reverse xs) (x ∷ before)) in
     let a : length (ws ++ reverse xs) ≡ length ws + length (reverse xs) = length-append ws (reverse xs) in
     let b : length (reverse xs) ≡ length xs = length-reverse xs in
@@ -172,14 +172,14 @@ value_twice ts [] k lt = absurd (omega (arith, lt))
 value_twice ts (u ∷ us) zero lt = refl
 value_twice ts (u ∷ us) (suc k) lt = value_twice ts us k (omega (arith, lt))
 
-pub twice : (ts us ws : List Term) → list_all (term_under (length us)) ws ≡ true → map (substitute 0 (value_at ts)) (map (substitute 0 (value_at us)) ws) ≡ map (substitute 0 (value_at (map (substitute 0 (value_at ts)) us))) ws
-twice ts us [] h = refl
-twice ts us (w ∷ ws) h =
+pub map-twice : (ts us ws : List Term) → list_all (term_under (length us)) ws ≡ true → map (substitute 0 (value_at ts)) (map (substitute 0 (value_at us)) ws) ≡ map (substitute 0 (value_at (map (substitute 0 (value_at ts)) us))) ws
+map-twice ts us [] h = refl
+map-twice ts us (w ∷ ws) h =
     let both : (term_under (length us) w ≡ true) × (list_all (term_under (length us)) ws ≡ true) = and_parts (term_under (length us) w) (list_all (term_under (length us)) ws) h in
     let one : substitute 0 (value_at ts) (substitute 0 (value_at us) w) ≡ substitute 0 (value_at (map (substitute 0 (value_at ts)) us)) w =
     substitute-substitute 0 (value_at us) (value_at ts) w ∙
     substitute-agree 0 (length us) (λ k. substitute 0 (value_at ts) (value_at us k)) (value_at (map (substitute 0 (value_at ts)) us)) w (value_twice ts us) (term_within (length us) w both.0) in
-    λ i. one i ∷ twice ts us ws both.1 i
+    λ i. one i ∷ map-twice ts us ws both.1 i
 
 -- the selectors' terms on an object
 pub selections_at : (t : Term) (ts : List Term) (fs : List Field) → map (substitute 0 (value_at (t ∷ ts))) (map (selected (Bound 0)) fs) ≡ map (selected t) fs
@@ -234,7 +234,7 @@ field_holds ax g cs ks grants t ct r hr x es ep w cx fit f c under =
     let args_under : list_all (term_under (length (selected_values x))) f.ty.radix.args ≡ true = subst (λ m. list_all (term_under m) f.ty.radix.args ≡ true) count (radix_under (length x.loci + 1 + length x.fields) f.ty under) in
     let values : map (substitute 0 (value_at (t ∷ reverse r.args))) (selected_values x) ≡ values_of_object x t r.args = object_values x t r.args n in
     let args : map (substitute 0 (value_at (t ∷ reverse r.args))) (map (substitute 0 (value_at (selected_values x))) f.ty.radix.args) ≡ (field_radix x r.args t f).args =
-    twice (t ∷ reverse r.args) (selected_values x) f.ty.radix.args args_under ∙ ap (λ (vs : List Term). map (substitute 0 (value_at vs)) f.ty.radix.args) values in
+    map-twice (t ∷ reverse r.args) (selected_values x) f.ty.radix.args args_under ∙ ap (λ (vs : List Term). map (substitute 0 (value_at vs)) f.ty.radix.args) values in
     let moved : Along ax g (guard (as_type (field_radix x r.args t f)) (selected t f)) =
     subst (λ (v : Term). Along ax g (guard (as_type (field_radix x r.args t f)) v)) subject
     (subst (λ (vs : List Term). Along ax g (guard (as_type (record { sym = f.ty.radix.sym; args = vs })) (substitute 0 (value_at (t ∷ reverse r.args)) (selected (Bound 0) f)))) args radix) in

@@ -54,10 +54,10 @@ pub ruleset typed_rules = (told_any, told_by_chain)
 pub told_no_locus : (cs : List Clause) (e : Environment) (c : Context) (loci : List SoftType) (fs : Fixed) (place : ℕ) (t : Term) → length loci ≤ place → Takes cs e c loci fs place t None
 told_no_locus cs e c loci fs place t h = co.no_locus (slice_get_past loci place h)
 
-got : (loci : List SoftType) (p : ℕ) (x : SoftType) → p < length loci → x ≡ get_or loci p x → slice_get loci p ≡ Some x
-got [] p x lt at = absurd (omega (arith, lt))
-got (s ∷ ss) zero x lt at = ap Some (sym at)
-got (s ∷ ss) (suc p) x lt at = got ss p x (omega (arith, lt)) at
+slice_get-got : (loci : List SoftType) (p : ℕ) (x : SoftType) → p < length loci → x ≡ get_or loci p x → slice_get loci p ≡ Some x
+slice_get-got [] p x lt at = absurd (omega (arith, lt))
+slice_get-got (s ∷ ss) zero x lt at = ap Some (sym at)
+slice_get-got (s ∷ ss) (suc p) x lt at = slice_get-got ss p x (omega (arith, lt)) at
 
 there : (loci : List SoftType) (p : ℕ) → p < length loci → (x : SoftType) × (slice_get loci p ≡ Some x)
 there [] p lt = absurd (omega (arith, lt))
@@ -70,7 +70,7 @@ told_not_placed cs e c loci fs place t o lt p eo =
     co.not_placed s.0 s.1 (subst (Placed cs c.constants fs place t) eo p)
 
 pub told_is_placed : (cs : List Clause) (e : Environment) (c : Context) (loci : List SoftType) (fs between : Fixed) (place : ℕ) (t : Term) (ty : SoftType) (o p : Option Fixed) → place < length loci → ty ≡ get_or loci place ty → Placed cs c.constants fs place t o → o ≡ Some between → Typed cs e c place ty between t p → Takes cs e c loci fs place t p
-told_is_placed cs e c loci fs between place t ty o p lt at h eo k = co.is_placed ty between p (got loci place ty lt at) (subst (Placed cs c.constants fs place t) eo h) k
+told_is_placed cs e c loci fs between place t ty o p lt at h eo k = co.is_placed ty between p (slice_get-got loci place ty lt at) (subst (Placed cs c.constants fs place t) eo h) k
 
 pub ruleset takes_rules = (told_no_locus, told_not_placed, told_is_placed)
 

@@ -85,9 +85,9 @@ told_fresh_left c d e k count h ec l = told_left c d e count (grown_by c d k h) 
 pub ruleset fresh_rules = (told_fresh, told_fresh_left)
 
 -- loci for constants
-pub told_turn : (c left further less : ℕ) (ts us goal : List Term) → 0 < left → us ≡ map (term_over c 0) ts → further ≡ c + 1 → less ≡ left - 1 → over_constants c left ts ≡ goal → over_constants further less us ≡ goal
-told_turn c zero further less ts us goal lt eu ef el h = absurd (omega (arith, lt))
-told_turn c (suc n) further less ts us goal lt eu ef el h =
+pub over_constants-told_turn : (c left further less : ℕ) (ts us goal : List Term) → 0 < left → us ≡ map (term_over c 0) ts → further ≡ c + 1 → less ≡ left - 1 → over_constants c left ts ≡ goal → over_constants further less us ≡ goal
+over_constants-told_turn c zero further less ts us goal lt eu ef el h = absurd (omega (arith, lt))
+over_constants-told_turn c (suc n) further less ts us goal lt eu ef el h =
     let one : less ≡ n = omega (arith, el) in
     let two : further ≡ suc c = omega (arith, ef) in
     subst (λ m. over_constants further m us ≡ goal) (sym one) (subst (λ m. over_constants m n us ≡ goal) (sym two) (subst (λ (vs : List Term). over_constants (suc c) n vs ≡ goal) (sym eu) h))
@@ -95,10 +95,10 @@ told_turn c (suc n) further less ts us goal lt eu ef el h =
 pub told_over : (c left : ℕ) (ts goal : List Term) → left ≡ 0 → over_constants c left ts ≡ goal → ts ≡ goal
 told_over c left ts goal el h = subst (λ m. over_constants c m ts ≡ goal) el h
 
-pub told_begin : (n count : ℕ) (ts us : List Term) → us ≡ ts → over_constants n count us ≡ over_constants n count ts
-told_begin n count ts us e = ap (over_constants n count) e
+pub over_constants-told_begin : (n count : ℕ) (ts us : List Term) → us ≡ ts → over_constants n count us ≡ over_constants n count ts
+over_constants-told_begin n count ts us e = ap (over_constants n count) e
 
-pub ruleset over_rules = (told_turn, told_over, told_begin)
+pub ruleset over_rules = (over_constants-told_turn, told_over, over_constants-told_begin)
 
 -- constants for loci
 pub told_locus : (c d : Context) (k : Constant) (at ty : SoftType) (before : List Term) → at ≡ type_at before ty → k ≡ fresh at → d ≡ with_constant c k → d ≡ with_fresh c (type_at before ty)
@@ -127,8 +127,8 @@ told_constants c d before inside us ty loci tys el ed ei h =
     h ∙ (ap (λ m. loci_constants m inside tys) (next_of_fresh c d (type_at before ty) ed) ∙ (ap (λ vs. loci_constants (suc (next c)) vs tys) ei ∙ ap (loci_constants (next c) before) (sym el)))
 
 -- the same where what is left of the loci gives what all of them do
-pub told_context_turn : (c d goal : Context) (before inside : List Term) (ty : SoftType) (loci tys : List SoftType) → loci ≡ ty ∷ tys → d ≡ with_fresh c (type_at before ty) → inside ≡ Const (next c) ∷ before → with_loci c before loci ≡ goal → with_loci d inside tys ≡ goal
-told_context_turn c d goal before inside ty loci tys el ed ei so = told_context c d (with_loci d inside tys) before inside ty loci tys el ed ei refl ∙ so
+pub with_loci-told_context_turn : (c d goal : Context) (before inside : List Term) (ty : SoftType) (loci tys : List SoftType) → loci ≡ ty ∷ tys → d ≡ with_fresh c (type_at before ty) → inside ≡ Const (next c) ∷ before → with_loci c before loci ≡ goal → with_loci d inside tys ≡ goal
+with_loci-told_context_turn c d goal before inside ty loci tys el ed ei so = told_context c d (with_loci d inside tys) before inside ty loci tys el ed ei refl ∙ so
 
 pub told_constants_turn : (c d : Context) (before inside goal : List Term) (ty : SoftType) (loci tys : List SoftType) → loci ≡ ty ∷ tys → d ≡ with_fresh c (type_at before ty) → inside ≡ Const (next c) ∷ before → loci_constants (next c) before loci ≡ goal → loci_constants (next d) inside tys ≡ goal
 told_constants_turn c d before inside goal ty loci tys el ed ei so = told_constants c d before inside (loci_constants (next d) inside tys) ty loci tys el ed ei refl ∙ so
@@ -139,7 +139,7 @@ told_context_end c goal before loci em so = told_no_loci c before loci em ∙ so
 pub told_constants_end : (n : ℕ) (before goal : List Term) (loci : List SoftType) → length loci ≡ 0 → loci_constants n before loci ≡ goal → before ≡ goal
 told_constants_end n before goal loci em so = told_no_constants n before loci em ∙ so
 
-pub ruleset loci_rules = (told_context_turn, told_constants_turn, told_context_end, told_constants_end, grown_itself, grown_more)
+pub ruleset loci_rules = (with_loci-told_context_turn, told_constants_turn, told_context_end, told_constants_end, grown_itself, grown_more)
 
 -- the chain of a registration
 pub told_chain : (cs : List Clause) (e : Environment) (c d f : Context) (r : ExistentialRegistration) (none loci : List Term) (at : SoftType) (k : Constant) (n : ℕ) (t : Term) (ms : List Radix) → none ≡ [] → d ≡ with_loci c none r.loci → loci ≡ loci_constants (next c) none r.loci → at ≡ type_at loci r.ty → k ≡ fresh at → n ≡ next d → f ≡ with_constant d k → t ≡ Const n → IsChain cs e f t ms → IsRegisteredChain cs e c r ms
@@ -259,14 +259,14 @@ told_by_chain cs e c d ty r ms us b h ed eu i =
 pub ruleset by_chain_rules = (told_by_chain, told_twice)
 
 -- some registration
-mapped_none : {A B : Type 0} (f : A → B) (xs : List A) → length xs ≡ 0 → length (map f xs) ≡ 0
-mapped_none f xs h = ap (λ ys. length (map f ys)) (empty xs h)
+length-mapped_none : {A B : Type 0} (f : A → B) (xs : List A) → length xs ≡ 0 → length (map f xs) ≡ 0
+length-mapped_none f xs h = ap (λ ys. length (map f ys)) (empty xs h)
 
 pub told_no_registration : (cs : List Clause) (e : Environment) (c : Context) (ty : SoftType) (rest rs : List ExistentialRegistration) → length rest ≡ 0 → HasCover cs e c ty rest ↔ HasCover cs e c ty rs → IsTrue false ↔ HasCover cs e c ty rs
 told_no_registration cs e c ty rest rs em i = never (λ w. let v : HasCover cs e c ty [] = subst (HasCover cs e c ty) (empty rest em) (i.1 w) in in_none v.0 v.1)
 
 pub told_none_left : {A : Type 0} (cs : List Clause) (e : Environment) (c : Context) (ty : SoftType) (f : A → ExistentialRegistration) (ys : List A) (rs : List ExistentialRegistration) → length ys ≡ 0 → HasCover cs e c ty (map f ys) ↔ HasCover cs e c ty rs → IsTrue false ↔ HasCover cs e c ty rs
-told_none_left cs e c ty f ys rs em i = told_no_registration cs e c ty (map f ys) rs (mapped_none f ys em) i
+told_none_left cs e c ty f ys rs em i = told_no_registration cs e c ty (map f ys) rs (length-mapped_none f ys em) i
 
 pub told_this : (cs : List Clause) (e : Environment) (c d : Context) (ty : SoftType) (r : ExistentialRegistration) (rest others rs : List ExistentialRegistration) (a : Bool) → rest ≡ r ∷ others → d ≡ c → IsTrue a ↔ CoversByChain cs e d ty r → a ≡ true → HasCover cs e c ty rest ↔ HasCover cs e c ty rs → IsTrue true ↔ HasCover cs e c ty rs
 told_this cs e c d ty r rest others rs a er ed i ea h =

@@ -18,13 +18,13 @@ use Rattle.mz_choice.specs.declared.choice.Wanted.{Wanted}
 use Rattle.mz_choice.specs.Choice as co
 use Rattle.mz_choice.specs.Choice.{is_of_symbol, is_candidate, candidates, Passes, FirstPasses, Chosen}
 
--- the candidates before a place, the latest first
+-- the candidates before a place, the reverse-latest first
 abbrev pub before : Applied → List Notation → ℕ → List Notation
 before a xs n = candidates a (take n xs)
 
-latest : (p : Notation → Bool) (xs : List Notation) (x : Notation) (b : Bool) → p x ≡ b → reverse (filter p (xs ++ x ∷ [])) ≡ (if b then x ∷ reverse (filter p xs) else reverse (filter p xs))
-latest p xs x true h = ap reverse (filter-append p xs (x ∷ []) ∙ ap (λ (c : Bool). filter p xs ++ (if c then x ∷ [] else [])) h) ∙ reverse-append (filter p xs) (x ∷ [])
-latest p xs x false h = ap reverse (filter-append p xs (x ∷ []) ∙ (ap (λ (c : Bool). filter p xs ++ (if c then x ∷ [] else [])) h ∙ append-nil (filter p xs)))
+reverse-latest : (p : Notation → Bool) (xs : List Notation) (x : Notation) (b : Bool) → p x ≡ b → reverse (filter p (xs ++ x ∷ [])) ≡ (if b then x ∷ reverse (filter p xs) else reverse (filter p xs))
+reverse-latest p xs x true h = ap reverse (filter-append p xs (x ∷ []) ∙ ap (λ (c : Bool). filter p xs ++ (if c then x ∷ [] else [])) h) ∙ reverse-append (filter p xs) (x ∷ [])
+reverse-latest p xs x false h = ap reverse (filter-append p xs (x ∷ []) ∙ (ap (λ (c : Bool). filter p xs ++ (if c then x ∷ [] else [])) h ∙ append-nil (filter p xs)))
 
 take_next : (xs : List Notation) (k : ℕ) (x : Notation) → slice_get xs k ≡ Some x → take (suc k) xs ≡ take k xs ++ x ∷ []
 take_next [] k x at = absurd (none_some x at)
@@ -34,7 +34,7 @@ take_next (y ∷ ys) (suc k) x at = ap (λ zs. y ∷ zs) (take_next ys k x at)
 one_before : (a : Applied) (xs : List Notation) (n k : ℕ) (x : Notation) (b : Bool) → k ≡ n - 1 → 0 < n → slice_get xs k ≡ Some x → is_candidate a x ≡ b → before a xs n ≡ (if b then x ∷ before a xs k else before a xs k)
 one_before a xs n k x b ek lt at h =
     let en : n ≡ suc k = omega (arith, ek, lt) in
-    ap (λ m. before a xs m) en ∙ (ap (λ ys. reverse (filter (is_candidate a) ys)) (take_next xs k x at) ∙ latest (is_candidate a) (take k xs) x b h)
+    ap (λ m. before a xs m) en ∙ (ap (λ ys. reverse (filter (is_candidate a) ys)) (take_next xs k x at) ∙ reverse-latest (is_candidate a) (take k xs) x b h)
 
 pub told_other : (cs : List Clause) (e : Environment) (c : Context) (w : Wanted) (args : List Term) (a : Applied) (xs : List Notation) (n k : ℕ) (x : Notation) (b : Bool) → k ≡ n - 1 → 0 < n → slice_get xs k ≡ Some x → b ≡ is_candidate a x → b ≡ false → ((o : Option Meaning) → FirstPasses cs e c w args (before a xs n) o → FirstPasses cs e c w args (candidates a xs) o) → (o : Option Meaning) → FirstPasses cs e c w args (before a xs k) o → FirstPasses cs e c w args (candidates a xs) o
 told_other cs e c w args a xs n k x b ek lt at same eb so o h =
@@ -73,14 +73,14 @@ left_out : (b : Bool) (x : Notation) (ys xs : List Notation) → (b ≡ true →
 left_out true x ys xs f h = absurd (not_both false refl (f refl))
 left_out false x ys xs f h = h
 
-by_test : (p : Notation → Bool) (x : Notation) (ys xs : List Notation) (c : Bool) → (p x ≡ true → c ≡ true) → filter p ys ≡ filter p xs → filter p (if c then x ∷ ys else ys) ≡ (if p x then x ∷ filter p xs else filter p xs)
-by_test p x ys xs true f h = ap (λ (zs : List Notation). if p x then x ∷ zs else zs) h
-by_test p x ys xs false f h = left_out (p x) x (filter p ys) (filter p xs) f h
+filter-by_test : (p : Notation → Bool) (x : Notation) (ys xs : List Notation) (c : Bool) → (p x ≡ true → c ≡ true) → filter p ys ≡ filter p xs → filter p (if c then x ∷ ys else ys) ≡ (if p x then x ∷ filter p xs else filter p xs)
+filter-by_test p x ys xs true f h = ap (λ (zs : List Notation). if p x then x ∷ zs else zs) h
+filter-by_test p x ys xs false f h = left_out (p x) x (filter p ys) (filter p xs) f h
 
 -- what passes the narrower test needn't pass the wider one first
 filter_twice : (p q : Notation → Bool) (xs : List Notation) → ((x : Notation) → p x ≡ true → q x ≡ true) → filter p (filter q xs) ≡ filter p xs
 filter_twice p q [] f = refl
-filter_twice p q (x ∷ xs) f = by_test p x (filter q xs) xs (q x) (f x) (filter_twice p q xs f)
+filter_twice p q (x ∷ xs) f = filter-by_test p x (filter q xs) xs (q x) (f x) (filter_twice p q xs f)
 
 pub told_chosen : (cs : List Clause) (e : Environment) (c : Context) (w : Wanted) (a : Applied) (xs : List Notation) (args us : List Term) (o : Option Meaning) → xs ≡ filter (is_spelled a.symbol) e.notations → args ≡ a.left ++ a.right → us ≡ args → FirstPasses cs e c w us (candidates a xs) o → Chosen cs e c w a o
 told_chosen cs e c w a xs args us o ex ea eu h =

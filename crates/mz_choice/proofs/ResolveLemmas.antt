@@ -28,14 +28,14 @@ pub has_symbol : (a : Applied) (xs : List Notation) → list_any (is_candidate a
 has_symbol a [] h = h
 has_symbol a (x ∷ xs) h = first_of (is_of_symbol a x) (is_candidate a x) (list_any (is_candidate a) xs) (list_any (is_of_symbol a) xs) (of_symbol a x) (has_symbol a xs) h
 
-no_first : {A : Type 0} (b r : Bool) (x : A) (xs : List A) → (r ≡ false → xs ≡ []) → (b || r) ≡ false → (if b then x ∷ xs else xs) ≡ []
-no_first true r x xs f h = absurd (not_both true h refl)
-no_first false r x xs f h = f h
+cons-no_first : {A : Type 0} (b r : Bool) (x : A) (xs : List A) → (r ≡ false → xs ≡ []) → (b || r) ≡ false → (if b then x ∷ xs else xs) ≡ []
+cons-no_first true r x xs f h = absurd (not_both true h refl)
+cons-no_first false r x xs f h = f h
 
 -- where there is none, none is left
-no_candidates : (p : Notation → Bool) (xs : List Notation) → list_any p xs ≡ false → filter p xs ≡ []
-no_candidates p [] h = refl
-no_candidates p (x ∷ xs) h = no_first (p x) (list_any p xs) x (filter p xs) (no_candidates p xs) h
+filter-no_candidates : (p : Notation → Bool) (xs : List Notation) → list_any p xs ≡ false → filter p xs ≡ []
+filter-no_candidates p [] h = refl
+filter-no_candidates p (x ∷ xs) h = cons-no_first (p x) (list_any p xs) x (filter p xs) (filter-no_candidates p xs) h
 
 none_first : (cs : List Clause) (e : Environment) (c : Context) (w : Wanted) (args : List Term) (o : Option Meaning) → FirstPasses cs e c w args [] o → o ≡ None
 none_first cs e c w args o none_passes = refl
@@ -45,7 +45,7 @@ none_of_none cs e c w args xs o h f = none_first cs e c w args o (subst (λ ys. 
 
 -- what is chosen is a candidate
 pub chosen_none : (cs : List Clause) (e : Environment) (c : Context) (w : Wanted) (a : Applied) (o : Option Meaning) → list_any (is_candidate a) e.notations ≡ false → Chosen cs e c w a o → o ≡ None
-chosen_none cs e c w a o h k = none_of_none cs e c w (a.left ++ a.right) (candidates a e.notations) o (ap reverse (no_candidates (is_candidate a) e.notations h)) k
+chosen_none cs e c w a o h k = none_of_none cs e c w (a.left ++ a.right) (candidates a e.notations) o (ap reverse (filter-no_candidates (is_candidate a) e.notations h)) k
 
 none_here : (b r t : Bool) → (b ≡ true → false ≡ true) → r ≡ t → r ≡ (b || t)
 none_here true r t f h = absurd (not_both false refl (f refl))
@@ -69,16 +69,16 @@ some_candidate a xs ns h = ap (list_any (is_candidate a)) h ∙ any_filtered (is
 pub told_none_has : {A : Type 0} (p : Notation → Bool) (f : A → Notation) (ys : List A) (whole : Bool) → length ys ≡ 0 → list_any p (map f ys) ≡ whole → false ≡ whole
 told_none_has p f ys whole h so = sym (ap (λ zs. list_any p (map f zs)) (empty ys h)) ∙ so
 
-one_more : {A : Type 0} (p : Notation → Bool) (f : A → Notation) (ys zs : List A) (y : A) (x : Notation) (b c : Bool) → ys ≡ y ∷ zs → x ≡ f y → b ≡ p x → b ≡ c → list_any p (map f ys) ≡ (c || list_any p (map f zs))
-one_more p f ys zs y x b c ey ex same eb = ap (λ vs. list_any p (map f vs)) ey ∙ ap (λ (d : Bool). d || list_any p (map f zs)) (ap p (sym ex) ∙ (sym same ∙ eb))
+list_any-one_more : {A : Type 0} (p : Notation → Bool) (f : A → Notation) (ys zs : List A) (y : A) (x : Notation) (b c : Bool) → ys ≡ y ∷ zs → x ≡ f y → b ≡ p x → b ≡ c → list_any p (map f ys) ≡ (c || list_any p (map f zs))
+list_any-one_more p f ys zs y x b c ey ex same eb = ap (λ vs. list_any p (map f vs)) ey ∙ ap (λ (d : Bool). d || list_any p (map f zs)) (ap p (sym ex) ∙ (sym same ∙ eb))
 
 pub told_one_has : {A : Type 0} (p : Notation → Bool) (f : A → Notation) (ys zs : List A) (y : A) (x : Notation) (b whole : Bool) → ys ≡ y ∷ zs → x ≡ f y → b ≡ p x → b ≡ true → list_any p (map f ys) ≡ whole → true ≡ whole
-told_one_has p f ys zs y x b whole ey ex same eb so = sym (one_more p f ys zs y x b true ey ex same eb) ∙ so
+told_one_has p f ys zs y x b whole ey ex same eb so = sym (list_any-one_more p f ys zs y x b true ey ex same eb) ∙ so
 
-pub told_others_have : {A : Type 0} (p : Notation → Bool) (f : A → Notation) (ys zs : List A) (y : A) (x : Notation) (b whole : Bool) → ys ≡ y ∷ zs → x ≡ f y → b ≡ p x → b ≡ false → list_any p (map f ys) ≡ whole → list_any p (map f zs) ≡ whole
-told_others_have p f ys zs y x b whole ey ex same eb so = sym (one_more p f ys zs y x b false ey ex same eb) ∙ so
+pub list_any-told_others_have : {A : Type 0} (p : Notation → Bool) (f : A → Notation) (ys zs : List A) (y : A) (x : Notation) (b whole : Bool) → ys ≡ y ∷ zs → x ≡ f y → b ≡ p x → b ≡ false → list_any p (map f ys) ≡ whole → list_any p (map f zs) ≡ whole
+list_any-told_others_have p f ys zs y x b whole ey ex same eb so = sym (list_any-one_more p f ys zs y x b false ey ex same eb) ∙ so
 
-pub ruleset has_rules = (told_none_has, told_one_has, told_others_have)
+pub ruleset has_rules = (told_none_has, told_one_has, list_any-told_others_have)
 
 pub told_reads_to : (cs : List Clause) (e : Environment) (c : Context) (w : Wanted) (a : Applied) (o : Option Meaning) (m : Meaning) → Chosen cs e c w a o → o ≡ Some m → Resolves cs e c w a (ReadsTo m)
 told_reads_to cs e c w a o m h eo = re.reads_to m (subst (Chosen cs e c w a) eo h)

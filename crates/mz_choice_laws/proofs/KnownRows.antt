@@ -105,8 +105,8 @@ object_known known x t args kt v =
     all-append (term_known known 0) (reverse (map (selected t) x.fields)) (t ∷ reverse args) (all-reverse (term_known known 0) (map (selected t) x.fields) (selections_known known t x.fields kt))
     (and_from (term_known known 0 t) (list_all (term_known known 0) (reverse args)) kt v.are_known)
 
-object_count : (x : Structure) (t : Term) (args : List Term) → length (reverse args) ≡ length x.loci → length (field_values (reverse (map (selected t) x.fields)) t (reverse args)) ≡ length x.loci + 1 + length x.fields
-object_count x t args n =
+length-object_count : (x : Structure) (t : Term) (args : List Term) → length (reverse args) ≡ length x.loci → length (field_values (reverse (map (selected t) x.fields)) t (reverse args)) ≡ length x.loci + 1 + length x.fields
+length-object_count x t args n =
     let a : length (reverse (map (selected t) x.fields)) ≡ length (map (selected t) x.fields) = length-reverse (map (selected t) x.fields) in
     let b : length (map (selected t) x.fields) ≡ length x.fields = length-map x.fields (selected t) in
     let d : length (reverse (map (selected t) x.fields) ++ (t ∷ reverse args)) ≡ length (reverse (map (selected t) x.fields)) + length (t ∷ reverse args) = length-append (reverse (map (selected t) x.fields)) (t ∷ reverse args) in
@@ -115,7 +115,7 @@ object_count x t args n =
 field_known : (known : ℕ → Bool) (x : Structure) (args : List Term) (t : Term) (f : Field) → structure_closed x ≡ true → term_known known 0 t ≡ true → AreValues known (length x.loci) args → field_under (length x.loci + 1 + length x.fields) f ≡ true → radix_known known 0 (field_radix x args t f) ≡ true
 unfolding field_radix
 field_known known x args t f cx kt v h =
-    terms_at_values known (field_values (reverse (map (selected t) x.fields)) t (reverse args)) (length x.loci + 1 + length x.fields) (object_known known x t args kt v) (object_count x t args v.count) f.ty.radix.args (radix_under (length x.loci + 1 + length x.fields) f.ty h)
+    terms_at_values known (field_values (reverse (map (selected t) x.fields)) t (reverse args)) (length x.loci + 1 + length x.fields) (object_known known x t args kt v) (length-object_count x t args v.count) f.ty.radix.args (radix_under (length x.loci + 1 + length x.fields) f.ty h)
 
 member_known : (known : ℕ → Bool) (cs : List Clause) (ks : List (Option Constant)) (all : List Structure) → list_all structure_closed all ≡ true → (s : Sym) (t : Term) → term_known known 0 t ≡ true → (r : Radix) → radix_known known 0 r ≡ true → (o : Option Radix) → MemberGives cs ks all s t r o → (y : Radix) → o ≡ Some y → radix_known known 0 y ≡ true
 member_known known cs ks all ca s t kt r kr o (st.no_structure h) y e = absurd (none_some y e)

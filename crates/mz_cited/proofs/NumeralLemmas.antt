@@ -5,14 +5,14 @@ use Rattle.std.proofs.Math.Seq.{drop-cons, drop-length}
 use Rattle.std.proofs.lemmas.Bool.{leb-true, leb-false, le-leb, lt-leb}
 use Rattle.mz_cited.specs.Cited.{value_from, most, if_within, value_of}
 
-chosen : (n : ℕ) (b : Bool) → nat_le n most ≡ b → if_within n ≡ (if b then Some n else None)
-chosen n b e = ap (λ c. if c then Some n else None) e
+if_within-chosen : (n : ℕ) (b : Bool) → nat_le n most ≡ b → if_within n ≡ (if b then Some n else None)
+if_within-chosen n b e = ap (λ c. if c then Some n else None) e
 
 pub told_over : (n : ℕ) → most < n → None ≡ if_within n
-told_over n lt = sym (chosen n false (lt-leb n most lt))
+told_over n lt = sym (if_within-chosen n false (lt-leb n most lt))
 
 pub told_within : (n : ℕ) → n ≤ most → Some n ≡ if_within n
-told_within n le = sym (chosen n true (le-leb n most le))
+told_within n le = sym (if_within-chosen n true (le-leb n most le))
 
 pub ruleset digit_rules = (told_over, told_within)
 
@@ -29,16 +29,16 @@ none_some n e = cc
 
 -- on which side of the limit the number is
 over_from : (n : ℕ) (b : Bool) → nat_le n most ≡ b → None ≡ if_within n → most < n
-over_from n true h e = absurd (none_some n (e ∙ chosen n true h))
+over_from n true h e = absurd (none_some n (e ∙ if_within-chosen n true h))
 over_from n false h e = leb-false n most h
 
 within_from : (n m : ℕ) (b : Bool) → nat_le n most ≡ b → Some m ≡ if_within n → (m ≡ n) × (n ≤ most)
-within_from n m true h e = (some-inj m n (e ∙ chosen n true h), leb-true n most h)
-within_from n m false h e = absurd (none_some m (sym (e ∙ chosen n false h)))
+within_from n m true h e = (some-inj m n (e ∙ if_within-chosen n true h), leb-true n most h)
+within_from n m false h e = absurd (none_some m (sym (e ∙ if_within-chosen n false h)))
 
 -- one more digit
-digit_at : (ds : List ℕ) (i n d : ℕ) → i < length ds → d ≡ get_or ds i d → value_from n (drop i ds) ≡ value_from (10 * n + (d - 48)) (drop (i + 1) ds)
-digit_at ds i n d lt e =
+value_from-digit_at : (ds : List ℕ) (i n d : ℕ) → i < length ds → d ≡ get_or ds i d → value_from n (drop i ds) ≡ value_from (10 * n + (d - 48)) (drop (i + 1) ds)
+value_from-digit_at ds i n d lt e =
     let next : suc i ≡ i + 1 = omega arith in
     ap (value_from n) (drop-cons ds i d lt ∙ (ap (λ x. x ∷ drop (suc i) ds) (sym e) ∙ ap (λ k. d ∷ drop k ds) next))
 
@@ -52,7 +52,7 @@ pub told_next : (ds : List ℕ) (i n m d : ℕ) (o : Option ℕ) → i < length 
 told_next ds i n m d o lt e so h is =
     let v : ℕ = 10 * n + (d - 48) in
     let w : (m ≡ v) × (v ≤ most) = within_from v m (nat_le v most) refl (sym is ∙ h) in
-    (subst (λ k. k ≤ most) (sym w.0) w.1, ap (λ k. value_from k (drop (i + 1) ds)) w.0 ∙ (sym (digit_at ds i n d lt e) ∙ so.1))
+    (subst (λ k. k ≤ most) (sym w.0) w.1, ap (λ k. value_from k (drop (i + 1) ds)) w.0 ∙ (sym (value_from-digit_at ds i n d lt e) ∙ so.1))
 
 pub told_beyond : (ds : List ℕ) (i n : ℕ) (o : Option ℕ) → i < length ds → SoFar ds i n → o ≡ if_within (10 * n + (get_or ds i 0 - 48)) → o ≡ None → None ≡ value_of ds
 told_beyond ds i n o lt so h is =

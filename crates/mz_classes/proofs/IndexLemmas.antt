@@ -22,15 +22,15 @@ nat_eq_turned x y =
     ] in
     here (nat_eq x y) (nat_eq y x) refl refl
 
-one_or_none : (b : Bool) (xs : List ℕ) (k : ℕ) → (if b then xs ++ k ∷ [] else xs) ≡ xs ++ (if b then k ∷ [] else [])
-one_or_none true xs k = refl
-one_or_none false xs k = sym (append-nil xs)
+append-one_or_none : (b : Bool) (xs : List ℕ) (k : ℕ) → (if b then xs ++ k ∷ [] else xs) ≡ xs ++ (if b then k ∷ [] else [])
+append-one_or_none true xs k = refl
+append-one_or_none false xs k = sym (append-nil xs)
 
 -- a term
 term_listed : (f : FactTable) (places : List ℕ) (k number label : ℕ) (old new : List (List ℕ)) → number ≡ k → ((j : ℕ) → list_at new j ≡ (if nat_eq j (slice_index f.classes.items (slice_index places k)) then list_at old j ++ number ∷ [] else list_at old j)) → list_at new label ≡ list_at old label ++ (if has_label (table_view f) places label k then k ∷ [] else [])
 term_listed f places k number label old new e h =
     let c : ℕ = slice_index f.classes.items (slice_index places k) in
-    h label ∙ ap (λ (n : ℕ). if nat_eq label c then list_at old label ++ n ∷ [] else list_at old label) e ∙ ap (λ (b : Bool). if b then list_at old label ++ k ∷ [] else list_at old label) (nat_eq_turned label c) ∙ one_or_none (nat_eq c label) (list_at old label) k
+    h label ∙ ap (λ (n : ℕ). if nat_eq label c then list_at old label ++ n ∷ [] else list_at old label) e ∙ ap (λ (b : Bool). if b then list_at old label ++ k ∷ [] else list_at old label) (nat_eq_turned label c) ∙ append-one_or_none (nat_eq c label) (list_at old label) k
 
 pub told_term : {E : Type 0} (f : FactTable) (places : List ℕ) (k number label : ℕ) (old new : List (List ℕ)) (r : Result (Unit {0}) E) → number ≡ k → label ≡ slice_index f.classes.items (slice_index places k) → OnOk r ((j : ℕ) → list_at new j ≡ (if nat_eq j label then list_at old j ++ number ∷ [] else list_at old j)) → OnOk r ((j : ℕ) → list_at new j ≡ list_at old j ++ (if has_label (table_view f) places j k then k ∷ [] else []))
 told_term f places k number label old new (Ok u) e c h = λ j. term_listed f places k number j old new e (subst (λ (l : ℕ). (i : ℕ) → list_at new i ≡ (if nat_eq i l then list_at old i ++ number ∷ [] else list_at old i)) c h)
@@ -52,7 +52,7 @@ told_atom v places positive k number place a old new (Ok u) pl at e n h = record
   places = h.places;
   lists = λ s.
       let sign : has_sign v places s positive k ≡ same_sym a.sym s = ap (λ (j : ℕ). has_sym s (slice_get v.part.atoms j) && v.signed positive j) (sym pl) ∙ ap (λ (o : Option GroundAtom). has_sym s o && v.signed positive place) at ∙ and_true (same_sym a.sym s) (v.signed positive place) e in
-      h.lists s ∙ ap (λ (m : ℕ). if same_sym a.sym s then sym_list old s ++ m ∷ [] else sym_list old s) n ∙ one_or_none (same_sym a.sym s) (sym_list old s) k ∙ ap (λ (b : Bool). sym_list old s ++ (if b then k ∷ [] else [])) (sym sign);
+      h.lists s ∙ ap (λ (m : ℕ). if same_sym a.sym s then sym_list old s ++ m ∷ [] else sym_list old s) n ∙ append-one_or_none (same_sym a.sym s) (sym_list old s) k ∙ ap (λ (b : Bool). sym_list old s ++ (if b then k ∷ [] else [])) (sym sign);
 }
 told_atom v places positive k number place a old new (Err u) pl at e n h = tt
 

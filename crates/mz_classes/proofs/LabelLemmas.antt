@@ -14,7 +14,7 @@ use Rattle.mz_congruence.specs.Classes.{after_steps, root, Descends}
 use Rattle.mz_congruence.specs.Closing.{same, below, pair_below, IsWithin, State}
 use Rattle.mz_congruence.proofs.AndLemmas.{both_left, both_right}
 use Rattle.mz_congruence.proofs.ClosingLemmas.{contains_from}
-use Rattle.mz_congruence.proofs.RootLemmas.{index_set_same, index_set_other, past_end, cases_lt}
+use Rattle.mz_congruence.proofs.RootLemmas.{index_set_same, index_set_other, slice_index-past_end, cases_lt}
 use Rattle.mz_classes.specs.Labels.{Labelled, Relabelled, LeadWithinClasses}
 
 -- relabelling
@@ -140,7 +140,7 @@ pub state_from : (g : Graph) (labels c : List ℕ) → Labelled g labels → Lea
 unfolding Descends
 state_from g labels c l h = record {
   len = h.len ∙ l.len;
-  descends = λ i. elim (cases_lt i (length labels)) [ inl lt ↦ h.earlier i lt | inr ge ↦ omega (arith, past_end c i (omega (arith, ge, h.len))) ];
+  descends = λ i. elim (cases_lt i (length labels)) [ inl lt ↦ h.earlier i lt | inr ge ↦ omega (arith, slice_index-past_end c i (omega (arith, ge, h.len))) ];
   sound = record {
     each = λ i li.
         let lt : i < length labels = omega (arith, li, l.len) in

@@ -46,19 +46,19 @@ new_places x h = record {
   distinct = λ code other place e f. absurd (none_some (sym (h code) ∙ e));
 }
 
-pub new_empty : (x : SymLists) → ((s : List ℕ) → place_of x.places s ≡ None) → (s : Sym) → sym_list x s ≡ []
-new_empty x h s = ap (list_of_place x.lists) (h (sym_code 0 s))
+pub sym_list-new_empty : (x : SymLists) → ((s : List ℕ) → place_of x.places s ≡ None) → (s : Sym) → sym_list x s ≡ []
+sym_list-new_empty x h s = ap (list_of_place x.lists) (h (sym_code 0 s))
 
-pub ruleset new_rules = (new_places, new_empty)
+pub ruleset new_rules = (new_places, sym_list-new_empty)
 
 -- a list
 pub got : (x : SymLists) (s : Sym) (o : Option ℕ) (p : ℕ) (q : List ℕ) → o ≡ place_of x.places (sym_code 0 s) → o ≡ Some p → q ≡ list_at x.lists p → q ≡ sym_list x s
 got x s o p q e f h = h ∙ ap (list_of_place x.lists) (sym f ∙ e)
 
-pub got_none : (x : SymLists) (s : Sym) (o : Option ℕ) → o ≡ place_of x.places (sym_code 0 s) → o ≡ None → sym_list x s ≡ []
-got_none x s o e f = ap (list_of_place x.lists) (sym e ∙ f)
+pub sym_list-got_none : (x : SymLists) (s : Sym) (o : Option ℕ) → o ≡ place_of x.places (sym_code 0 s) → o ≡ None → sym_list x s ≡ []
+sym_list-got_none x s o e f = ap (list_of_place x.lists) (sym e ∙ f)
 
-pub ruleset get_rules = (got, got_none)
+pub ruleset get_rules = (got, sym_list-got_none)
 
 -- the place of a list
 pub list_found : (x : SymLists) (s : Sym) (place : ℕ) → HasPlaces x → place_of x.places (sym_code 0 s) ≡ Some place → HasList x s x place
@@ -67,8 +67,8 @@ list_found x s place h e = record { places = h; found = e; same = λ r. refl }
 at_end : (xss : List (List ℕ)) → list_at (xss ++ [] ∷ []) (length xss) ≡ []
 at_end xss = ap list_or_none (get_right xss ([] ∷ []) (length xss) 0 (omega arith))
 
-before_end : (xss yss : List (List ℕ)) (k : ℕ) → k < length xss → list_at (xss ++ yss) k ≡ list_at xss k
-before_end xss yss k lt = let p = get_some xss k lt in ap list_or_none (get_left xss yss k p.0 p.1 ∙ sym p.1)
+list_at-before_end : (xss yss : List (List ℕ)) (k : ℕ) → k < length xss → list_at (xss ++ yss) k ≡ list_at xss k
+list_at-before_end xss yss k lt = let p = get_some xss k lt in ap list_or_none (get_left xss yss k p.0 p.1 ∙ sym p.1)
 
 -- what a table of places has after one more code
 record Entered (x y : SymLists) (code : List ℕ) : Type 0 where
@@ -98,17 +98,17 @@ entered_places x y code h en =
           ];
     }
 
-entered_found : (x y : SymLists) (code : List ℕ) → Entered x y code → place_of y.places code ≡ Some (length x.lists)
-entered_found x y code h =
+place_of-entered_found : (x y : SymLists) (code : List ℕ) → Entered x y code → place_of y.places code ≡ Some (length x.lists)
+place_of-entered_found x y code h =
     let here : (b : Bool) → b ≡ true → (if b then Some (length x.lists) else place_of x.places code) ≡ Some (length x.lists) = elim [ true ↦ λ e. refl | false ↦ λ e. cc ] in
     h.places code ∙ here (is_list code code) (is_list_same code)
 
 old_list : (x y : SymLists) (o : Option ℕ) → y.lists ≡ x.lists ++ [] ∷ [] → ((place : ℕ) → o ≡ Some place → place < length x.lists) → list_of_place y.lists o ≡ list_of_place x.lists o
 old_list x y None e h = refl
-old_list x y (Some place) e h = ap (λ (xss : List (List ℕ)). list_at xss place) e ∙ before_end x.lists ([] ∷ []) place (h place refl)
+old_list x y (Some place) e h = ap (λ (xss : List (List ℕ)). list_at xss place) e ∙ list_at-before_end x.lists ([] ∷ []) place (h place refl)
 
-entered_same : (x y : SymLists) (code : List ℕ) → HasPlaces x → Entered x y code → (s : Sym) → sym_list y s ≡ sym_list x s
-entered_same x y code h en s =
+sym_list-entered_same : (x y : SymLists) (code : List ℕ) → HasPlaces x → Entered x y code → (s : Sym) → sym_list y s ≡ sym_list x s
+sym_list-entered_same x y code h en s =
     let c : List ℕ = sym_code 0 s in
     let here : (b : Bool) → is_list c code ≡ b → place_of y.places c ≡ (if b then Some (length x.lists) else place_of x.places c) → sym_list y s ≡ sym_list x s
     = elim [
@@ -126,22 +126,22 @@ list_made x y s code place h absent e n lists places =
     let en : Entered x y code = record { lists = lists; absent = ap (place_of x.places) e ∙ absent; places = at_length } in
     record {
       places = entered_places x y code h en;
-      found = ap (place_of y.places) (sym e) ∙ entered_found x y code en ∙ ap Some (sym n);
-      same = entered_same x y code h en;
+      found = ap (place_of y.places) (sym e) ∙ place_of-entered_found x y code en ∙ ap Some (sym n);
+      same = sym_list-entered_same x y code h en;
     }
 
 pub ruleset place_rules = (list_found)
 
 -- a number more
-one_more : (x y : SymLists) (s r : Sym) (place number : ℕ) (o : Option ℕ) → HasPlaces x → place_of x.places (sym_code 0 s) ≡ Some place → o ≡ place_of x.places (sym_code 0 r) → ((k : ℕ) → list_at y.lists k ≡ (if nat_eq k place then list_at x.lists k ++ number ∷ [] else list_at x.lists k)) → list_of_place y.lists o ≡ (if same_sym s r then list_of_place x.lists o ++ number ∷ [] else list_of_place x.lists o)
-one_more x y s r place number None h e q lists =
+list_of_place-one_more : (x y : SymLists) (s r : Sym) (place number : ℕ) (o : Option ℕ) → HasPlaces x → place_of x.places (sym_code 0 s) ≡ Some place → o ≡ place_of x.places (sym_code 0 r) → ((k : ℕ) → list_at y.lists k ≡ (if nat_eq k place then list_at x.lists k ++ number ∷ [] else list_at x.lists k)) → list_of_place y.lists o ≡ (if same_sym s r then list_of_place x.lists o ++ number ∷ [] else list_of_place x.lists o)
+list_of_place-one_more x y s r place number None h e q lists =
     let here : (b : Bool) → same_sym s r ≡ b → [] ≡ (if b then [] ++ number ∷ [] else [])
     = elim [
       | true ↦ λ t. absurd (none_some (q ∙ ap (λ (z : Sym). place_of x.places (sym_code 0 z)) (sym (same_sym_true s r t)) ∙ e))
       | false ↦ λ t. refl
     ] in
     here (same_sym s r) refl
-one_more x y s r place number (Some k) h e q lists =
+list_of_place-one_more x y s r place number (Some k) h e q lists =
     let here : (b c : Bool) → nat_eq k place ≡ b → same_sym s r ≡ c → (if b then list_at x.lists k ++ number ∷ [] else list_at x.lists k) ≡ (if c then list_at x.lists k ++ number ∷ [] else list_at x.lists k)
     = elim [
       | true ↦ elim [
@@ -169,7 +169,7 @@ pub list_longer : (w x y : SymLists) (s : Sym) (place number : ℕ) → HasList 
 list_longer w x y s place number h e n lists = record {
   places = longer_places x y h.places e n;
   lists = λ r.
-      let here : sym_list y r ≡ (if same_sym s r then sym_list x r ++ number ∷ [] else sym_list x r) = ap (λ (z : Signatures). list_of_place y.lists (place_of z (sym_code 0 r))) e ∙ one_more x y s r place number (place_of x.places (sym_code 0 r)) h.places h.found refl lists in
+      let here : sym_list y r ≡ (if same_sym s r then sym_list x r ++ number ∷ [] else sym_list x r) = ap (λ (z : Signatures). list_of_place y.lists (place_of z (sym_code 0 r))) e ∙ list_of_place-one_more x y s r place number (place_of x.places (sym_code 0 r)) h.places h.found refl lists in
       subst (λ (ns : List ℕ). sym_list y r ≡ (if same_sym s r then ns ++ number ∷ [] else ns)) (h.same r) here;
 }
 

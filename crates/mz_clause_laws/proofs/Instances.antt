@@ -46,16 +46,16 @@ formulas_past by ts [] le = refl
 formulas_past by ts (f ∷ fs) le = λ i. formula_past by ts f le i ∷ formulas_past by ts fs le i
 
 -- a guard under more variables
-args_once : (by : ℕ) (ts : List Term) → map (shift 0 by) (map (shift 0 1) ts) ≡ map (shift 0 (1 + by)) ts
-args_once by [] = refl
-args_once by (t ∷ ts) = λ i. shift-shift 0 1 by t i ∷ args_once by ts i
+map-args_once : (by : ℕ) (ts : List Term) → map (shift 0 by) (map (shift 0 1) ts) ≡ map (shift 0 (1 + by)) ts
+map-args_once by [] = refl
+map-args_once by (t ∷ ts) = λ i. shift-shift 0 1 by t i ∷ map-args_once by ts i
 
 adjectives_once : (by : ℕ) (xs : List Adjective) → map (λ (a : Adjective). record { positive = a.positive; sym = a.sym; args = map (shift 0 by) a.args }) (map (shift_adjective 0 1) xs) ≡ map (shift_adjective 0 (1 + by)) xs
 adjectives_once by [] = refl
-adjectives_once by (a ∷ xs) = λ i. record { positive = a.positive; sym = a.sym; args = args_once by a.args i } ∷ adjectives_once by xs i
+adjectives_once by (a ∷ xs) = λ i. record { positive = a.positive; sym = a.sym; args = map-args_once by a.args i } ∷ adjectives_once by xs i
 
 type_once : (by : ℕ) (ty : SoftType) → type_with (shift 0 by) (shift_type 0 1 ty) ≡ shift_type 0 (1 + by) ty
-type_once by ty i = record { adjectives = adjectives_once by ty.adjectives i; radix = record { sym = ty.radix.sym; args = args_once by ty.radix.args i } }
+type_once by ty i = record { adjectives = adjectives_once by ty.adjectives i; radix = record { sym = ty.radix.sym; args = map-args_once by ty.radix.args i } }
 
 pub guard_raised : (by : ℕ) (ty : SoftType) → map (shift_formula 0 by) (guard_inside ty) ≡ guard (shift_type 0 (1 + by) ty) (Bound by)
 guard_raised by ty =

@@ -55,7 +55,7 @@ use Rattle.mz_clause_laws.proofs.Instances.{formulas_at, along_first}
 use Rattle.mz_clause_laws.proofs.Implications.{premises_at}
 use Rattle.mz_clause_laws.proofs.Literals.{implication_out, where_literals_out}
 use Rattle.mz_clause_laws.proofs.RowProofs.{follow_append, group_follows, group_if_any_follows, premises, under_guards, further}
-use Rattle.mz_clause_laws.proofs.Valuations.{choose, choose-same, choose-last, term_at_loci, formula_at_loci, literal_at, literal_within, term_within, type_past, value_closed}
+use Rattle.mz_clause_laws.proofs.Valuations.{choose, value_at-choose-same, choose-last, term_at_loci, formula_at_loci, literal_at, literal_within, term_within, type_past, value_closed}
 use Rattle.mz_clause_laws.proofs.LocusLaws.{one_locus, two_loci}
 use Rattle.mz_clause_laws.proofs.SameProofs.{same_type-true}
 
@@ -97,7 +97,7 @@ related_at n by us ts r t u a b h le rest p q =
 
 -- the predicate itself, and with its loci exchanged
 itself_at : (ts : List term.Term) (r : Relation) → substitute_formula 0 (value_at ts) (literal_formula r.literal) ≡ relation_of ts r (value_at ts r.left) (value_at ts r.right)
-itself_at ts r i = substitute_formula 0 (λ k. choose-same ts r.left r.right k i) (literal_formula r.literal)
+itself_at ts r i = substitute_formula 0 (λ k. value_at-choose-same ts r.left r.right k i) (literal_formula r.literal)
 
 exchanged_at : (loci : List SoftType) (ts : List term.Term) (r : Relation) → literal_under (length loci) r.literal ≡ true → substitute_formula 0 (value_at ts) (literal_formula (exchanged_relation loci r)) ≡ relation_of ts r (value_at ts r.right) (value_at ts r.left)
 exchanged_at loci ts r h =
@@ -309,8 +309,8 @@ operation_has n o h =
     let inner : (term_under n o.term ≡ true) × (nat_lt o.left n ≡ true) = and_parts (term_under n o.term) (nat_lt o.left n) outer.0 in
     record { term = inner.0; left = ltb-true o.left n inner.1; right = ltb-true o.right n outer.1 }
 
-operation_itself : (ts : List term.Term) (o : Operation) → substitute 0 (value_at ts) o.term ≡ operation_of ts o (value_at ts o.left) (value_at ts o.right)
-operation_itself ts o i = substitute 0 (λ k. choose-same ts o.left o.right k i) o.term
+substitute-operation_itself : (ts : List term.Term) (o : Operation) → substitute 0 (value_at ts) o.term ≡ operation_of ts o (value_at ts o.left) (value_at ts o.right)
+substitute-operation_itself ts o i = substitute 0 (λ k. value_at-choose-same ts o.left o.right k i) o.term
 
 operation_exchanged : (loci : List SoftType) (ts : List term.Term) (o : Operation) → IsOperation (length loci) o → substitute 0 (value_at ts) (exchanged_operation loci o) ≡ operation_of ts o (value_at ts o.right) (value_at ts o.left)
 operation_exchanged loci ts o has =
@@ -332,7 +332,7 @@ commutativity_law loci o has ax known d =
     let both : Derives ax g (formula.Eq (substitute 0 (value_at us) forth) (substitute 0 (value_at us) back)) = stated_twice ax known ts loci [] o.left o.right o.left o.right (Eq forth back) h count has.left has.right refl refl d in
     let first_is : substitute 0 (value_at us) forth ≡ operation_of ts o wl wr = term_at_loci 2 o.left o.right (length loci) us ts (Bound 1) (Bound 0) wl wr o.term (term_within (length loci) o.term has.term) some refl (at_second wr wl ts) (at_first wr (wl ∷ ts)) in
     let second_is : substitute 0 (value_at us) back ≡ operation_of ts o wr wl = term_at_loci 2 o.left o.right (length loci) us ts (Bound 0) (Bound 1) wr wl o.term (term_within (length loci) o.term has.term) some refl (at_first wr (wl ∷ ts)) (at_second wr wl ts) in
-    subst (Derives ax g) (λ i. formula.Eq ((first_is ∙ sym (operation_itself ts o)) i) ((second_is ∙ sym (operation_exchanged loci ts o has)) i)) both)
+    subst (Derives ax g) (λ i. formula.Eq ((first_is ∙ sym (substitute-operation_itself ts o)) i) ((second_is ∙ sym (operation_exchanged loci ts o has)) i)) both)
 
 operation_open : (n : ℕ) (ts : List term.Term) (o : Operation) (a w : term.Term) → term_under n o.term ≡ true → length ts ≡ n → list_all closed ts ≡ true → closed a ≡ true → substitute 0 (value_at (w ∷ [])) (operation_of ts o a (Bound 0)) ≡ operation_of ts o a w
 operation_open n ts o a w h count all ca =
@@ -359,7 +359,7 @@ idempotence_law loci o has ax known d =
     let body_is : (w : term.Term) → body_at body w ≡ formula.Eq (operation_of ts o wl w) wl = λ w i. formula.Eq (operation_open (length loci) ts o wl w has.term count h cl i) (substitute-closed 0 (value_at (w ∷ [])) wl cl i) in
     let same : Derives ax g (formula.Eq wl wr) = equal_values ax g ts o.left o.right (further ax known ts (loci_guards 0 loci) (literal.Eq true (Bound o.left) (Bound o.right) ∷ [])).0 in
     let start : Derives ax g (body_at body wl) = subst (Derives ax g) ((λ i. formula.Eq (once_is i) (at_first wl ts i)) ∙ sym (body_is wl)) stands in
-    subst (Derives ax g) (body_is wr ∙ sym (λ i. formula.Eq (operation_itself ts o i) (substitute-value_at ts o.left i))) (formula_congruence ax g wl wr body cl cr same start))
+    subst (Derives ax g) (body_is wr ∙ sym (λ i. formula.Eq (substitute-operation_itself ts o i) (substitute-value_at ts o.left i))) (formula_congruence ax g wl wr body cl cr same start))
 
 -- a functor of one visible locus
 record IsUnary (n : ℕ) (o : UnaryOperation) : Type 0 where
@@ -375,16 +375,16 @@ unary_has n o h =
 abbrev unary_of : List term.Term → UnaryOperation → term.Term → term.Term
 unary_of ts o a = substitute 0 (choose ts o.place a o.place a) o.term
 
-unary_itself : (ts : List term.Term) (o : UnaryOperation) → substitute 0 (value_at ts) o.term ≡ unary_of ts o (value_at ts o.place)
-unary_itself ts o i = substitute 0 (λ k. choose-same ts o.place o.place k i) o.term
+substitute-unary_itself : (ts : List term.Term) (o : UnaryOperation) → substitute 0 (value_at ts) o.term ≡ unary_of ts o (value_at ts o.place)
+substitute-unary_itself ts o i = substitute 0 (λ k. value_at-choose-same ts o.place o.place k i) o.term
 
 unary_at : (loci : List SoftType) (ts : List term.Term) (w : term.Term) (o : UnaryOperation) (t a : term.Term) → IsUnary (length loci) o → substitute 0 (value_at (w ∷ ts)) t ≡ a → substitute 0 (value_at (w ∷ ts)) (applied_to (length loci) o t) ≡ unary_of ts o a
 unary_at loci ts w o t a has p =
     let some : 1 ≤ length (w ∷ ts) = omega arith in
     term_at_loci 1 o.place o.place (length loci) (w ∷ ts) ts t t a a o.term (term_within (length loci) o.term has.term) some refl p p
 
-unary_here : (loci : List SoftType) (ts : List term.Term) (o : UnaryOperation) (t a : term.Term) → IsUnary (length loci) o → substitute 0 (value_at ts) t ≡ a → substitute 0 (value_at ts) (operation_at loci o t) ≡ unary_of ts o a
-unary_here loci ts o t a has p =
+substitute-unary_here : (loci : List SoftType) (ts : List term.Term) (o : UnaryOperation) (t a : term.Term) → IsUnary (length loci) o → substitute 0 (value_at ts) t ≡ a → substitute 0 (value_at ts) (operation_at loci o t) ≡ unary_of ts o a
+substitute-unary_here loci ts o t a has p =
     let none : 0 ≤ length ts = omega arith in
     term_at_loci 0 o.place o.place (length loci) ts ts t t a a o.term (term_within (length loci) o.term has.term) none refl p p
 
@@ -404,9 +404,9 @@ iterated_law loci o last outer has ends ax known d =
     let inner : term.Term = applied_to (length loci) o (Bound 0) in
     let twice : term.Term = applied_to (length loci) o inner in
     let ls : List Literal = guard_literals (shift_type 0 1 (locus_type loci o.place)) inner in
-    let inner_is : substitute 0 (value_at us) inner ≡ substitute 0 (value_at ts) o.term = unary_at loci ts w o (Bound 0) w has (at_first w ts) ∙ sym (unary_itself ts o) in
+    let inner_is : substitute 0 (value_at us) inner ≡ substitute 0 (value_at ts) o.term = unary_at loci ts w o (Bound 0) w has (at_first w ts) ∙ sym (substitute-unary_itself ts o) in
     let twice_is : substitute 0 (value_at us) twice ≡ substitute 0 (value_at ts) (operation_at loci o o.term) =
-    unary_at loci ts w o inner (substitute 0 (value_at ts) o.term) has inner_is ∙ sym (unary_here loci ts o o.term (substitute 0 (value_at ts) o.term) has refl) in
+    unary_at loci ts w o inner (substitute 0 (value_at ts) o.term) has inner_is ∙ sym (substitute-unary_here loci ts o o.term (substitute 0 (value_at ts) o.term) has refl) in
     let given : Along ax g (formulas_at us ls) = subst (Along ax g) (inner_guards loci ts w (locus_type loci o.place) inner o.term inner_is) (further ax known ts (loci_guards 0 loci) (guard_literals (locus_type loci o.place) o.term)) in
     let whole : Derives ax g (substitute_formula 0 (value_at us) (erase (where_all (map literal_statement ls) (Eq twice last)))) = stated_once ax known ts loci (guard_literals (locus_type loci o.place) o.term) o.place (where_all (inner_guard loci o) (Eq twice last)) h count has.place d in
     let equal : Derives ax g (formula.Eq (substitute 0 (value_at us) twice) (substitute 0 (value_at us) last)) = where_literals_out ax g us ls (Eq twice last) given whole in
@@ -419,7 +419,7 @@ involutiveness_law loci o has =
 projectivity_law : (loci : List SoftType) (o : UnaryOperation) → IsUnary (length loci) o → Follow (iterated_groups loci o o.term) loci (projectivity loci o)
 projectivity_law loci o has =
     iterated_law loci o (applied_to (length loci) o (Bound 0)) o.term has
-    (λ ts h count. unary_at loci ts (value_at ts o.place) o (Bound 0) (value_at ts o.place) has (at_first (value_at ts o.place) ts) ∙ sym (unary_itself ts o))
+    (λ ts h count. unary_at loci ts (value_at ts o.place) o (Bound 0) (value_at ts o.place) has (at_first (value_at ts o.place) ts) ∙ sym (substitute-unary_itself ts o))
 
 -- both clauses of a symmetric predicate
 pub groups_follow_both : (ax known : List Formula) (these others : List ClauseGroup) → AllFollow ax known (map clause_formula (groups_clauses these)) → AllFollow ax known (map clause_formula (groups_clauses others)) → AllFollow ax known (map clause_formula (groups_clauses (these ++ others)))

@@ -24,8 +24,8 @@ use Rattle.mz_clause_laws.proofs.Instances.{value_at-drop, closed_at}
 lt_or_eq : (k n : ℕ) → k < suc n → (k < n) ⊎ (k ≡ n)
 lt_or_eq k n lt = elim (cases_lt k n) [ inl less ↦ inl less | inr le ↦ inr (omega arith) ]
 
-next : (k : ℕ) → k + 1 ≡ suc k
-next k = omega arith
+sum-next : (k : ℕ) → k + 1 ≡ suc k
+sum-next k = omega arith
 
 -- indices of what has no constant
 mutual
@@ -72,8 +72,8 @@ chosen false true a b c d p q r = q refl
 chosen false false a b c d p q r = r
 
 -- the values themselves
-pub choose-same : (ts : List Term) (left right k : ℕ) → value_at ts k ≡ choose ts left (value_at ts left) right (value_at ts right) k
-choose-same ts left right k =
+pub value_at-choose-same : (ts : List Term) (left right k : ℕ) → value_at ts k ≡ choose ts left (value_at ts left) right (value_at ts right) k
+value_at-choose-same ts left right k =
     chosen (nat_eq k left) (nat_eq k right) (value_at ts left) (value_at ts right) (value_at ts k) (value_at ts k)
     (λ e. ap (value_at ts) (eqb-true k left e)) (λ e. ap (value_at ts) (eqb-true k right e)) refl
 
@@ -105,14 +105,14 @@ value_at-locus_values by left right count t u k lt =
     value_at-within (locus_values by left t right u count) k (Const 0) within ∙ get_or-locus_values by left right count t u k (Const 0) lt
 
 -- the value of a locus at terms
-choice_at : (v : ℕ → Term) (x y : Bool) (t u w a b c : Term) → substitute 0 v t ≡ a → substitute 0 v u ≡ b → substitute 0 v w ≡ c → substitute 0 v (if x then t else (if y then u else w)) ≡ (if x then a else (if y then b else c))
-choice_at v true y t u w a b c p q r = p
-choice_at v false true t u w a b c p q r = q
-choice_at v false false t u w a b c p q r = r
+substitute-choice_at : (v : ℕ → Term) (x y : Bool) (t u w a b c : Term) → substitute 0 v t ≡ a → substitute 0 v u ≡ b → substitute 0 v w ≡ c → substitute 0 v (if x then t else (if y then u else w)) ≡ (if x then a else (if y then b else c))
+substitute-choice_at v true y t u w a b c p q r = p
+substitute-choice_at v false true t u w a b c p q r = q
+substitute-choice_at v false false t u w a b c p q r = r
 
 pub locus_value_at : (by left right : ℕ) (us ts : List Term) (t u a b : Term) (k : ℕ) → by ≤ length us → drop by us ≡ ts → substitute 0 (value_at us) t ≡ a → substitute 0 (value_at us) u ≡ b → substitute 0 (value_at us) (locus_value by left t right u k) ≡ choose ts left a right b k
 locus_value_at by left right us ts t u a b k le rest p q =
-    choice_at (value_at us) (nat_eq k left) (nat_eq k right) t u (Bound (k + by)) a b (value_at ts k) p q
+    substitute-choice_at (value_at us) (nat_eq k left) (nat_eq k right) t u (Bound (k + by)) a b (value_at ts k) p q
     (substitute-value_at us (k + by) ∙ (value_at-drop by us k le ∙ ap (λ vs. value_at vs k) rest))
 
 -- a term with values for the loci, at terms
@@ -136,17 +136,17 @@ literal_at v (literal.Eq true t u) = refl
 literal_at v (literal.Eq false t u) = refl
 
 -- types under a further variable
-args_past : (w : Term) (ts us : List Term) → map (substitute 0 (value_at (w ∷ ts))) (map (shift 0 1) us) ≡ map (substitute 0 (value_at ts)) us
-args_past w ts [] = refl
-args_past w ts (u ∷ us) =
-    λ i. (substitute-unused 0 1 (value_at (w ∷ ts)) u ∙ (λ j. substitute 0 (λ k. value_at (w ∷ ts) (next k j)) u)) i ∷ args_past w ts us i
+map-args_past : (w : Term) (ts us : List Term) → map (substitute 0 (value_at (w ∷ ts))) (map (shift 0 1) us) ≡ map (substitute 0 (value_at ts)) us
+map-args_past w ts [] = refl
+map-args_past w ts (u ∷ us) =
+    λ i. (substitute-unused 0 1 (value_at (w ∷ ts)) u ∙ (λ j. substitute 0 (λ k. value_at (w ∷ ts) (sum-next k j)) u)) i ∷ map-args_past w ts us i
 
 adjectives_past : (w : Term) (ts : List Term) (xs : List Adjective) → map (substitute_adjective 0 (value_at (w ∷ ts))) (map (shift_adjective 0 1) xs) ≡ map (substitute_adjective 0 (value_at ts)) xs
 adjectives_past w ts [] = refl
-adjectives_past w ts (a ∷ xs) = λ i. record { positive = a.positive; sym = a.sym; args = args_past w ts a.args i } ∷ adjectives_past w ts xs i
+adjectives_past w ts (a ∷ xs) = λ i. record { positive = a.positive; sym = a.sym; args = map-args_past w ts a.args i } ∷ adjectives_past w ts xs i
 
 pub type_past : (w : Term) (ts : List Term) (ty : SoftType) → substitute_type 0 (value_at (w ∷ ts)) (shift_type 0 1 ty) ≡ substitute_type 0 (value_at ts) ty
-type_past w ts ty i = record { adjectives = adjectives_past w ts ty.adjectives i; radix = record { sym = ty.radix.sym; args = args_past w ts ty.radix.args i } }
+type_past w ts ty i = record { adjectives = adjectives_past w ts ty.adjectives i; radix = record { sym = ty.radix.sym; args = map-args_past w ts ty.radix.args i } }
 
 -- closed values
 pub value_closed : (ts : List Term) (k : ℕ) → list_all closed ts ≡ true → k < length ts → closed (value_at ts k) ≡ true
@@ -155,5 +155,5 @@ value_closed ts k h lt = subst (λ t. closed t ≡ true) (sym (value_at-within t
 -- the valuation with the innermost variable for the second of the loci, at a term for this
 pub choose-last : (ts : List Term) (left right : ℕ) (a w : Term) (k : ℕ) → list_all closed ts ≡ true → closed a ≡ true → k < length ts → substitute 0 (value_at (w ∷ [])) (choose ts left a right (Bound 0) k) ≡ choose ts left a right w k
 choose-last ts left right a w k h ca lt =
-    choice_at (value_at (w ∷ [])) (nat_eq k left) (nat_eq k right) a (Bound 0) (value_at ts k) a w (value_at ts k)
+    substitute-choice_at (value_at (w ∷ [])) (nat_eq k left) (nat_eq k right) a (Bound 0) (value_at ts k) a w (value_at ts k)
     (substitute-closed 0 (value_at (w ∷ [])) a ca) (substitute-value_at (w ∷ []) 0) (substitute-closed 0 (value_at (w ∷ [])) (value_at ts k) (value_closed ts k h lt))

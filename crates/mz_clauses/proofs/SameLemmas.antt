@@ -1,26 +1,26 @@
--- A turn of the comparison of adjectives.
+-- A same_adjectives-turn of the comparison of adjectives.
 use Rattle.std.proofs.Common.{◌≡◌, ℕ, arith, suc, ◌+◌, ◌<◌, ◌≤◌, List, [], ◌∷◌, length, get_or, drop, refl, sym, ap, ◌∙◌, drop-cons, add-one, Bool, true, false}
 use Rattle.std.specs.Prelude.{◌&&◌}
 use Rattle.std.proofs.lemmas.List.{drop_all, length-drop}
 use Rattle.mz_core.specs.declared.adjective.Adjective.{Adjective}
 use Rattle.mz_clauses.specs.SameTypes.{same_adjective, same_adjectives}
 
-split : (xs : List Adjective) (i : ℕ) (x : Adjective) → i < length xs → x ≡ get_or xs i x → drop i xs ≡ x ∷ drop (i + 1) xs
-split xs i x lt at = rw (add-one, drop-cons xs i x) (ap (λ y. y ∷ drop (suc i) xs) (sym at))
+drop-split : (xs : List Adjective) (i : ℕ) (x : Adjective) → i < length xs → x ≡ get_or xs i x → drop i xs ≡ x ∷ drop (i + 1) xs
+drop-split xs i x lt at = rw (add-one, drop-cons xs i x) (ap (λ y. y ∷ drop (suc i) xs) (sym at))
 
-turn : (xs ys : List Adjective) (i : ℕ) (x y : Adjective) → i < length xs → i < length ys → x ≡ get_or xs i x → y ≡ get_or ys i y → same_adjectives (drop i xs) (drop i ys) ≡ (same_adjective x y && same_adjectives (drop (i + 1) xs) (drop (i + 1) ys))
-turn xs ys i x y ltx lty atx aty =
-    let ex : drop i xs ≡ x ∷ drop (i + 1) xs = split xs i x ltx atx in
-    let ey : drop i ys ≡ y ∷ drop (i + 1) ys = split ys i y lty aty in
+same_adjectives-turn : (xs ys : List Adjective) (i : ℕ) (x y : Adjective) → i < length xs → i < length ys → x ≡ get_or xs i x → y ≡ get_or ys i y → same_adjectives (drop i xs) (drop i ys) ≡ (same_adjective x y && same_adjectives (drop (i + 1) xs) (drop (i + 1) ys))
+same_adjectives-turn xs ys i x y ltx lty atx aty =
+    let ex : drop i xs ≡ x ∷ drop (i + 1) xs = drop-split xs i x ltx atx in
+    let ey : drop i ys ≡ y ∷ drop (i + 1) ys = drop-split ys i y lty aty in
     λ j. same_adjectives (ex j) (ey j)
 
 pub told_same : (xs ys : List Adjective) (i : ℕ) (x y : Adjective) → i < length xs → i < length ys → x ≡ get_or xs i x → y ≡ get_or ys i y → same_adjective x y ≡ true → same_adjectives (drop i xs) (drop i ys) ≡ same_adjectives xs ys → same_adjectives (drop (i + 1) xs) (drop (i + 1) ys) ≡ same_adjectives xs ys
 told_same xs ys i x y ltx lty atx aty h goes =
-    ap (λ b. b && same_adjectives (drop (i + 1) xs) (drop (i + 1) ys)) (sym h) ∙ (sym (turn xs ys i x y ltx lty atx aty) ∙ goes)
+    ap (λ b. b && same_adjectives (drop (i + 1) xs) (drop (i + 1) ys)) (sym h) ∙ (sym (same_adjectives-turn xs ys i x y ltx lty atx aty) ∙ goes)
 
 pub told_other : (xs ys : List Adjective) (i : ℕ) (x y : Adjective) → i < length xs → i < length ys → x ≡ get_or xs i x → y ≡ get_or ys i y → same_adjective x y ≡ false → same_adjectives (drop i xs) (drop i ys) ≡ same_adjectives xs ys → false ≡ same_adjectives xs ys
 told_other xs ys i x y ltx lty atx aty h goes =
-    ap (λ b. b && same_adjectives (drop (i + 1) xs) (drop (i + 1) ys)) (sym h) ∙ (sym (turn xs ys i x y ltx lty atx aty) ∙ goes)
+    ap (λ b. b && same_adjectives (drop (i + 1) xs) (drop (i + 1) ys)) (sym h) ∙ (sym (same_adjectives-turn xs ys i x y ltx lty atx aty) ∙ goes)
 
 longer : (zs : List Adjective) → 0 < length zs → same_adjectives zs [] ≡ false
 longer [] h = absurd (omega arith)

@@ -11,8 +11,8 @@ use Rattle.mz_core.specs.declared.structure.Field.{Field}
 use Rattle.mz_items.specs.StructureRows.{selected}
 use Rattle.mz_clauses.specs.StructureClauses.{given_guards, selection_equations}
 
-split : {X : Type 0} (xs : List X) (i : ℕ) (x : X) → i < length xs → x ≡ get_or xs i x → drop i xs ≡ x ∷ drop (i + 1) xs
-split xs i x lt at = rw (add-one, drop-cons xs i x) (ap (λ y. y ∷ drop (suc i) xs) (sym at))
+drop-split : {X : Type 0} (xs : List X) (i : ℕ) (x : X) → i < length xs → x ≡ get_or xs i x → drop i xs ≡ x ∷ drop (i + 1) xs
+drop-split xs i x lt at = rw (add-one, drop-cons xs i x) (ap (λ y. y ∷ drop (suc i) xs) (sym at))
 
 -- guards of given objects
 given_nothing : (values : List Term) (fs : List Field) → given_guards values fs [] ≡ []
@@ -27,8 +27,8 @@ given_all values fs zs i past = ap (λ gs. given_guards values gs (drop i zs)) (
 
 pub told_given : (values : List Term) (fs : List Field) (zs : List Term) (i : ℕ) (f : Field) (z : Term) (out ls g : List Literal) → i < length fs → i < length zs → f ≡ get_or fs i f → z ≡ get_or zs i z → ls ≡ guard_literals (substitute_type 0 (value_at values) f.ty) z → out ++ given_guards values (drop i fs) (drop i zs) ≡ g → (out ++ ls) ++ given_guards values (drop (i + 1) fs) (drop (i + 1) zs) ≡ g
 told_given values fs zs i f z out ls g ltf ltz atf atz is goes =
-    let ef : drop i fs ≡ f ∷ drop (i + 1) fs = split fs i f ltf atf in
-    let ez : drop i zs ≡ z ∷ drop (i + 1) zs = split zs i z ltz atz in
+    let ef : drop i fs ≡ f ∷ drop (i + 1) fs = drop-split fs i f ltf atf in
+    let ez : drop i zs ≡ z ∷ drop (i + 1) zs = drop-split zs i z ltz atz in
     append_assoc out ls (given_guards values (drop (i + 1) fs) (drop (i + 1) zs)) ∙ (ap (λ ks. out ++ (ks ++ given_guards values (drop (i + 1) fs) (drop (i + 1) zs))) is ∙ (sym (λ j. out ++ given_guards values (ef j) (ez j)) ∙ goes))
 
 pub told_no_more : (values : List Term) (fs : List Field) (zs : List Term) (i : ℕ) (out g : List Literal) → length zs ≤ i → out ++ given_guards values (drop i fs) (drop i zs) ≡ g → out ≡ g
@@ -52,8 +52,8 @@ selection_all a fs zs i past = ap (λ gs. selection_equations a gs (drop i zs)) 
 
 pub told_selection : (a : Term) (fs : List Field) (zs : List Term) (i : ℕ) (f : Field) (z : Term) (out : List Literal) (l : Literal) (g : List Literal) → i < length fs → i < length zs → f ≡ get_or fs i f → z ≡ get_or zs i z → l ≡ Eq true (selected a f) z → out ++ selection_equations a (drop i fs) (drop i zs) ≡ g → (out ++ l ∷ []) ++ selection_equations a (drop (i + 1) fs) (drop (i + 1) zs) ≡ g
 told_selection a fs zs i f z out l g ltf ltz atf atz is goes =
-    let ef : drop i fs ≡ f ∷ drop (i + 1) fs = split fs i f ltf atf in
-    let ez : drop i zs ≡ z ∷ drop (i + 1) zs = split zs i z ltz atz in
+    let ef : drop i fs ≡ f ∷ drop (i + 1) fs = drop-split fs i f ltf atf in
+    let ez : drop i zs ≡ z ∷ drop (i + 1) zs = drop-split zs i z ltz atz in
     append_assoc out (l ∷ []) (selection_equations a (drop (i + 1) fs) (drop (i + 1) zs)) ∙ (ap (λ k. out ++ (k ∷ selection_equations a (drop (i + 1) fs) (drop (i + 1) zs))) is ∙ (sym (λ j. out ++ selection_equations a (ef j) (ez j)) ∙ goes))
 
 pub told_no_more_selections : (a : Term) (fs : List Field) (zs : List Term) (i : ℕ) (out g : List Literal) → length zs ≤ i → out ++ selection_equations a (drop i fs) (drop i zs) ≡ g → out ≡ g

@@ -16,11 +16,11 @@ pub told_found : (n k : ℕ) (ls : List Literal) (l : Literal) (r : Trigger) →
 told_found n k ls l r lt at found goes =
     ap (λ o. option_or o (first_trigger n (drop (k + 1) ls))) found ∙ (sym (trigger_of n k ls l lt at) ∙ goes)
 
-pub told_missed : (n k : ℕ) (ls : List Literal) (l : Literal) → k < length ls → l ≡ get_or ls k l → None ≡ full_trigger n l → first_trigger n (drop k ls) ≡ first_trigger n ls → first_trigger n (drop (k + 1) ls) ≡ first_trigger n ls
-told_missed n k ls l lt at missed goes =
+pub first_trigger-told_missed : (n k : ℕ) (ls : List Literal) (l : Literal) → k < length ls → l ≡ get_or ls k l → None ≡ full_trigger n l → first_trigger n (drop k ls) ≡ first_trigger n ls → first_trigger n (drop (k + 1) ls) ≡ first_trigger n ls
+first_trigger-told_missed n k ls l lt at missed goes =
     ap (λ o. option_or o (first_trigger n (drop (k + 1) ls))) missed ∙ (sym (trigger_of n k ls l lt at) ∙ goes)
 
 pub told_none : (n k : ℕ) (ls : List Literal) → length ls ≤ k → first_trigger n (drop k ls) ≡ first_trigger n ls → None ≡ first_trigger n ls
 told_none n k ls past goes = ap (first_trigger n) (sym (drop_all k ls past)) ∙ goes
 
-pub ruleset trigger_rules = (told_found, told_missed, told_none)
+pub ruleset trigger_rules = (told_found, first_trigger-told_missed, told_none)

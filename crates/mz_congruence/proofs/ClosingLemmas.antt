@@ -16,7 +16,7 @@ use Rattle.mz_congruence.specs.Classes.{root, Descends, Flat, total, Progress, S
 use Rattle.mz_congruence.specs.Signature.{head_code, signature, place_of, is_list}
 use Rattle.mz_congruence.specs.Closing.{same, below, pair_below, IsWithin, Exact, State, Entry, Entries, Listed, ListedUnless, ListedBelow, Grows, Entered, Clean, CleanUnless, IsMet, MetUnless, MetBelow, RuleApplied, DoneUnless}
 use Rattle.mz_congruence.proofs.AndLemmas.{both_left, both_right}
-use Rattle.mz_congruence.proofs.RootLemmas.{root_own, root_fixed, root_le, root_flat, descends_set, total-set, replaced, replaced_same, replaced_other, root_link, past_end, cases_lt}
+use Rattle.mz_congruence.proofs.RootLemmas.{root_own, root_fixed, root_le, root_flat, descends_set, total-set, replaced, replaced_same, replaced_other, root_link, slice_index-past_end, cases_lt}
 use Rattle.mz_congruence.proofs.SignatureLemmas.{signature_parts, is_list_true, is_list_same}
 
 pub sound_equal : (g : Graph) (c : List ℕ) → Sound g c → (i j : ℕ) → i < length g.nodes → j < length g.nodes → root c i ≡ root c j → Equal g i j
@@ -136,8 +136,8 @@ new_grows t u i s pn h q j e =
     ] in
     here (is_list q s) refl (h q)
 
-new_at : (t u : Signatures) (i : ℕ) (s : List ℕ) → ((q : List ℕ) → place_of u q ≡ (if is_list q s then Some i else place_of t q)) → place_of u s ≡ Some i
-new_at t u i s h =
+place_of-new_at : (t u : Signatures) (i : ℕ) (s : List ℕ) → ((q : List ℕ) → place_of u q ≡ (if is_list q s then Some i else place_of t q)) → place_of u s ≡ Some i
+place_of-new_at t u i s h =
     let here : (b : Bool) → b ≡ true → place_of u s ≡ (if b then Some i else place_of t s) → place_of u s ≡ Some i = elim [ true ↦ λ x y. y | false ↦ λ x y. cc ] in
     here (is_list s s) (is_list_same s) (h s)
 
@@ -148,7 +148,7 @@ told_new g c t u i a s w st en at es pn h =
       progress = refl;
       entries = new_entries g c t u i a s w st en at es h;
       grows = new_grows t u i s pn h;
-      listed = λ b bt. subst (λ (y : Node). Listed g c u i y) (node_same (sym at ∙ bt)) (record { place = i; at = ap (place_of u) (sym es) ∙ new_at t u i s h; one = refl });
+      listed = λ b bt. subst (λ (y : Node). Listed g c u i y) (node_same (sym at ∙ bt)) (record { place = i; at = ap (place_of u) (sym es) ∙ place_of-new_at t u i s h; one = refl });
     }
 
 -- the merge_congruent over the nodes
@@ -308,6 +308,6 @@ unfolding Descends
 start_state g c len h =
     record {
       len = len;
-      descends = λ i. elim (cases_lt i (length g.nodes)) [ inl lt ↦ omega (arith, h i lt) | inr ge ↦ omega (arith, past_end c i (omega (arith, ge, len))) ];
+      descends = λ i. elim (cases_lt i (length g.nodes)) [ inl lt ↦ omega (arith, h i lt) | inr ge ↦ omega (arith, slice_index-past_end c i (omega (arith, ge, len))) ];
       sound = record { each = λ i li. subst (λ (k : ℕ). Equal g i k) (sym (root_own c i (h i li))) (reflexive i) };
     }

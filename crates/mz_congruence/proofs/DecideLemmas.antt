@@ -33,7 +33,7 @@ use Rattle.std.specs.Prelude.{Result, Ok, Err, IfOk}
 use Rattle.mz_congruence.specs.GroundGraph.{HasFactsOf}
 use Rattle.mz_congruence.specs.declared.ground_graph.GroundGraph.{GroundGraph}
 use Rattle.mz_congruence.specs.OfClasses.{IsOfClasses, AtomClash, EquationClash, DecidesDisequal}
-use Rattle.mz_congruence.proofs.RootLemmas.{cases_lt, past_end}
+use Rattle.mz_congruence.proofs.RootLemmas.{cases_lt, slice_index-past_end}
 use Rattle.mz_congruence.proofs.ListLemmas.{get_some}
 use Rattle.mz_congruence.proofs.GroundLemmas.{term_place, atom_found, equation_found, equation_unique, equation_within}
 use Rattle.mz_congruence.proofs.NodeLemmas.{term_within, atom_within, disequal_within, yes_within}
@@ -280,7 +280,7 @@ told_facts g graph c (Err e) ex h = h
 table_bounded : (g : Ground) (graph : Graph) (c : List ℕ) (f : FactTable) → Exact graph c → IsOfClasses g c f → (k : ℕ) → slice_index f.classes.items k ≤ k
 unfolding Descends
 table_bounded g graph c f ex tk k =
-    elim (cases_lt k (length g.terms)) [ inl lt ↦ omega (arith, tk.classes k lt, ex.descends k) | inr ge ↦ omega (arith, past_end f.classes.items k (omega (arith, ge, tk.classes_len))) ]
+    elim (cases_lt k (length g.terms)) [ inl lt ↦ omega (arith, tk.classes k lt, ex.descends k) | inr ge ↦ omega (arith, slice_index-past_end f.classes.items k (omega (arith, ge, tk.classes_len))) ]
 
 pub told_bounded : {E : Type 0} (g : Ground) (graph : GroundGraph) (c : List ℕ) (r : Result FactTable E) → Exact graph.graph c → IfOk r (λ f. IsOfClasses g c f) → IfOk r (λ f. (k : ℕ) → slice_index f.classes.items k ≤ k)
 told_bounded g graph c (Ok f) ex h = table_bounded g graph.graph c f ex h

@@ -122,8 +122,8 @@ value_found [] n t e = absurd (none_some e)
 value_found (u ∷ ts) zero t e = some_same e
 value_found (u ∷ ts) (suc n) t e = value_found ts n t e
 
-pub index_found : (ts : List Term) (n : ℕ) (t : Term) → slice_get ts n ≡ Some t → substitute 0 (value_at ts) (Bound n) ≡ t
-index_found ts n t e = substitute-value_at ts n ∙ value_found ts n t e
+pub substitute-index_found : (ts : List Term) (n : ℕ) (t : Term) → slice_get ts n ≡ Some t → substitute 0 (value_at ts) (Bound n) ≡ t
+substitute-index_found ts n t e = substitute-value_at ts n ∙ value_found ts n t e
 
 some_none : {t : Term} → Some t ≡ None → ⊥
 some_none e = cc
@@ -148,13 +148,13 @@ map_none f [] n e = refl
 map_none f (k ∷ ks) zero e = absurd (some_no_place e)
 map_none f (k ∷ ks) (suc n) e = map_none f ks n e
 
-bound_sound : (g : Ground) (args : List ℕ) (n i : ℕ) → is_same_place i (slice_get args n) ≡ true → substitute 0 (value_at (terms_at g args)) (Bound n) ≡ term_at (ground_terms g) i
-bound_sound g args n i h =
+substitute-bound_sound : (g : Ground) (args : List ℕ) (n i : ℕ) → is_same_place i (slice_get args n) ≡ true → substitute 0 (value_at (terms_at g args)) (Bound n) ≡ term_at (ground_terms g) i
+substitute-bound_sound g args n i h =
     elim (place_cases (slice_get args n)) [
       | inl p ↦ absurd (false_true (ap (is_same_place i) (sym p) ∙ h))
       | inr p ↦
           let e : nat_eq p.0 i ≡ true = ap (is_same_place i) (sym p.1) ∙ h in
-          index_found (terms_at g args) n (term_at (ground_terms g) p.0) (get_map (term_at (ground_terms g)) args n p.0 p.1) ∙ ap (term_at (ground_terms g)) (eqb-true p.0 i e)
+          substitute-index_found (terms_at g args) n (term_at (ground_terms g) p.0) (get_map (term_at (ground_terms g)) args n p.0 p.1) ∙ ap (term_at (ground_terms g)) (eqb-true p.0 i e)
     ]
 
 constant_sound : (m : ℕ) (ts : List Term) (x : GroundTerm) → is_constant m (Some x) ≡ true → Const m ≡ term_of_entry ts x
@@ -171,7 +171,7 @@ args_within d cs g gr i (entry.App r ks) at = λ k c. omega (arith, gr.earlier i
 
 mutual
   pub is_instance_at_sound : (d : Disjunct) (cs : List Clause) (g : Ground) → IsGround d cs g → (args : List ℕ) (t : Term) (i : ℕ) → i < length g.terms → is_instance_at g.terms args t i ≡ true → substitute 0 (value_at (terms_at g args)) t ≡ term_at (ground_terms g) i
-  is_instance_at_sound d cs g gr args (Bound n) i lt h = bound_sound g args n i h
+  is_instance_at_sound d cs g gr args (Bound n) i lt h = substitute-bound_sound g args n i h
   is_instance_at_sound d cs g gr args (Const m) i lt h =
       let p = get_some g.terms i lt in
       constant_sound m (ground_terms g) p.0 (ap (is_constant m) (sym p.1) ∙ h) ∙ sym (term_entry d cs g gr i p.0 p.1)
@@ -228,7 +228,7 @@ bound_complete d cs g gr args w n i lt e =
           let x = get_some g.terms i lt in
           absurd (entry_not_bound (ground_terms g) x.0 q.0 (sym q.1 ∙ e ∙ term_entry d cs g gr i x.0 x.1))
       | inr p ↦
-          let f : term_at (ground_terms g) p.0 ≡ term_at (ground_terms g) i = sym (index_found (terms_at g args) n (term_at (ground_terms g) p.0) (get_map (term_at (ground_terms g)) args n p.0 p.1)) ∙ e in
+          let f : term_at (ground_terms g) p.0 ≡ term_at (ground_terms g) i = sym (substitute-index_found (terms_at g args) n (term_at (ground_terms g) p.0) (get_map (term_at (ground_terms g)) args n p.0 p.1)) ∙ e in
           let k : p.0 ≡ i = term_unique d cs g gr p.0 i (term_at (ground_terms g) i) (w p.0 (get_contains args n p.0 p.1), f) (lt, refl) in
           ap (is_same_place i) p.1 ∙ eq-eqb p.0 i k
     ]
@@ -265,8 +265,8 @@ mutual
       λ j. a j && b j
 
 -- lists of terms
-pub each_sound : (d : Disjunct) (cs : List Clause) (g : Ground) → IsGround d cs g → (args : List ℕ) (us : List Term) (ks : List ℕ) → AllWithin g ks → are_instances_at g.terms args us ks ≡ true → map (substitute 0 (value_at (terms_at g args))) us ≡ map (term_at (ground_terms g)) ks
-each_sound d cs g gr args us ks w h =
+pub map-each_sound : (d : Disjunct) (cs : List Clause) (g : Ground) → IsGround d cs g → (args : List ℕ) (us : List Term) (ks : List ℕ) → AllWithin g ks → are_instances_at g.terms args us ks ≡ true → map (substitute 0 (value_at (terms_at g args))) us ≡ map (term_at (ground_terms g)) ks
+map-each_sound d cs g gr args us ks w h =
     let e : terms_of (map (substitute 0 (value_at (terms_at g args))) us) ≡ terms_of (map (term_at (ground_terms g)) ks) = sym (substitute_args-terms_of 0 (value_at (terms_at g args)) us) ∙ args_are_instances_at_sound d cs g gr args (terms_of us) ks w (args_are_instances_at-terms_of g.terms args us ks ∙ h) in
     sym (list_of-terms_of (map (substitute 0 (value_at (terms_at g args))) us)) ∙ ap list_of e ∙ list_of-terms_of (map (term_at (ground_terms g)) ks)
 

@@ -29,7 +29,7 @@ use Rattle.mz_congruence.proofs.ListLemmas.{some_same, none_some, get_map, get_u
 use Rattle.mz_congruence.proofs.GroundLemmas.{term_entry, term_unique, equation_within}
 use Rattle.mz_congruence.proofs.AndLemmas.{both_left, both_right}
 use Rattle.mz_congruence.proofs.SignatureLemmas.{equation_equal}
-use Rattle.mz_congruence.proofs.InstanceAtLemmas.{is_instance_at_sound, is_instance_at_complete, each_sound, each_complete, same_sym_true, same_sym_refl, index_found, bound_complete, constant_complete}
+use Rattle.mz_congruence.proofs.InstanceAtLemmas.{is_instance_at_sound, is_instance_at_complete, map-each_sound, each_complete, same_sym_true, same_sym_refl, substitute-index_found, bound_complete, constant_complete}
 use Rattle.mz_congruence.proofs.UpLemmas.{app_place, within_term, within_atom, cons_nil, nil_cons, cons_head, cons_tail}
 
 no_both : {b : Bool} → b ≡ true → b ≡ false → ⊥
@@ -48,7 +48,7 @@ atom_sound d cs g gr args s us k a at h =
     let w : AllWithin g a.args = λ j c. gr.atoms_within a j (get_contains g.atoms k a at) c in
     let p : same_sym a.sym s ≡ true = both_left (same_sym a.sym s) (are_instances_at g.terms args us a.args) h in
     let q : are_instances_at g.terms args us a.args ≡ true = both_right (same_sym a.sym s) (are_instances_at g.terms args us a.args) h in
-    (a, at, same_sym_true a.sym s p, sym (each_sound d cs g gr args us a.args w q))
+    (a, at, same_sym_true a.sym s p, sym (map-each_sound d cs g gr args us a.args w q))
 
 pub atom_complete : (d : Disjunct) (cs : List Clause) (g : Ground) → IsGround d cs g → (args : List ℕ) → AllWithin g args → (s : Sym) (us : List Term) (k : ℕ) → (h : IsAtomPlace g k s (map (substitute 0 (value_at (terms_at g args))) us)) → is_atom_instance g.terms args s us h.0 ≡ true
 atom_complete d cs g gr args w s us k h =
@@ -77,7 +77,7 @@ pub ruleset hashed_rules = (told_first_term, told_no_term, told_first_atom, told
 -- an index
 bound_found : (d : Disjunct) (cs : List Clause) (g : Ground) → IsGround d cs g → (args : List ℕ) → AllWithin g args → (n : ℕ) (o : Option ℕ) → slice_get args n ≡ o → IsTermFound g (substitute 0 (value_at (terms_at g args)) (Bound n)) o
 bound_found d cs g gr args w n None e = λ k p. no_both (bound_complete d cs g gr args w n k p.0 (sym p.1)) (ap (is_same_place k) e)
-bound_found d cs g gr args w n (Some p) e = (w p (get_contains args n p e), sym (index_found (terms_at g args) n (term_at (ground_terms g) p) (get_map (term_at (ground_terms g)) args n p e)))
+bound_found d cs g gr args w n (Some p) e = (w p (get_contains args n p e), sym (substitute-index_found (terms_at g args) n (term_at (ground_terms g) p) (get_map (term_at (ground_terms g)) args n p e)))
 
 pub told_bound : (g : Ground) (args : List ℕ) (t : Term) (n : ℕ) (r : Option ℕ) → t ≡ Bound n → r ≡ slice_get args n → FindsTerm g args t r
 unfolding FindsTerm

@@ -31,17 +31,17 @@ fixed_after (suc n) c d i le =
       | inr t ↦ fixed_after n c d (slice_index c i) (omega (arith, d i, t.1))
     ]
 
-once_more : (n : ℕ) (c : List ℕ) (i : ℕ) → after_steps (suc n) c i ≡ slice_index c (after_steps n c i)
-once_more zero c i = refl
-once_more (suc n) c i = once_more n c (slice_index c i)
+after_steps-once_more : (n : ℕ) (c : List ℕ) (i : ℕ) → after_steps (suc n) c i ≡ slice_index c (after_steps n c i)
+after_steps-once_more zero c i = refl
+after_steps-once_more (suc n) c i = after_steps-once_more n c (slice_index c i)
 
 -- more steps than the number lead no further
-root_from : (n : ℕ) (c : List ℕ) → Descends c → (i : ℕ) → i ≤ n → after_steps n c i ≡ root c i
-root_from zero c d i le = let z : i ≡ 0 = omega (arith, le) in rw z refl
-root_from (suc n) c d i le =
+after_steps-root_from : (n : ℕ) (c : List ℕ) → Descends c → (i : ℕ) → i ≤ n → after_steps n c i ≡ root c i
+after_steps-root_from zero c d i le = let z : i ≡ 0 = omega (arith, le) in rw z refl
+after_steps-root_from (suc n) c d i le =
     elim (eqb_tells i (suc n)) [
       | inl t ↦ rw t.1 refl
-      | inr t ↦ let h : i ≤ n = omega (arith, le, t.1) in once_more n c i ∙ fixed_after n c d i h ∙ root_from n c d i h
+      | inr t ↦ let h : i ≤ n = omega (arith, le, t.1) in after_steps-once_more n c i ∙ fixed_after n c d i h ∙ after_steps-root_from n c d i h
     ]
 
 pub root_own : (c : List ℕ) (i : ℕ) → slice_index c i ≡ i → root c i ≡ i
@@ -53,7 +53,7 @@ root_step c d zero = let z : slice_index c 0 ≡ 0 = omega (arith, d 0) in rw z 
 root_step c d (suc n) =
     elim (eqb_tells (slice_index c (suc n)) (suc n)) [
       | inl t ↦ ap (root c) t.1
-      | inr t ↦ sym (root_from n c d (slice_index c (suc n)) (omega (arith, d (suc n), t.1)))
+      | inr t ↦ sym (after_steps-root_from n c d (slice_index c (suc n)) (omega (arith, d (suc n), t.1)))
     ]
 
 pub root_fixed : (c : List ℕ) → Descends c → (i : ℕ) → slice_index c (root c i) ≡ root c i
@@ -112,14 +112,14 @@ pub two_down : (c : List ℕ) (k : ℕ) → Descends c → slice_index c (slice_
 unfolding Descends
 two_down c k d = omega (arith, d k, d (slice_index c k))
 
-back_up : (c : List ℕ) (k : ℕ) → Descends c → slice_index c (slice_index c k) ≡ k → slice_index c k ≡ k
+slice_index-back_up : (c : List ℕ) (k : ℕ) → Descends c → slice_index c (slice_index c k) ≡ k → slice_index c k ≡ k
 unfolding Descends
-back_up c k d e = omega (arith, d k, d (slice_index c k), e)
+slice_index-back_up c k d e = omega (arith, d k, d (slice_index c k), e)
 
 -- a root that leads to a smaller root
-link_below : (c : List ℕ) (k v : ℕ) → Descends c → k < length c → slice_index c k ≡ k → v < k → slice_index c v ≡ v → (n i : ℕ) → i < n → root (set c k v) i ≡ replaced k v (root c i)
-link_below c k v d lt ok less ov zero i le = absurd (omega arith)
-link_below c k v d lt ok less ov (suc n) i le =
+root-link_below : (c : List ℕ) (k v : ℕ) → Descends c → k < length c → slice_index c k ≡ k → v < k → slice_index c v ≡ v → (n i : ℕ) → i < n → root (set c k v) i ≡ replaced k v (root c i)
+root-link_below c k v d lt ok less ov zero i le = absurd (omega arith)
+root-link_below c k v d lt ok less ov (suc n) i le =
     let e : Descends (set c k v) = descends_set c k v lt (omega arith) d in
     elim (eqb_tells i k) [
       | inl t ↦
@@ -133,17 +133,17 @@ link_below c k v d lt ok less ov (suc n) i le =
             | inl q ↦ root_own (set c k v) i (at ∙ q.1) ∙ sym (replaced_other k v i t.1) ∙ ap (replaced k v) (sym (root_own c i q.1))
             | inr q ↦
                 let down : slice_index c i < n = below_own c i n d q.1 le in
-                sym (root_step (set c k v) e i) ∙ ap (root (set c k v)) at ∙ link_below c k v d lt ok less ov n (slice_index c i) down ∙ ap (replaced k v) (root_step c d i)
+                sym (root_step (set c k v) e i) ∙ ap (root (set c k v)) at ∙ root-link_below c k v d lt ok less ov n (slice_index c i) down ∙ ap (replaced k v) (root_step c d i)
           ]
     ]
 
 pub root_link : (c : List ℕ) (k v : ℕ) → Descends c → k < length c → slice_index c k ≡ k → v < k → slice_index c v ≡ v → (i : ℕ) → root (set c k v) i ≡ replaced k v (root c i)
-root_link c k v d lt ok less ov i = link_below c k v d lt ok less ov (suc i) i (omega arith)
+root_link c k v d lt ok less ov i = root-link_below c k v d lt ok less ov (suc i) i (omega arith)
 
 -- a number that leads further within its class
-compress_below : (c : List ℕ) (k : ℕ) → Descends c → k < length c → (n i : ℕ) → i < n → root (set c k (slice_index c (slice_index c k))) i ≡ root c i
-compress_below c k d lt zero i le = absurd (omega arith)
-compress_below c k d lt (suc n) i le =
+root-compress_below : (c : List ℕ) (k : ℕ) → Descends c → k < length c → (n i : ℕ) → i < n → root (set c k (slice_index c (slice_index c k))) i ≡ root c i
+root-compress_below c k d lt zero i le = absurd (omega arith)
+root-compress_below c k d lt (suc n) i le =
     let v : ℕ = slice_index c (slice_index c k) in
     let up : v ≤ k = two_down c k d in
     let e : Descends (set c k v) = descends_set c k v lt up d in
@@ -152,11 +152,11 @@ compress_below c k d lt (suc n) i le =
           let at : slice_index (set c k v) k ≡ v = index_set_same c k v lt in
           elim (eqb_tells v k) [
             | inl q ↦
-                let own : slice_index c k ≡ k = back_up c k d q.1 in
+                let own : slice_index c k ≡ k = slice_index-back_up c k d q.1 in
                 rw t.1 (root_own (set c k v) k (at ∙ q.1) ∙ sym (root_own c k own))
             | inr q ↦
                 let down : v < n = omega (arith, up, q.1, le, t.1) in
-                rw t.1 (sym (root_step (set c k v) e k) ∙ ap (root (set c k v)) at ∙ compress_below c k d lt n v down ∙ root_step c d (slice_index c k) ∙ root_step c d k)
+                rw t.1 (sym (root_step (set c k v) e k) ∙ ap (root (set c k v)) at ∙ root-compress_below c k d lt n v down ∙ root_step c d (slice_index c k) ∙ root_step c d k)
           ]
       | inr t ↦
           let at : slice_index (set c k v) i ≡ slice_index c i = index_set_other c k v i t.1 in
@@ -164,17 +164,17 @@ compress_below c k d lt (suc n) i le =
             | inl q ↦ root_own (set c k v) i (at ∙ q.1) ∙ sym (root_own c i q.1)
             | inr q ↦
                 let down : slice_index c i < n = below_own c i n d q.1 le in
-                sym (root_step (set c k v) e i) ∙ ap (root (set c k v)) at ∙ compress_below c k d lt n (slice_index c i) down ∙ root_step c d i
+                sym (root_step (set c k v) e i) ∙ ap (root (set c k v)) at ∙ root-compress_below c k d lt n (slice_index c i) down ∙ root_step c d i
           ]
     ]
 
 pub root_compress : (c : List ℕ) (k : ℕ) → Descends c → k < length c → (i : ℕ) → root (set c k (slice_index c (slice_index c k))) i ≡ root c i
-root_compress c k d lt i = compress_below c k d lt (suc i) i (omega arith)
+root_compress c k d lt i = root-compress_below c k d lt (suc i) i (omega arith)
 
 -- what is flat below k is flat up to it once k is compressed
-pub flat_more : (c : List ℕ) (k : ℕ) → Descends c → k < length c → ((i : ℕ) → i < k → slice_index c (slice_index c i) ≡ slice_index c i) → (i : ℕ) → i < k + 1 → slice_index (set c k (slice_index c (slice_index c k))) (slice_index (set c k (slice_index c (slice_index c k))) i) ≡ slice_index (set c k (slice_index c (slice_index c k))) i
+pub slice_index-flat_more : (c : List ℕ) (k : ℕ) → Descends c → k < length c → ((i : ℕ) → i < k → slice_index c (slice_index c i) ≡ slice_index c i) → (i : ℕ) → i < k + 1 → slice_index (set c k (slice_index c (slice_index c k))) (slice_index (set c k (slice_index c (slice_index c k))) i) ≡ slice_index (set c k (slice_index c (slice_index c k))) i
 unfolding Descends
-flat_more c k d lt h i le =
+slice_index-flat_more c k d lt h i le =
     let j : ℕ = slice_index c k in
     let v : ℕ = slice_index c j in
     let at : slice_index (set c k v) k ≡ v = index_set_same c k v lt in
@@ -203,10 +203,10 @@ unfolding Descends
 step_less c k up again d e ne f = omega (arith, d k, e, ne, f)
 
 -- past the end a number leads to 0
-pub past_end : (c : List ℕ) (i : ℕ) → length c ≤ i → slice_index c i ≡ 0
-past_end [] i le = refl
-past_end (x ∷ xs) zero le = absurd (omega arith)
-past_end (x ∷ xs) (suc i) le = past_end xs i (omega arith)
+pub slice_index-past_end : (c : List ℕ) (i : ℕ) → length c ≤ i → slice_index c i ≡ 0
+slice_index-past_end [] i le = refl
+slice_index-past_end (x ∷ xs) zero le = absurd (omega arith)
+slice_index-past_end (x ∷ xs) (suc i) le = slice_index-past_end xs i (omega arith)
 
 pub cases_lt : (i k : ℕ) → (i < k) ⊎ (k ≤ i)
 cases_lt i k = elim (order i k) [ under h ↦ inl h | equal h ↦ inr (omega (arith, h)) | over h ↦ inr (omega (arith, h)) ]
@@ -217,7 +217,7 @@ flat_at_end c k d le h i =
     elim (cases_lt i k) [
       | inl lt ↦ h i lt
       | inr ge ↦
-          let z : slice_index c i ≡ 0 = past_end c i (omega (arith, ge, le)) in
+          let z : slice_index c i ≡ 0 = slice_index-past_end c i (omega (arith, ge, le)) in
           let y : slice_index c 0 ≡ 0 = omega (arith, d 0) in
           rw (z, y) refl
     ]
@@ -237,7 +237,7 @@ compressed c k up lt d h e =
     rw e (record {
       len = length-set c k v;
       descends = descends_set c k v lt (two_down c k d) d;
-      flat = flat_more c k d lt h;
+      flat = slice_index-flat_more c k d lt h;
       roots = root_compress c k d lt;
       less = omega (arith, total-set c k v lt, d (slice_index c k));
     })

@@ -216,14 +216,14 @@ pub told_clause_at : (g : Ground) (all : List Clause) (k : ℕ) (c : Clause) (xs
 told_clause_at g all k c xs ys lt e a = told_clause g all k c xs ys (slice_get_read all (length all) k c refl lt e) a
 
 -- all rules
-atom_there : (g : Ground) (k : ℕ) (a : GroundAtom) → slice_get g.atoms k ≡ Some a → expression_at g (place.Atom k) ≡ atom_expression (ground_terms g) a
-atom_there g k a e = ap expression_or_zero (get_map (atom_expression (ground_terms g)) g.atoms k a e)
+expression_at-atom_there : (g : Ground) (k : ℕ) (a : GroundAtom) → slice_get g.atoms k ≡ Some a → expression_at g (place.Atom k) ≡ atom_expression (ground_terms g) a
+expression_at-atom_there g k a e = ap expression_or_zero (get_map (atom_expression (ground_terms g)) g.atoms k a e)
 
 expression_ground : (d : Disjunct) (cs : List Clause) (g : Ground) → IsGround d cs g → (t : Trigger) (k : ℕ) → k < places_for g t → IsGroundExpression d cs (expression_at g (place_like t k))
 expression_ground d cs g gr (trigger.Term t) k lt = term_ground d cs g gr k lt
 expression_ground d cs g gr (trigger.Atom s us) k lt =
     let a = get_some g.atoms k lt in
-    subst (λ (q : GroundExpression). IsGroundExpression d cs q) (sym (atom_there g k a.0 a.1)) (atom_ground d cs g gr k a.0 a.1)
+    subst (λ (q : GroundExpression). IsGroundExpression d cs q) (sym (expression_at-atom_there g k a.0 a.1)) (atom_ground d cs g gr k a.0 a.1)
 
 expression_found : (d : Disjunct) (cs : List Clause) (g : Ground) → IsGround d cs g → (ts : List Term) (t : Trigger) → IsGroundExpression d cs (trigger_at ts t) → (k : ℕ) × (k < places_for g t) × (trigger_at ts t ≡ expression_at g (place_like t k))
 expression_found d cs g gr ts (trigger.Term t) h =
@@ -231,7 +231,7 @@ expression_found d cs g gr ts (trigger.Term t) h =
     (p.0, p.1.0, ap TermExpression (sym p.1.1))
 expression_found d cs g gr ts (trigger.Atom s us) h =
     let p = atom_found d cs g gr s (map (substitute 0 (value_at ts)) us) h in
-    (p.0, slice_get_within g.atoms p.0 p.1.0 p.1.1, (λ i. AtomExpression (sym p.1.2 i) (sym p.1.3 i)) ∙ sym (atom_there g p.0 p.1.0 p.1.1))
+    (p.0, slice_get_within g.atoms p.0 p.1.0 p.1.1, (λ i. AtomExpression (sym p.1.2 i) (sym p.1.3 i)) ∙ sym (expression_at-atom_there g p.0 p.1.0 p.1.1))
 
 rules_sound : (d : Disjunct) (cs : List Clause) (g : Ground) → IsGround d cs g → (xs ys zs : List Rule) → Adds (Below (IsLiteralRule g d.literals) (length d.literals)) [] xs → Adds (Below (IsExchangeRule g) (length g.equations)) xs ys → Adds (Below (IsClauseRule g cs) (length cs)) ys zs → (r : Rule) → Contains zs r → IsRule d cs g r
 rules_sound d cs g gr xs ys zs a b c r m =

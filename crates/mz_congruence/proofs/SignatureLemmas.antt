@@ -84,9 +84,9 @@ is_list_same [] = refl
 is_list_same (x ∷ xs) = let e : nat_eq x x ≡ true = eq-eqb x x refl in rw e (is_list_same xs)
 
 -- what an insertion into a table leaves, at each list
-pub inserted : {K X S : Type 0} (items : K → List ℕ) (m n : HashMap K X S) (key : K) (v : X) → UpdatesBy (λ a b. is_list (items a) (items b)) (λ k. is_list (items key) (items k)) m n (Some v) → (s : List ℕ) → lookup (λ k. is_list s (items k)) n.entries ≡ (if is_list s (items key) then Some v else lookup (λ k. is_list s (items k)) m.entries)
+pub lookup-inserted : {K X S : Type 0} (items : K → List ℕ) (m n : HashMap K X S) (key : K) (v : X) → UpdatesBy (λ a b. is_list (items a) (items b)) (λ k. is_list (items key) (items k)) m n (Some v) → (s : List ℕ) → lookup (λ k. is_list s (items k)) n.entries ≡ (if is_list s (items key) then Some v else lookup (λ k. is_list s (items k)) m.entries)
 unfolding KeepsOthers
-inserted {K} {X} {S} items m n key v u s =
+lookup-inserted {K} {X} {S} items m n key v u s =
     let here : (b : Bool) → is_list s (items key) ≡ b → lookup (λ k. is_list s (items k)) n.entries ≡ (if b then Some v else lookup (λ k. is_list s (items k)) m.entries)
     = elim [
       | true ↦ λ e. subst (λ (z : List ℕ). lookup (λ k. is_list z (items k)) n.entries ≡ Some v) (sym (is_list_true s (items key) e)) u.1

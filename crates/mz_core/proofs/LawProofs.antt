@@ -192,14 +192,14 @@ formula_in_force-all next n (formula.And f g) = λ i. formula_in_force-all next 
 formula_in_force-all next n (formula.All f) = formula_in_force-all next (n + 1) f
 
 -- both directions of the abstraction
-constant_back : (c d number : ℕ) (b : Bool) → nat_eq number c ≡ b → substitute d (value_at (Const c ∷ [])) (if b then Bound d else Const number) ≡ Const number
-constant_back c d number true e = substitute-one_equal d (Const c) d refl ∙ ap Const (sym (eqb-true number c e))
-constant_back c d number false e = refl
+substitute-constant_back : (c d number : ℕ) (b : Bool) → nat_eq number c ≡ b → substitute d (value_at (Const c ∷ [])) (if b then Bound d else Const number) ≡ Const number
+substitute-constant_back c d number true e = substitute-one_equal d (Const c) d refl ∙ ap Const (sym (eqb-true number c e))
+substitute-constant_back c d number false e = refl
 
 mutual
   pub term_back : (c d : ℕ) (t : Term) → substitute d (value_at (Const c ∷ [])) (term_over c d t) ≡ t
   term_back c d (Bound index) = substitute-past d (Const c ∷ []) (Bound index)
-  term_back c d (Const number) = constant_back c d number (nat_eq number c) refl
+  term_back c d (Const number) = substitute-constant_back c d number (nat_eq number c) refl
   term_back c d (App s ts) = ap (λ us. App s us) (args_back c d ts)
 
   args_back : (c d : ℕ) (ts : Terms) → substitute_args d (value_at (Const c ∷ [])) (args_over c d ts) ≡ ts

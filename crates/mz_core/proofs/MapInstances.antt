@@ -57,14 +57,14 @@ pub substitutes_go_under : (v : ℕ → Term) → GoesUnder (substitutes v)
 substitutes_go_under v = record { raised = λ d t. sym (substitute-shift d 1 v t); kept = λ d. substitute-inside (d + 1) v 0 (zero_below d) }
 
 -- and so does an abstraction
-constant_raised : (d number : ℕ) (b : Bool) → shift 0 1 (if b then Bound d else Const number) ≡ (if b then Bound (d + 1) else Const number)
-constant_raised d number true = shift-Bound 1 d
-constant_raised d number false = refl
+shift-constant_raised : (d number : ℕ) (b : Bool) → shift 0 1 (if b then Bound d else Const number) ≡ (if b then Bound (d + 1) else Const number)
+shift-constant_raised d number true = shift-Bound 1 d
+shift-constant_raised d number false = refl
 
 mutual
   over_raised : (c d : ℕ) (t : Term) → shift 0 1 (term_over c d t) ≡ term_over c (d + 1) (shift 0 1 t)
   over_raised c d (Bound index) = index_raised d 1 index
-  over_raised c d (Const number) = constant_raised d number (nat_eq number c)
+  over_raised c d (Const number) = shift-constant_raised d number (nat_eq number c)
   over_raised c d (App s ts) = ap (λ us. App s us) (args_over_raised c d ts)
 
   args_over_raised : (c d : ℕ) (ts : Terms) → shift_args 0 1 (args_over c d ts) ≡ args_over c (d + 1) (shift_args 0 1 ts)

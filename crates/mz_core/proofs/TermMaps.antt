@@ -91,15 +91,15 @@ guard-with g d ty t =
     ap (map literal_formula) (guard_literals-with (g d) ty t)
 
 -- types under one more binder
-args-raised : (g : ℕ → Term → Term) (d : ℕ) (ts : List Term) → GoesUnder g → map (g (d + 1)) (map (shift 0 1) ts) ≡ map (shift 0 1) (map (g d) ts)
-args-raised g d ts u = map_map (g (d + 1)) (shift 0 1) (g d) (shift 0 1) ts (λ t. sym (u.raised d t))
+map-args-raised : (g : ℕ → Term → Term) (d : ℕ) (ts : List Term) → GoesUnder g → map (g (d + 1)) (map (shift 0 1) ts) ≡ map (shift 0 1) (map (g d) ts)
+map-args-raised g d ts u = map_map (g (d + 1)) (shift 0 1) (g d) (shift 0 1) ts (λ t. sym (u.raised d t))
 
 adjective-raised : (g : ℕ → Term → Term) (d : ℕ) (a : Adjective) → GoesUnder g → adjective_with (g (d + 1)) (shift_adjective 0 1 a) ≡ shift_adjective 0 1 (adjective_with (g d) a)
-adjective-raised g d a u i = record { positive = a.positive; sym = a.sym; args = args-raised g d a.args u i }
+adjective-raised g d a u i = record { positive = a.positive; sym = a.sym; args = map-args-raised g d a.args u i }
 
 pub type-raised : (g : ℕ → Term → Term) (d : ℕ) (ty : SoftType) → GoesUnder g → type_with (g (d + 1)) (shift_type 0 1 ty) ≡ shift_type 0 1 (type_with (g d) ty)
 type-raised g d ty u i =
-    record { adjectives = map_map (adjective_with (g (d + 1))) (shift_adjective 0 1) (adjective_with (g d)) (shift_adjective 0 1) ty.adjectives (λ a. adjective-raised g d a u) i; radix = record { sym = ty.radix.sym; args = args-raised g d ty.radix.args u i } }
+    record { adjectives = map_map (adjective_with (g (d + 1))) (shift_adjective 0 1) (adjective_with (g d)) (shift_adjective 0 1) ty.adjectives (λ a. adjective-raised g d a u) i; radix = record { sym = ty.radix.sym; args = map-args-raised g d ty.radix.args u i } }
 
 pub guard_inside-with : (g : ℕ → Term → Term) (d : ℕ) (ty : SoftType) → GoesUnder g → map (formula_with g (d + 1)) (guard_inside ty) ≡ guard_inside (type_with (g d) ty)
 guard_inside-with g d ty u =

@@ -40,8 +40,8 @@ compared a b =
 
 -- one more name
 
-inserted : (n x : Name) (xs : List Name) (o : Ordering) → nat_cmp n.number x.number ≡ o → with_ascending (x ∷ xs) n ≡ match_ordering o (n ∷ x ∷ xs) (x ∷ xs) (x ∷ with_ascending xs n)
-inserted n x xs o e = ap (λ r. match_ordering r (n ∷ x ∷ xs) (x ∷ xs) (x ∷ with_ascending xs n)) e
+with_ascending-inserted : (n x : Name) (xs : List Name) (o : Ordering) → nat_cmp n.number x.number ≡ o → with_ascending (x ∷ xs) n ≡ match_ordering o (n ∷ x ∷ xs) (x ∷ xs) (x ∷ with_ascending xs n)
+with_ascending-inserted n x xs o e = ap (λ r. match_ordering r (n ∷ x ∷ xs) (x ∷ xs) (x ∷ with_ascending xs n)) e
 
 abbrev IsSplit : List Name → Name → Name → Type 0
 IsSplit ns n m = Contains ns m ⊎ (n ≡ m)
@@ -59,7 +59,7 @@ split_by x xs n m ih Greater h =
 pub Contains-with_ascending : (ns : List Name) (n m : Name) → Contains (with_ascending ns n) m → Contains ns m ⊎ (n ≡ m)
 Contains-with_ascending [] n m h = elim (Contains-cases n [] m h) [ inl e ↦ inr e | inr k ↦ absurd (Contains-none m k) ]
 Contains-with_ascending (x ∷ xs) n m h =
-    let c = compared n.number x.number in split_by x xs n m (Contains-with_ascending xs n m) c.answer (subst (λ ns. Contains ns m) (inserted n x xs c.answer c.is) h)
+    let c = compared n.number x.number in split_by x xs n m (Contains-with_ascending xs n m) c.answer (subst (λ ns. Contains ns m) (with_ascending-inserted n x xs c.answer c.is) h)
 
 kept_by : (x : Name) (xs : List Name) (n m : Name) → (Contains xs m → Contains (with_ascending xs n) m) → (o : Ordering) → Contains (x ∷ xs) m → Contains (match_ordering o (n ∷ x ∷ xs) (x ∷ xs) (x ∷ with_ascending xs n)) m
 kept_by x xs n m ih Less h = Contains-tail n (x ∷ xs) m h
@@ -69,7 +69,7 @@ kept_by x xs n m ih Greater h =
 
 pub Contains-kept : (ns : List Name) (n m : Name) → Contains ns m → Contains (with_ascending ns n) m
 Contains-kept [] n m h = absurd (Contains-none m h)
-Contains-kept (x ∷ xs) n m h = let c = compared n.number x.number in subst (λ ns. Contains ns m) (sym (inserted n x xs c.answer c.is)) (kept_by x xs n m (Contains-kept xs n m) c.answer h)
+Contains-kept (x ∷ xs) n m h = let c = compared n.number x.number in subst (λ ns. Contains ns m) (sym (with_ascending-inserted n x xs c.answer c.is)) (kept_by x xs n m (Contains-kept xs n m) c.answer h)
 
 added_by : (x : Name) (xs : List Name) (n : Name) → Contains (with_ascending xs n) n → (o : Ordering) → IsTrichotomy o n.number x.number → Contains (match_ordering o (n ∷ x ∷ xs) (x ∷ xs) (x ∷ with_ascending xs n)) n
 added_by x xs n ih Less h = Contains-head n (x ∷ xs)
@@ -78,7 +78,7 @@ added_by x xs n ih Greater h = Contains-tail x (with_ascending xs n) n ih
 
 pub Contains-added : (ns : List Name) (n : Name) → Contains (with_ascending ns n) n
 Contains-added [] n = Contains-head n []
-Contains-added (x ∷ xs) n = let c = compared n.number x.number in subst (λ ns. Contains ns n) (sym (inserted n x xs c.answer c.is)) (added_by x xs n (Contains-added xs n) c.answer c.holds)
+Contains-added (x ∷ xs) n = let c = compared n.number x.number in subst (λ ns. Contains ns n) (sym (with_ascending-inserted n x xs c.answer c.is)) (added_by x xs n (Contains-added xs n) c.answer c.holds)
 
 -- names that ascend, by recursion
 
@@ -96,7 +96,7 @@ rises_by x xs n ih Greater gt h =
 Rises-with_ascending : (ns : List Name) (n : Name) → Rises ns → Rises (with_ascending ns n)
 Rises-with_ascending [] n h = ((λ m k. absurd (Contains-none m k)), tt)
 Rises-with_ascending (x ∷ xs) n h =
-    let c = compared n.number x.number in subst Rises (sym (inserted n x xs c.answer c.is)) (rises_by x xs n (Rises-with_ascending xs n h.1) c.answer c.holds h)
+    let c = compared n.number x.number in subst Rises (sym (with_ascending-inserted n x xs c.answer c.is)) (rises_by x xs n (Rises-with_ascending xs n h.1) c.answer c.holds h)
 
 pub every : {X : Type 0} (P : X → Type 0) (xs : List X) → ((y : X) → Contains xs y → P y) → All P xs
 every P [] h = All-nil P

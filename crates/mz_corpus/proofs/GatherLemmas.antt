@@ -35,18 +35,18 @@ Tells-passed P Q w TooManyVocabularies g h t = w TooManyVocabularies t
 
 -- vocabularies in turn
 
-through : (files : List File) (ns ms : List Name) → ((h : Gathered) → with_vocabularies files h (ns ++ ms) ≡ unless_passed (with_vocabularies files h ns) (λ k. with_vocabularies files k ms))
+unless_passed-through : (files : List File) (ns ms : List Name) → ((h : Gathered) → with_vocabularies files h (ns ++ ms) ≡ unless_passed (with_vocabularies files h ns) (λ k. with_vocabularies files k ms))
     → (r : GatherResult) → unless_passed r (λ h. with_vocabularies files h (ns ++ ms)) ≡ unless_passed (unless_passed r (λ h. with_vocabularies files h ns)) (λ k. with_vocabularies files k ms)
-through files ns ms ih (Ok h) = ih h
-through files ns ms ih (Err f) = refl
+unless_passed-through files ns ms ih (Ok h) = ih h
+unless_passed-through files ns ms ih (Err f) = refl
 
 with_vocabularies-append : (files : List File) (ns ms : List Name) (g : Gathered) → with_vocabularies files g (ns ++ ms) ≡ unless_passed (with_vocabularies files g ns) (λ h. with_vocabularies files h ms)
 with_vocabularies-append files [] ms g = refl
-with_vocabularies-append files (n ∷ ns) ms g = through files ns ms (with_vocabularies-append files ns ms) (with_vocabulary files g n)
+with_vocabularies-append files (n ∷ ns) ms g = unless_passed-through files ns ms (with_vocabularies-append files ns ms) (with_vocabulary files g n)
 
-alone : (r : GatherResult) → unless_passed r (λ h. Ok h) ≡ r
-alone (Ok h) = refl
-alone (Err f) = refl
+unless_passed-alone : (r : GatherResult) → unless_passed r (λ h. Ok h) ≡ r
+unless_passed-alone (Ok h) = refl
+unless_passed-alone (Err f) = refl
 
 pub vocabularies_turn : (files : List File) (items : List Name) (i : ℕ) (n : Name) (g h k : Gathered) → i < length items → n ≡ get_or items i n
     → with_vocabularies files g (take i items) ≡ Ok h → Ok k ≡ with_vocabulary files h n → with_vocabularies files g (take (i + 1) items) ≡ Ok k
@@ -55,7 +55,7 @@ vocabularies_turn files items i n g h k lt at so_far next =
     ap (with_vocabularies files g) more
     ∙ with_vocabularies-append files (take i items) (n ∷ []) g
     ∙ ap (λ r. unless_passed r (λ h. with_vocabularies files h (n ∷ []))) so_far
-    ∙ alone (with_vocabulary files h n)
+    ∙ unless_passed-alone (with_vocabulary files h n)
     ∙ sym next
 
 pub vocabularies_passed : (files : List File) (items : List Name) (i : ℕ) (n : Name) (g h : Gathered) (f : GatherFault) → i < length items → n ≡ get_or items i n

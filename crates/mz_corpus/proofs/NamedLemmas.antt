@@ -49,11 +49,11 @@ tokens_le {ls = ls} (switching text w bs ts e is border more) = let h = tokens_l
 
 -- patterns and names
 
-matched : (ps : List Pattern) (ts : List Token) → Matches ps ts → length ps ≡ length ts
-matched [] [] h = refl
-matched [] (t ∷ ts) h = absurd h
-matched (p ∷ ps) [] h = absurd h
-matched (p ∷ ps) (t ∷ ts) h = ap suc (matched ps ts h.1)
+length-matched : (ps : List Pattern) (ts : List Token) → Matches ps ts → length ps ≡ length ts
+length-matched [] [] h = refl
+length-matched [] (t ∷ ts) h = absurd h
+length-matched (p ∷ ps) [] h = absurd h
+length-matched (p ∷ ps) (t ∷ ts) h = ap suc (length-matched ps ts h.1)
 
 more_le : (ns : List PlacedName) → length ns ≤ length (more_names ns)
 more_le [] = omega arith
@@ -141,7 +141,7 @@ both_le (d ∷ ds) vs ns =
 head_named : (bytes : List ℕ) (ds : List Directive) → IsHeadOf bytes ds → length (vocabulary_names_of ds) + length (dependencies_of ds) ≤ length bytes
 head_named bytes ds h =
     let t = tokens_le h.cut in
-    let m = matched (spell_head ds) h.tokens h.spells.spelled in
+    let m = length-matched (spell_head ds) h.tokens h.spells.spelled in
     let n = head_le ds in
     let b = both_le ds [] [] in
     omega arith

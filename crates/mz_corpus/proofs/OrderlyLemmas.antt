@@ -113,11 +113,11 @@ IsOrderly-queued g names h =
 
 -- the element at a place
 
-value_at : (ns : List Name) (i : ℕ) (x : Name) → slice_get ns i ≡ Some x → get_or ns i x ≡ x
-value_at ns i x e = sym (unwrap_or-slice_get ns i x) ∙ ap (λ o. unwrap_or o x) e
+get_or-value_at : (ns : List Name) (i : ℕ) (x : Name) → slice_get ns i ≡ Some x → get_or ns i x ≡ x
+get_or-value_at ns i x e = sym (unwrap_or-slice_get ns i x) ∙ ap (λ o. unwrap_or o x) e
 
-stands_at : (ns : List Name) (i : ℕ) (x : Name) → i < length ns → get_or ns i x ≡ x → slice_get ns i ≡ Some x
-stands_at ns i x lt g =
+slice_get-stands_at : (ns : List Name) (i : ℕ) (x : Name) → i < length ns → get_or ns i x ≡ x → slice_get ns i ≡ Some x
+slice_get-stands_at ns i x lt g =
     elim (slice_get_cases ns i).1 [
       | inl t ↦ (let same : t.0 ≡ x = ap (λ o. unwrap_or o x) (sym t.2) ∙ unwrap_or-slice_get ns i x ∙ g in t.2 ∙ ap (λ y. Some y) same)
       | inr t ↦ (let le = t.0 in absurd (let bad : ⊥ = omega arith in bad))
@@ -126,7 +126,7 @@ stands_at ns i x lt g =
 slice_get-append : (ns ms : List Name) (i : ℕ) (x : Name) → slice_get ns i ≡ Some x → slice_get (ns ++ ms) i ≡ Some x
 slice_get-append ns ms i x e =
     let lt = slice_get_within ns i x e in
-    stands_at (ns ++ ms) i x (let l = length-append ns ms in omega arith) (get_or_append_left ns ms x i lt ∙ value_at ns i x e)
+    slice_get-stands_at (ns ++ ms) i x (let l = length-append ns ms in omega arith) (get_or_append_left ns ms x i lt ∙ get_or-value_at ns i x e)
 
 none_within : (ns : List Name) (i : ℕ) → slice_get ns i ≡ None → length ns ≤ i
 none_within ns i e = elim (slice_get_cases ns i).1 [ inl t ↦ absurd (no_some t.0 (sym t.2 ∙ e)) | inr t ↦ t.0 ]
@@ -150,7 +150,7 @@ IsOrderly-source g s h next q =
       fetched = h.fetched;
       within = omega arith;
       names = map-append (λ x. x.name) g.sources (s ∷ []) ∙ ap (λ ns. ns ++ s.name ∷ []) h.names
-          ∙ sym (ap (λ i. take i g.queue) longer ∙ take_more g.queue (length g.sources) s.name lt ∙ ap (λ x. take (length g.sources) g.queue ++ x ∷ []) (value_at g.queue (length g.sources) s.name next));
+          ∙ sym (ap (λ i. take i g.queue) longer ∙ take_more g.queue (length g.sources) s.name lt ∙ ap (λ x. take (length g.sources) g.queue ++ x ∷ []) (get_or-value_at g.queue (length g.sources) s.name next));
       each = λ t held. elim (Contains-push_cases g.sources s t held) [ inl k ↦ h.each t k | inr e ↦ subst (λ x. IsQueued g.queue x) e q ];
       apart = h.apart;
     }

@@ -162,8 +162,8 @@ HasReached-start links direct none set en e =
       closed = λ l n held done h. absurd (Contains-none l.name done);
     }
 
-turned : (ms : List Name) (set after : List Name) (at : ℕ) (name : Name) → at < length set → name ≡ get_or set at name → GoesOn ms set after → take (at + 1) after ≡ take at set ++ name ∷ []
-turned ms set after at name lt is on =
+take-turned : (ms : List Name) (set after : List Name) (at : ℕ) (name : Name) → at < length set → name ≡ get_or set at name → GoesOn ms set after → take (at + 1) after ≡ take at set ++ name ∷ []
+take-turned ms set after at name lt is on =
     ap (take (at + 1)) on.is ∙ take-append-le (at + 1) set on.more (omega arith) ∙ take_more set at name lt ∙ ap (λ m. take at set ++ m ∷ []) (sym is)
 
 all_known : (links : List Link) → ((l : Link) → Contains links l → AreKnown links l.direct) → (l : Link) → Contains links l → (n : Name) → Contains l.direct n → Contains (names_in links) n
@@ -181,7 +181,7 @@ HasReached-turn links direct set after at name known lt is e h =
         | inl j ↦ h.depends n j
         | inr j ↦ by_another j.link n j.held (subst (λ m. DependsOn links direct m) (sym j.named) (h.depends name held)) j.has
       ];
-      closed = λ l n within done has. elim (Contains-push_cases (take at set) name l.name (subst (λ ns. Contains ns l.name) (turned (names_in links) set after at name lt is on) done)) [
+      closed = λ l n within done has. elim (Contains-push_cases (take at set) name l.name (subst (λ ns. Contains ns l.name) (take-turned (names_in links) set after at name lt is on) done)) [
         | inl j ↦ kept (names_in links) set after n on (h.closed l n within j has)
         | inr same ↦ subst (λ ns. Contains ns n) (sym e) (to_links name links set l n within (sym same) has)
       ];

@@ -11,7 +11,7 @@ use Rattle.mz_turns.specs.Row.{Row, Claimed, is_settled, is_claimed, is_accepted
 use Rattle.mz_turns.specs.Dependencies.{place_of}
 use Rattle.mz_turns.specs.Library.{library_of, is_used_by, environment}
 use Rattle.mz_turns.specs.declared.turn.Turn.TheVariants.{Take}
-use Rattle.mz_turns.proofs.RowLemmas.{true_false, same_article, put_same}
+use Rattle.mz_turns.proofs.RowLemmas.{true_false, same_article, row_at-put_same}
 use Rattle.mz_turns.proofs.NameLemmas.{articles_of, same_place}
 use Rattle.mz_turns.proofs.LibraryLemmas.{library_same}
 use Rattle.mz_turns.proofs.OnceLemmas.{blocks_once}
@@ -28,7 +28,7 @@ use Rattle.mz_desk.specs.declared.job.Why.TheVariants.{NotClaimed, Text, Vocabul
 use Rattle.mz_desk.specs.declared.claim.Claim.{Claim}
 use Rattle.mz_desk.specs.declared.claim.Claim.TheVariants as claim
 use Rattle.mz_desk.proofs.DifferenceLemmas.{same_number_of}
-use Rattle.mz_desk.proofs.DeskLemmas.{named_at, waiting_beyond}
+use Rattle.mz_desk.proofs.DeskLemmas.{named_at, row_at-waiting_beyond}
 
 -- why a result is refused
 claimed_strays : (c : List Article) (rows : List Row) (j : Job) (o : Option RowState) → IsClaimedFor c rows j → Strays c rows j (NotClaimed o) → ⊥
@@ -151,7 +151,7 @@ taken_stands s new w j corpus whole x =
         article = a;
         is_at = ap (slice_get c) place ∙ x.job.is_at;
         named = x.job.named;
-        claimed = ap (row_at after) place ∙ (put_same s.rows r (Claimed w) l ∙ ap Claimed (sym x.job.worker));
+        claimed = ap (row_at after) place ∙ (row_at-put_same s.rows r (Claimed w) l ∙ ap Claimed (sym x.job.worker));
       };
       input = record {
         text = x.job.input.text;
@@ -167,7 +167,7 @@ one_claimed rows k l h i first other =
 
 pub claimed_within : (rows : List Row) (k : ℕ) → is_claimed (row_at rows k) ≡ true → (k < length rows) ⊎ (length rows ≤ k) → k < length rows
 claimed_within rows k h (inl lt) = lt
-claimed_within rows k h (inr le) = absurd (true_false (is_claimed (row_at rows k)) h (ap is_claimed (waiting_beyond rows k le)))
+claimed_within rows k h (inr le) = absurd (true_false (is_claimed (row_at rows k)) h (ap is_claimed (row_at-waiting_beyond rows k le)))
 
 not_finished : (s : State) → length s.rows ≡ length s.corpus.articles → (k : ℕ) → is_claimed (row_at s.rows k) ≡ true → AllAreSettled s → ⊥
 not_finished s whole k h all =

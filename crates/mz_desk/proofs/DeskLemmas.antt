@@ -23,7 +23,7 @@ use Rattle.mz_turns.proofs.NameLemmas.{articles_of}
 use Rattle.mz_turns.proofs.GoodLemmas.{Good}
 use Rattle.mz_turns.proofs.MachineLemmas.{replays_good, name_taken}
 use Rattle.mz_rows.specs.Table.{is_ready}
-use Rattle.mz_rows.proofs.ReadyLemmas.{ready_is, claimed_is, weight_put}
+use Rattle.mz_rows.proofs.ReadyLemmas.{ready_is, claimed_is, sum-weight_put}
 use Rattle.mz_rows.proofs.StoredLemmas.{some_article}
 use Rattle.mz_rows.proofs.ReachLemmas.{reached_of}
 use Rattle.mz_rows.proofs.ProgressLemmas.{none_ready, unclaimed_wait, all_settled_rows}
@@ -43,11 +43,11 @@ pub taken_turn : (is_outcome : OutcomeRelation) (c : List Article) (ts ts2 : Lis
 taken_turn is_outcome c ts ts2 rows after r w p h e f =
     turned is_outcome c ts ts2 rows (slice_set rows r (Claimed w)) after (Take r w) p e f (take r w rows (ready_is c rows r h))
 
-pub taken_count : (c : List Article) (rows after : List Row) (r w : ℕ) → length rows ≡ length c → is_ready c rows r ≡ true → after ≡ slice_set rows r (Claimed w) → sum_by claim_weight after ≡ sum_by claim_weight rows + 1
-taken_count c rows after r w whole h e =
+pub sum_by-taken_count : (c : List Article) (rows after : List Row) (r w : ℕ) → length rows ≡ length c → is_ready c rows r ≡ true → after ≡ slice_set rows r (Claimed w) → sum_by claim_weight after ≡ sum_by claim_weight rows + 1
+sum_by-taken_count c rows after r w whole h e =
     let ready = ready_is c rows r h in
     let l : r < length rows = subst (λ n. r < n) (sym whole) (slice_get_within c r ready.article ready.is_at) in
-    let s : sum_by claim_weight (slice_set rows r (Claimed w)) + 0 ≡ sum_by claim_weight rows + 1 = weight_put claim_weight rows r (Claimed w) Waiting l ready.waits in
+    let s : sum_by claim_weight (slice_set rows r (Claimed w)) + 0 ≡ sum_by claim_weight rows + 1 = sum-weight_put claim_weight rows r (Claimed w) Waiting l ready.waits in
     ap (sum_by claim_weight) e ∙ omega (arith, s)
 
 start_text : (o : Option (List ℕ)) (b : Bool) → start_of o b ≡ Waiting → o ≡ None → ⊥
@@ -77,11 +77,11 @@ outcome_weight : (o : Outcome) → claim_weight (row_of o) ≡ 0
 outcome_weight (outcome.Accepted e) = refl
 outcome_weight (outcome.Rejected fs) = refl
 
-pub published_count : (c : List Article) (rows : List Row) (j : Job) (o : Outcome) → length rows ≡ length c → Stands c rows j → sum_by claim_weight (slice_set rows (place_of c j.name) (row_of o)) + 1 ≡ sum_by claim_weight rows
-published_count c rows j o whole stands =
+pub sum_by-published_count : (c : List Article) (rows : List Row) (j : Job) (o : Outcome) → length rows ≡ length c → Stands c rows j → sum_by claim_weight (slice_set rows (place_of c j.name) (row_of o)) + 1 ≡ sum_by claim_weight rows
+sum_by-published_count c rows j o whole stands =
     let k = stands.claim in
     let l : place_of c j.name < length rows = subst (λ n. place_of c j.name < n) (sym whole) (slice_get_within c (place_of c j.name) k.article k.is_at) in
-    let s : sum_by claim_weight (slice_set rows (place_of c j.name) (row_of o)) + 1 ≡ sum_by claim_weight rows + claim_weight (row_of o) = weight_put claim_weight rows (place_of c j.name) (row_of o) (Claimed j.worker) l k.claimed in
+    let s : sum_by claim_weight (slice_set rows (place_of c j.name) (row_of o)) + 1 ≡ sum_by claim_weight rows + claim_weight (row_of o) = sum-weight_put claim_weight rows (place_of c j.name) (row_of o) (Claimed j.worker) l k.claimed in
     omega (arith, s, outcome_weight o)
 
 pub published_fresh : (is_outcome : OutcomeRelation) → AnswersName is_outcome → (k : Corpus) → IsCorpus k → (rows : List Row) → Good is_outcome k.articles rows → (j : Job) (o : Outcome) → Stands k.articles rows j → IsOutcomeOf is_outcome j o → IsFreshFor rows o
@@ -101,7 +101,7 @@ reclaimed_turn is_outcome c ts ts2 rows after r p h e f =
 pub some_claim : (rows : List Row) (r : ℕ) → r < length rows → is_claimed (row_at rows r) ≡ true → 1 ≤ sum_by claim_weight rows
 some_claim rows r l h =
     let w = claimed_is (row_at rows r) h in
-    let s : sum_by claim_weight (slice_set rows r Waiting) + 1 ≡ sum_by claim_weight rows + 0 = weight_put claim_weight rows r Waiting (Claimed w.0) l w.1 in
+    let s : sum_by claim_weight (slice_set rows r Waiting) + 1 ≡ sum_by claim_weight rows + 0 = sum-weight_put claim_weight rows r Waiting (Claimed w.0) l w.1 in
     omega (arith, s)
 
 freed_weight : (x : Row) → claim_weight (freed x) ≡ 0
@@ -137,14 +137,14 @@ named_at (b ∷ c) zero a n h e = subst (λ m. Contains (names_of (b ∷ c)) m) 
 named_at (b ∷ c) (suc r) a n h e = there b.name n (names_of c) (named_at c r a n h e)
 
 -- no row is claimed
-pub waiting_beyond : (rows : List Row) (k : ℕ) → length rows ≤ k → row_at rows k ≡ Waiting
-waiting_beyond [] k h = refl
-waiting_beyond (x ∷ rows) zero h = absurd (omega (arith, h))
-waiting_beyond (x ∷ rows) (suc k) h = waiting_beyond rows k (omega (arith, h))
+pub row_at-waiting_beyond : (rows : List Row) (k : ℕ) → length rows ≤ k → row_at rows k ≡ Waiting
+row_at-waiting_beyond [] k h = refl
+row_at-waiting_beyond (x ∷ rows) zero h = absurd (omega (arith, h))
+row_at-waiting_beyond (x ∷ rows) (suc k) h = row_at-waiting_beyond rows k (omega (arith, h))
 
 unclaimed_at : (rows : List Row) → ((r : ℕ) → r < length rows → is_claimed (row_at rows r) ≡ false) → (k : ℕ) → (k < length rows) ⊎ (length rows ≤ k) → is_claimed (row_at rows k) ≡ false
 unclaimed_at rows free k (inl lt) = free k lt
-unclaimed_at rows free k (inr le) = ap is_claimed (waiting_beyond rows k le)
+unclaimed_at rows free k (inr le) = ap is_claimed (row_at-waiting_beyond rows k le)
 
 -- where no row is ready and none is claimed, all are settled
 pub all_finished : (is_outcome : OutcomeRelation) → AnswersName is_outcome → (k : Corpus) → IsCorpus k → (ts : List Turn) (rows : List Row) → Replays is_outcome k.articles ts rows → ((r : ℕ) → r < length k.articles → is_ready k.articles rows r ≡ false) → ((r : ℕ) → r < length rows → is_claimed (row_at rows r) ≡ false) → (r : ℕ) → r < length k.articles → is_settled (row_at rows r) ≡ true

@@ -31,16 +31,16 @@ pub above_more : {X : Type 0} (key : X → ℕ) (m n : ℕ) (xs : List X) → m 
 above_more key m n [] lt h = tt
 above_more key m n (x ∷ xs) lt h = (omega (arith, lt, h.0), above_more key m n xs lt h.1)
 
-passed : {X V : Type 0} (key : X → ℕ) (value : X → Option V) (x : X) (xs : List X) (n : ℕ) → n < key x → value_at key value (x ∷ xs) n ≡ value_at key value xs n
-passed key value x xs n lt = ap (λ b. if b then value x else value_at key value xs n) (other_number (key x) n lt)
+value_at-passed : {X V : Type 0} (key : X → ℕ) (value : X → Option V) (x : X) (xs : List X) (n : ℕ) → n < key x → value_at key value (x ∷ xs) n ≡ value_at key value xs n
+value_at-passed key value x xs n lt = ap (λ b. if b then value x else value_at key value xs n) (other_number (key x) n lt)
 
-found : {X V : Type 0} (key : X → ℕ) (value : X → Option V) (x : X) (xs : List X) (n : ℕ) → key x ≡ n → value_at key value (x ∷ xs) n ≡ value x
-found key value x xs n e = ap (λ b. if b then value x else value_at key value xs n) (same_number (key x) n e)
+value_at-found : {X V : Type 0} (key : X → ℕ) (value : X → Option V) (x : X) (xs : List X) (n : ℕ) → key x ≡ n → value_at key value (x ∷ xs) n ≡ value x
+value_at-found key value x xs n e = ap (λ b. if b then value x else value_at key value xs n) (same_number (key x) n e)
 
 -- no element has the number where all are above it
 pub value_below : {X V : Type 0} (key : X → ℕ) (value : X → Option V) (xs : List X) (n : ℕ) → AreAbove key n xs → value_at key value xs n ≡ None
 value_below key value [] n h = refl
-value_below key value (x ∷ xs) n h = passed key value x xs n h.0 ∙ value_below key value xs n h.1
+value_below key value (x ∷ xs) n h = value_at-passed key value x xs n h.0 ∙ value_below key value xs n h.1
 
 some_is_not_none : {V : Type 0} (o : Option V) → is_some o ≡ true → o ≡ None → ⊥
 some_is_not_none None h e = cc
@@ -49,7 +49,7 @@ some_is_not_none (Some v) h e = cc
 -- the first list has the lower number
 pub lower_first : {X V : Type 0} (key : X → ℕ) (value : X → Option V) (x : X) (xs ys : List X) → AreRising key (x ∷ xs) → HaveValues value (x ∷ xs) → AreAbove key (key x) ys → IsFirstDifference (value_at key value (x ∷ xs)) (value_at key value ys) (key x)
 lower_first key value x xs ys rising some above = record {
-  differs = λ e. some_is_not_none (value x) some.0 (sym (found key value x xs (key x) refl) ∙ (e ∙ value_below key value ys (key x) above));
+  differs = λ e. some_is_not_none (value x) some.0 (sym (value_at-found key value x xs (key x) refl) ∙ (e ∙ value_below key value ys (key x) above));
   before = λ m lt. value_below key value (x ∷ xs) m (lt, above_more key m (key x) xs lt rising.0) ∙ sym (value_below key value ys m (above_more key m (key x) ys lt above));
 }
 
@@ -59,7 +59,7 @@ swapped f g n h = record { differs = λ e. h.differs (sym e); before = λ m lt. 
 -- the first elements have one number and different values
 pub values_first : {X V : Type 0} (key : X → ℕ) (value : X → Option V) (x y : X) (xs ys : List X) → AreRising key (x ∷ xs) → AreRising key (y ∷ ys) → key x ≡ key y → (value x ≡ value y → ⊥) → IsFirstDifference (value_at key value (x ∷ xs)) (value_at key value (y ∷ ys)) (key x)
 values_first key value x y xs ys rising other same differ = record {
-  differs = λ e. differ (sym (found key value x xs (key x) refl) ∙ (e ∙ found key value y ys (key x) (sym same)));
+  differs = λ e. differ (sym (value_at-found key value x xs (key x) refl) ∙ (e ∙ value_at-found key value y ys (key x) (sym same)));
   before = λ m lt.
       value_below key value (x ∷ xs) m (lt, above_more key m (key x) xs lt rising.0)
       ∙ sym (value_below key value (y ∷ ys) m (omega (arith, lt, same), above_more key m (key y) ys (omega (arith, lt, same)) other.0));
@@ -136,8 +136,8 @@ rest_matches key value r xs ys x y rest more ex ey rising other same m =
     (λ n h. at key value xs (x ∷ rest) ys (y ∷ more) n.number n.number ex ey refl (rest_first key value x y rest more n.number (subst (AreRising key) ex rising) (subst (AreRising key) ey other) same h)) m
 
 -- a library's exports, as they are taken apart
-pub own_first : {Y : Type 0} (p : Export → Bool) (g : Y → Export) (ys : List Y) (y : Y) (rest : List Y) → ys ≡ y ∷ rest → p (g y) ≡ true → filter p (map g ys) ≡ g y ∷ filter p (map g rest)
-own_first p g ys y rest e h = ap (λ z. filter p (map g z)) e ∙ ap (λ b. if b then g y ∷ filter p (map g rest) else filter p (map g rest)) h
+pub filter-own_first : {Y : Type 0} (p : Export → Bool) (g : Y → Export) (ys : List Y) (y : Y) (rest : List Y) → ys ≡ y ∷ rest → p (g y) ≡ true → filter p (map g ys) ≡ g y ∷ filter p (map g rest)
+filter-own_first p g ys y rest e h = ap (λ z. filter p (map g z)) e ∙ ap (λ b. if b then g y ∷ filter p (map g rest) else filter p (map g rest)) h
 
 pub all_itself : (es : List Export) → HaveValues itself es
 all_itself [] = tt

@@ -8,13 +8,13 @@ use Rattle.std.proofs.lemmas.List.Folds.{list_any-append}
 use Rattle.mz_base.specs.declared.name.Name.{Name}
 use Rattle.mz_env.specs.Symbols.{is_numbered, is_among, AreNumbers}
 
-either : (b x : Bool) → cond b true x ≡ (x || (b || false))
-either true true = refl
-either true false = refl
-either false true = refl
-either false false = refl
+cond-either : (b x : Bool) → cond b true x ≡ (x || (b || false))
+cond-either true true = refl
+cond-either true false = refl
+cond-either false true = refl
+cond-either false false = refl
 
 pub numbers_more : (ns ms : List Name) (n : Name) (s t : BTreeSet ℕ) → AreNumbers ns s → ms ≡ ns ++ n ∷ [] → ((q : ℕ) → contains nat_cmp t q ≡ cond (eq_by_cmp nat_cmp n.number q) true (contains nat_cmp s q)) → AreNumbers ms t
 numbers_more ns ms n s t a e put q =
-    put q ∙ ((λ i. cond (unsigned_tied n.number q i) true (a q i)) ∙ (either (nat_eq n.number q) (is_among q ns)
+    put q ∙ ((λ i. cond (unsigned_tied n.number q i) true (a q i)) ∙ (cond-either (nat_eq n.number q) (is_among q ns)
     ∙ (sym (list_any-append (is_numbered q) ns (n ∷ [])) ∙ ap (is_among q) (sym e))))

@@ -9,25 +9,25 @@ use Rattle.mz_env.specs.Visits.{export_named}
 abbrev pub IsNamed : {Y Z : Type 0} → (Y → Export) → (Z → Export) → List Y → ℕ → Option Z → Type 0
 IsNamed g v ys n r = MatchOption r (export_named (map g ys) n ≡ None) (λ z. export_named (map g ys) n ≡ Some (v z))
 
-chosen_first : {X : Type 0} (b : Bool) (x y : X) → b ≡ true → (if b then x else y) ≡ x
-chosen_first true x y h = refl
-chosen_first false x y h = cc
+if-chosen_first : {X : Type 0} (b : Bool) (x y : X) → b ≡ true → (if b then x else y) ≡ x
+if-chosen_first true x y h = refl
+if-chosen_first false x y h = cc
 
-chosen_last : {X : Type 0} (b : Bool) (x y : X) → b ≡ false → (if b then x else y) ≡ y
-chosen_last true x y h = cc
-chosen_last false x y h = refl
+if-chosen_last : {X : Type 0} (b : Bool) (x y : X) → b ≡ false → (if b then x else y) ≡ y
+if-chosen_last true x y h = cc
+if-chosen_last false x y h = refl
 
-pub none_found : {Y : Type 0} (g : Y → Export) (ys : List Y) (n : ℕ) → length ys ≡ 0 → export_named (map g ys) n ≡ None
-none_found g [] n h = refl
-none_found g (y ∷ ys) n h = absurd (omega (arith, h))
+pub export_named-none_found : {Y : Type 0} (g : Y → Export) (ys : List Y) (n : ℕ) → length ys ≡ 0 → export_named (map g ys) n ≡ None
+export_named-none_found g [] n h = refl
+export_named-none_found g (y ∷ ys) n h = absurd (omega (arith, h))
 
-pub here_found : {Y : Type 0} (g : Y → Export) (ys : List Y) (y : Y) (rest : List Y) (n : ℕ) → ys ≡ y ∷ rest → (g y).name.number ≡ n → export_named (map g ys) n ≡ Some (g y)
-here_found g ys y rest n e same =
-    ap (λ zs. export_named (map g zs) n) e ∙ chosen_first (nat_eq (g y).name.number n) (Some (g y)) (export_named (map g rest) n) (eq-eqb (g y).name.number n same)
+pub export_named-here_found : {Y : Type 0} (g : Y → Export) (ys : List Y) (y : Y) (rest : List Y) (n : ℕ) → ys ≡ y ∷ rest → (g y).name.number ≡ n → export_named (map g ys) n ≡ Some (g y)
+export_named-here_found g ys y rest n e same =
+    ap (λ zs. export_named (map g zs) n) e ∙ if-chosen_first (nat_eq (g y).name.number n) (Some (g y)) (export_named (map g rest) n) (eq-eqb (g y).name.number n same)
 
 past : {Y Z : Type 0} (g : Y → Export) (v : Z → Export) (y : Y) (rest : List Y) (n : ℕ) (r : Option Z) → ((g y).name.number ≡ n → ⊥) → IsNamed g v rest n r → IsNamed g v (y ∷ rest) n r
-past g v y rest n None other h = chosen_last (nat_eq (g y).name.number n) (Some (g y)) (export_named (map g rest) n) (ne_eqb (g y).name.number n other) ∙ h
-past g v y rest n (Some z) other h = chosen_last (nat_eq (g y).name.number n) (Some (g y)) (export_named (map g rest) n) (ne_eqb (g y).name.number n other) ∙ h
+past g v y rest n None other h = if-chosen_last (nat_eq (g y).name.number n) (Some (g y)) (export_named (map g rest) n) (ne_eqb (g y).name.number n other) ∙ h
+past g v y rest n (Some z) other h = if-chosen_last (nat_eq (g y).name.number n) (Some (g y)) (export_named (map g rest) n) (ne_eqb (g y).name.number n other) ∙ h
 
 pub later_found : {Y Z : Type 0} (g : Y → Export) (v : Z → Export) (ys : List Y) (y : Y) (rest : List Y) (n : ℕ) (r : Option Z) → ys ≡ y ∷ rest → ((g y).name.number ≡ n → ⊥) → IsNamed g v rest n r → IsNamed g v ys n r
 later_found g v ys y rest n r e other h = subst (λ zs. IsNamed g v zs n r) (sym e) (past g v y rest n r other h)

@@ -103,9 +103,9 @@ after_fault : {exports : List Export} {articles begun : List Name} {d : Directed
 after_fault f is (fails k at o_is) = ap Err (one_value _ f k is at) ∙ sym o_is
 after_fault f is (goes_on es none reaches g o_is) = absurd (none_or_some _ f none is)
 
-after_let_in : {exports : List Export} {articles begun later : List Name} {d : Directed} {ds : List Directed} {rest p : Result Environment EnvFault} (es : List Export) → fault_of exports articles d.kind d.name d.place ≡ None → Reaches exports begun d.kind d.name later es → ((q : Result Environment EnvFault) → Gives exports articles later ds q → rest ≡ q) → First exports articles begun d ds p → behind (shares_of articles d.kind es) rest ≡ p
-after_let_in es is reaches each (fails k at o_is) = absurd (none_or_some _ k is at)
-after_let_in {exports = exports} {articles = articles} {begun = begun} {later = later} {d = d} {ds = ds} {rest = rest} es is reaches each (goes_on {later = others} {rest = other} fs none leads h o_is) =
+behind-after_let_in : {exports : List Export} {articles begun later : List Name} {d : Directed} {ds : List Directed} {rest p : Result Environment EnvFault} (es : List Export) → fault_of exports articles d.kind d.name d.place ≡ None → Reaches exports begun d.kind d.name later es → ((q : Result Environment EnvFault) → Gives exports articles later ds q → rest ≡ q) → First exports articles begun d ds p → behind (shares_of articles d.kind es) rest ≡ p
+behind-after_let_in es is reaches each (fails k at o_is) = absurd (none_or_some _ k is at)
+behind-after_let_in {exports = exports} {articles = articles} {begun = begun} {later = later} {d = d} {ds = ds} {rest = rest} es is reaches each (goes_on {later = others} {rest = other} fs none leads h o_is) =
     let same : Alike later es others fs = one_reach exports begun later others d.kind d.name es fs reaches leads in
     let ends : rest ≡ other = each other (subst (λ b. Gives exports articles b ds other) (sym same.0) h) in
     (λ i. behind (shares_of articles d.kind (same.1 i)) (ends i)) ∙ sym o_is
@@ -113,7 +113,7 @@ after_let_in {exports = exports} {articles = articles} {begun = begun} {later = 
 pub one_given : {exports : List Export} {articles begun : List Name} {ds : List Directed} {o p : Result Environment EnvFault} → Gives exports articles begun ds o → Gives exports articles begun ds p → o ≡ p
 one_given rule.nothing h = none_given h
 one_given (rule.refused d ds f is) h = after_fault f is (first_of h)
-one_given (rule.let_in d ds es is reaches g) h = after_let_in es is reaches (λ q x. one_given g x) (first_of h)
+one_given (rule.let_in d ds es is reaches g) h = behind-after_let_in es is reaches (λ q x. one_given g x) (first_of h)
 
 pub one_outcome_law : OneOutcomeLaw
 one_outcome_law head exports o p v w =

@@ -47,14 +47,14 @@ joined_assoc e f g i = record {
   schemes = append_assoc e.schemes f.schemes g.schemes i;
 }
 
-split : {X : Type 0} (xs : List X) (i : ℕ) (x : X) → i < length xs → x ≡ get_or xs i x → drop i xs ≡ x ∷ drop (i + 1) xs
-split xs i x lt at = rw (add-one, drop-cons xs i x) (ap (λ y. y ∷ drop (suc i) xs) (sym at))
+drop-split : {X : Type 0} (xs : List X) (i : ℕ) (x : X) → i < length xs → x ≡ get_or xs i x → drop i xs ≡ x ∷ drop (i + 1) xs
+drop-split xs i x lt at = rw (add-one, drop-cons xs i x) (ap (λ y. y ∷ drop (suc i) xs) (sym at))
 
 -- a turn of the loop over items, and its end
 pub told_share : (articles : List Name) (kind : DirectiveKind) (xs : List Item) (i : ℕ) (x : Item) (out now whole : Environment) (at next : Numbering) → i < length xs → x ≡ get_or xs i x → now ≡ joined out (share articles kind at x) → next ≡ numbered at x → joined out (shares articles kind at (drop i xs)) ≡ whole → joined now (shares articles kind next (drop (i + 1) xs)) ≡ whole
 told_share articles kind xs i x out now whole at next lt is now_is next_is goes =
     let rest : Environment = shares articles kind (numbered at x) (drop (i + 1) xs) in
-    let cut : drop i xs ≡ x ∷ drop (i + 1) xs = split xs i x lt is in
+    let cut : drop i xs ≡ x ∷ drop (i + 1) xs = drop-split xs i x lt is in
     (λ j. joined (now_is j) (shares articles kind (next_is j) (drop (i + 1) xs))) ∙
     (joined_assoc out (share articles kind at x) rest ∙
     (sym (λ j. joined out (shares articles kind at (cut j))) ∙ goes))
@@ -66,13 +66,13 @@ told_shared articles kind xs i out whole at past goes =
 pub ruleset share_rules = (told_share, told_shared)
 
 -- of the loop over articles
-named_split : (es : List Export) (i : ℕ) (e : Export) → slice_get es i ≡ Some e → drop i es ≡ e ∷ drop (i + 1) es
-named_split es i e at = split es i e (slice_get_within es i e at) (sym (get_or_from_slice_get es i e e at))
+drop-named_split : (es : List Export) (i : ℕ) (e : Export) → slice_get es i ≡ Some e → drop i es ≡ e ∷ drop (i + 1) es
+drop-named_split es i e at = drop-split es i e (slice_get_within es i e at) (sym (get_or_from_slice_get es i e e at))
 
 pub told_article : (articles : List Name) (kind : DirectiveKind) (es : List Export) (i : ℕ) (e : Export) (out now whole : Environment) → slice_get es i ≡ Some e → now ≡ joined out (shares articles kind (at_start e.name.number) e.items) → joined out (shares_of articles kind (drop i es)) ≡ whole → joined now (shares_of articles kind (drop (i + 1) es)) ≡ whole
 told_article articles kind es i e out now whole at now_is goes =
     let rest : Environment = shares_of articles kind (drop (i + 1) es) in
-    let cut : drop i es ≡ e ∷ drop (i + 1) es = named_split es i e at in
+    let cut : drop i es ≡ e ∷ drop (i + 1) es = drop-named_split es i e at in
     (λ j. joined (now_is j) rest) ∙
     (joined_assoc out (shares articles kind (at_start e.name.number) e.items) rest ∙
     (sym (λ j. joined out (shares_of articles kind (cut j))) ∙ goes))
@@ -87,7 +87,7 @@ pub ruleset article_rules = (told_article, told_articles)
 pub told_whole : (xs : List Item) (i : ℕ) (x : Item) (out now whole : Environment) (at next : Numbering) → i < length xs → x ≡ get_or xs i x → now ≡ joined out (of_item at x) → next ≡ numbered at x → joined out (wholes at (drop i xs)) ≡ whole → joined now (wholes next (drop (i + 1) xs)) ≡ whole
 told_whole xs i x out now whole at next lt is now_is next_is goes =
     let rest : Environment = wholes (numbered at x) (drop (i + 1) xs) in
-    let cut : drop i xs ≡ x ∷ drop (i + 1) xs = split xs i x lt is in
+    let cut : drop i xs ≡ x ∷ drop (i + 1) xs = drop-split xs i x lt is in
     (λ j. joined (now_is j) (wholes (next_is j) (drop (i + 1) xs))) ∙
     (joined_assoc out (of_item at x) rest ∙
     (sym (λ j. joined out (wholes at (cut j))) ∙ goes))

@@ -44,8 +44,8 @@ told_alone o e before es some none one = one ∙ (ap (λ b. b ++ e ∷ []) none 
 pub ruleset alone_rules = (told_alone_none, told_alone)
 
 -- the loop over names
-cut : (ds : List Directed) (i : ℕ) (d : Directed) → i < length ds → d ≡ get_or ds i d → d ∷ drop (i + 1) ds ≡ drop i ds
-cut ds i d lt at = sym (rw (add-one, drop-cons ds i d) (ap (λ y. y ∷ drop (suc i) ds) (sym at)))
+cons-cut : (ds : List Directed) (i : ℕ) (d : Directed) → i < length ds → d ≡ get_or ds i d → d ∷ drop (i + 1) ds ≡ drop i ds
+cons-cut ds i d lt at = sym (rw (add-one, drop-cons ds i d) (ap (λ y. y ∷ drop (suc i) ds) (sym at)))
 
 behind_assoc : (e f : Environment) (o : Result Environment EnvFault) → behind (joined e f) o ≡ behind e (behind f o)
 behind_assoc e f (Ok g) = ap Ok (joined_assoc e f g)
@@ -60,7 +60,7 @@ told_first exports articles start ds first env is told gives = (told, gives, ap 
 
 pub told_refused : (exports : List Export) (articles start begun : List Name) (ds : List Directed) (i : ℕ) (d : Directed) (first env : Environment) (f : EnvFault) (o : Option EnvFault) → i < length ds → d ≡ get_or ds i d → o ≡ fault_of exports articles d.kind d.name d.place → o ≡ Some f → Goes exports articles start ds first begun (drop i ds) env → GivesBehind exports articles start ds first (Err f)
 told_refused exports articles start begun ds i d first env f o lt at is some goes =
-    goes (Err f) (subst (λ ks. Gives exports articles begun ks (Err f)) (cut ds i d lt at) (refused d (drop (i + 1) ds) f (sym is ∙ some)))
+    goes (Err f) (subst (λ ks. Gives exports articles begun ks (Err f)) (cons-cut ds i d lt at) (refused d (drop (i + 1) ds) f (sym is ∙ some)))
 
 pub told_turn : (exports : List Export) (articles start begun later : List Name) (ds : List Directed) (i : ℕ) (d : Directed) (first env now : Environment) (es : List Export) (o : Option EnvFault) → i < length ds → d ≡ get_or ds i d → o ≡ fault_of exports articles d.kind d.name d.place → o ≡ None → Reaches exports begun d.kind d.name later es → now ≡ joined env (shares_of articles d.kind es) → Goes exports articles start ds first begun (drop i ds) env → Goes exports articles start ds first later (drop (i + 1) ds) now
 told_turn exports articles start begun later ds i d first env now es o lt at is none reaches all goes told gives =
@@ -68,7 +68,7 @@ told_turn exports articles start begun later ds i d first env now es o lt at is 
     let whole : Result Environment EnvFault = behind (shares_of articles d.kind es) told in
     let here : Gives exports articles begun (d ∷ drop (i + 1) ds) whole = let_in d (drop (i + 1) ds) es (sym is ∙ none) reaches gives in
     let back : behind env (behind (shares_of articles d.kind es) told) ≡ behind now told = sym (ap (λ e. behind e told) all ∙ behind_assoc env (shares_of articles d.kind es) told) in
-    subst (GivesBehind exports articles start ds first) back (goes whole (subst (λ ks. Gives exports articles begun ks whole) (cut ds i d lt at) here))
+    subst (GivesBehind exports articles start ds first) back (goes whole (subst (λ ks. Gives exports articles begun ks whole) (cons-cut ds i d lt at) here))
 
 pub told_end : (exports : List Export) (articles start begun : List Name) (ds : List Directed) (i : ℕ) (first env : Environment) → length ds ≤ i → Goes exports articles start ds first begun (drop i ds) env → GivesBehind exports articles start ds first (Ok env)
 told_end exports articles start begun ds i first env past goes =

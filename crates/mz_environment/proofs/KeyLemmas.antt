@@ -18,14 +18,14 @@ then_tie Less b = refl
 then_tie Equal b = refl
 then_tie Greater b = refl
 
-sym_tie : (k q : (ℕ × ℕ) × ℕ) → (nat_eq k.0.0 q.0.0 && nat_eq k.0.1 q.0.1 && nat_eq k.1 q.1) ≡ eq_by_cmp sym_cmp k q
-sym_tie k q =
+and-sym_tie : (k q : (ℕ × ℕ) × ℕ) → (nat_eq k.0.0 q.0.0 && nat_eq k.0.1 q.0.1 && nat_eq k.1 q.1) ≡ eq_by_cmp sym_cmp k q
+and-sym_tie k q =
     let first : is_eq (ordering_then (nat_cmp k.0.0 q.0.0) (nat_cmp k.0.1 q.0.1)) ≡ (nat_eq k.0.0 q.0.0 && nat_eq k.0.1 q.0.1) =
     then_tie (nat_cmp k.0.0 q.0.0) (nat_cmp k.0.1 q.0.1) ∙ (λ i. unsigned_tied k.0.0 q.0.0 i && unsigned_tied k.0.1 q.0.1 i) in
     sym (then_tie (ordering_then (nat_cmp k.0.0 q.0.0) (nat_cmp k.0.1 q.0.1)) (nat_cmp k.1 q.1) ∙ (λ i. first i && unsigned_tied k.1 q.1 i))
 
 pub told_key : (s : Sym) (k : (ℕ × ℕ) × ℕ) → k ≡ sym_key s → (q : (ℕ × ℕ) × ℕ) → has_key q s ≡ eq_by_cmp sym_cmp k q
-told_key s k e q = sym_tie (sym_key s) q ∙ ap (λ j. eq_by_cmp sym_cmp j q) (sym e)
+told_key s k e q = and-sym_tie (sym_key s) q ∙ ap (λ j. eq_by_cmp sym_cmp j q) (sym e)
 
 pub ruleset key_rules = (told_key)
 
@@ -50,7 +50,7 @@ told_bytes bytes k e q = ap (λ j. bytes_eq j q) (sym e) ∙ sym (is_eq-slice_cm
 
 pub ruleset bytes_rules = (told_bytes)
 
-pub told_number : (n k : ℕ) → k ≡ n → (q : ℕ) → nat_eq n q ≡ eq_by_cmp nat_cmp k q
-told_number n k e q = sym (unsigned_tied n q) ∙ ap (λ j. eq_by_cmp nat_cmp j q) (sym e)
+pub nat_eq-told_number : (n k : ℕ) → k ≡ n → (q : ℕ) → nat_eq n q ≡ eq_by_cmp nat_cmp k q
+nat_eq-told_number n k e q = sym (unsigned_tied n q) ∙ ap (λ j. eq_by_cmp nat_cmp j q) (sym e)
 
-pub ruleset number_rules = (told_number)
+pub ruleset number_rules = (nat_eq-told_number)

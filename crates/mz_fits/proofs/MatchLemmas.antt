@@ -24,19 +24,19 @@ with_values ts (Some us) = Some (ts ++ us)
 pub told_past : (cs : List Clause) (ks : List (Option Constant)) (fs : Fixed) (p : ℕ) (t : Term) → length fs ≤ p → Placed cs ks fs p t None
 told_past cs ks fs p t le = m.no_place (slice_get_past fs p le)
 
-got : (fs : Fixed) (p : ℕ) (x : Option Term) → p < length fs → x ≡ get_or fs p x → slice_get fs p ≡ Some x
-got [] p x lt at = absurd (omega (arith, lt))
-got (s ∷ ss) zero x lt at = ap Some (sym at)
-got (s ∷ ss) (suc p) x lt at = got ss p x (omega (arith, lt)) at
+slice_get-got : (fs : Fixed) (p : ℕ) (x : Option Term) → p < length fs → x ≡ get_or fs p x → slice_get fs p ≡ Some x
+slice_get-got [] p x lt at = absurd (omega (arith, lt))
+slice_get-got (s ∷ ss) zero x lt at = ap Some (sym at)
+slice_get-got (s ∷ ss) (suc p) x lt at = slice_get-got ss p x (omega (arith, lt)) at
 
 pub told_fixed : (cs : List Clause) (ks : List (Option Constant)) (fs : Fixed) (p : ℕ) (t u : Term) (x : Option Term) → p < length fs → x ≡ get_or fs p x → x ≡ None → u ≡ t → Placed cs ks fs p t (Some (slice_set fs p (Some u)))
-told_fixed cs ks fs p t u x lt at ex same = subst (λ v. Placed cs ks fs p t (Some (slice_set fs p (Some v)))) (sym same) (m.fixes (got fs p x lt at ∙ ap Some ex))
+told_fixed cs ks fs p t u x lt at ex same = subst (λ v. Placed cs ks fs p t (Some (slice_set fs p (Some v)))) (sym same) (m.fixes (slice_get-got fs p x lt at ∙ ap Some ex))
 
 pub told_equal : (cs : List Clause) (ks : List (Option Constant)) (fs : Fixed) (p : ℕ) (t u : Term) (x : Option Term) (b : Bool) → p < length fs → x ≡ get_or fs p x → x ≡ Some u → IsTrue b ↔ AreEqualBy cs ks u t → b ≡ true → Placed cs ks fs p t (Some fs)
-told_equal cs ks fs p t u x b lt at ex i eb = m.equal u (got fs p x lt at ∙ ap Some ex) (i.0 eb)
+told_equal cs ks fs p t u x b lt at ex i eb = m.equal u (slice_get-got fs p x lt at ∙ ap Some ex) (i.0 eb)
 
 pub told_unequal : (cs : List Clause) (ks : List (Option Constant)) (fs : Fixed) (p : ℕ) (t u : Term) (x : Option Term) (b : Bool) → p < length fs → x ≡ get_or fs p x → x ≡ Some u → IsTrue b ↔ AreEqualBy cs ks u t → b ≡ false → Placed cs ks fs p t None
-told_unequal cs ks fs p t u x b lt at ex i eb = m.unequal u (got fs p x lt at ∙ ap Some ex) (λ h. absurd (not_both b eb (i.1 h)))
+told_unequal cs ks fs p t u x b lt at ex i eb = m.unequal u (slice_get-got fs p x lt at ∙ ap Some ex) (λ h. absurd (not_both b eb (i.1 h)))
 
 pub ruleset placed_rules = (told_past, told_fixed, told_equal, told_unequal)
 

@@ -171,9 +171,9 @@ inverted : (t : Term) (o : Option (List Term)) (vs : List Term) → with_value t
 inverted t None vs h = absurd (none_some vs h)
 inverted t (Some ws) vs h = (ws, refl, some-inj (t ∷ ws) vs h)
 
-there : (fs : Fixed) (t : Term) (us : List Term) → ((p : ℕ) (u : Term) → IsFixed fs p u → slice_get us p ≡ Some u) → (p : ℕ) (u : Term) → IsFixed (Some t ∷ fs) p u → slice_get (t ∷ us) p ≡ Some u
-there fs t us f zero u k = some-inj (Some t) (Some u) k
-there fs t us f (suc p) u k = f p u k
+slice_get-there : (fs : Fixed) (t : Term) (us : List Term) → ((p : ℕ) (u : Term) → IsFixed fs p u → slice_get us p ≡ Some u) → (p : ℕ) (u : Term) → IsFixed (Some t ∷ fs) p u → slice_get (t ∷ us) p ≡ Some u
+slice_get-there fs t us f zero u k = some-inj (Some t) (Some u) k
+slice_get-there fs t us f (suc p) u k = f p u k
 
 values_at : (fs : Fixed) (vs : List Term) → values_of fs ≡ Some vs → (length vs ≡ length fs) × ((p : ℕ) (u : Term) → IsFixed fs p u → slice_get vs p ≡ Some u)
 values_at [] vs h = let e : [] ≡ vs = some-inj [] vs h in (ap length (sym e), λ p u k. absurd (none_some (Some u) k))
@@ -181,12 +181,12 @@ values_at (None ∷ fs) vs h = absurd (none_some vs h)
 values_at (Some t ∷ fs) vs h =
     let i : (ws : List Term) × (values_of fs ≡ Some ws) × (t ∷ ws ≡ vs) = inverted t (values_of fs) vs h in
     let rest : (length i.0 ≡ length fs) × ((p : ℕ) (u : Term) → IsFixed fs p u → slice_get i.0 p ≡ Some u) = values_at fs i.0 i.1 in
-    (sym (ap length i.2) ∙ ap suc rest.0, λ p u k. subst (λ (us : List Term). slice_get us p ≡ Some u) i.2 (there fs t i.0 rest.1 p u k))
+    (sym (ap length i.2) ∙ ap suc rest.0, λ p u k. subst (λ (us : List Term). slice_get us p ≡ Some u) i.2 (slice_get-there fs t i.0 rest.1 p u k))
 
-got : (vs : List Term) (p : ℕ) (u : Term) → slice_get vs p ≡ Some u → get_or vs p u ≡ u
-got [] p u h = absurd (none_some u h)
-got (x ∷ xs) zero u h = some-inj x u h
-got (x ∷ xs) (suc p) u h = got xs p u h
+get_or-got : (vs : List Term) (p : ℕ) (u : Term) → slice_get vs p ≡ Some u → get_or vs p u ≡ u
+get_or-got [] p u h = absurd (none_some u h)
+get_or-got (x ∷ xs) zero u h = some-inj x u h
+get_or-got (x ∷ xs) (suc p) u h = get_or-got xs p u h
 
 agrees_at : (scope : ℕ) (fs : Fixed) (vs : List Term) → values_of fs ≡ Some vs → length fs ≡ scope → Agrees scope fs (value_at (reverse vs))
 agrees_at scope fs vs h el i u lt k =
@@ -195,7 +195,7 @@ agrees_at scope fs vs h el i u lt k =
     let inside : i < length vs = omega (arith, lt, el, v.0) in
     let back : i < length (reverse vs) = omega (arith, inside, n) in
     let place : length vs - 1 - i ≡ scope - suc i = omega (arith, el, v.0) in
-    substitute-value_at (reverse vs) i ∙ value_at-within (reverse vs) i u back ∙ get_or-reverse vs i u inside ∙ ap (λ p. get_or vs p u) place ∙ got vs (scope - suc i) u (v.1 (scope - suc i) u k)
+    substitute-value_at (reverse vs) i ∙ value_at-within (reverse vs) i u back ∙ get_or-reverse vs i u inside ∙ ap (λ p. get_or vs p u) place ∙ get_or-got vs (scope - suc i) u (v.1 (scope - suc i) u k)
 
 length_unfixed : (n : ℕ) → length (unfixed n) ≡ n
 length_unfixed zero = refl

@@ -36,11 +36,11 @@ listed_conjunctions-is : (items : List (Next Place ConjunctionNode)) → listed_
 listed_conjunctions-is [] = refl
 listed_conjunctions-is (n ∷ ns) = ap (λ us. conjunction_of n.tree ∷ us) (listed_conjunctions-is ns)
 
-gone : {X : Type 0} (xs : List X) (i : ℕ) → length xs ≤ i → drop i xs ≡ []
-gone [] zero h = refl
-gone [] (suc i) h = refl
-gone (x ∷ xs) zero h = absurd (omega (arith, h))
-gone (x ∷ xs) (suc i) h = gone xs i (omega (arith, h))
+drop-gone : {X : Type 0} (xs : List X) (i : ℕ) → length xs ≤ i → drop i xs ≡ []
+drop-gone [] zero h = refl
+drop-gone [] (suc i) h = refl
+drop-gone (x ∷ xs) zero h = absurd (omega (arith, h))
+drop-gone (x ∷ xs) (suc i) h = drop-gone xs i (omega (arith, h))
 
 -- disjunctions: what the rest gives, all give
 abbrev pub GivesDisjunction : Environment → ℕ → Place → Context → List (Next Place ConjunctionNode) → Result Statement Refusal → Context → Chain Place ConjunctionNode → Type 0
@@ -56,7 +56,7 @@ no_disjuncts e least first c (Err r) = fo.disjunct_refused first c [] r
 no_disjuncts e least first c (Ok s) = fo.no_disjunct first c s
 
 pub told_disjunct_end : (e : Environment) (least : ℕ) (first : Place) (c b : Context) (node : Chain Place ConjunctionNode) (items : List (Next Place ConjunctionNode)) (i : ℕ) (so_far : Result Statement Refusal) → length items ≤ i → GivesDisjunction e least first c (drop i items) so_far b node → ReadsDisjunction e least b (disjunction_of node) so_far
-told_disjunct_end e least first c b node items i so_far le g = g so_far (subst (λ xs. ReadsDisjuncts e least first c (map conjunction_tree xs) so_far so_far) (sym (gone items i le)) (no_disjuncts e least first c so_far))
+told_disjunct_end e least first c b node items i so_far le g = g so_far (subst (λ xs. ReadsDisjuncts e least first c (map conjunction_tree xs) so_far so_far) (sym (drop-gone items i le)) (no_disjuncts e least first c so_far))
 
 pub told_disjunct_stop : (e : Environment) (least : ℕ) (first : Place) (c b : Context) (node : Chain Place ConjunctionNode) (rest : List (Next Place ConjunctionNode)) (so_far : Result Statement Refusal) (r : Refusal) → so_far ≡ Err r → GivesDisjunction e least first c rest so_far b node → ReadsDisjunction e least b (disjunction_of node) (Err r)
 told_disjunct_stop e least first c b node rest so_far r eo g = g (Err r) (subst (λ x. ReadsDisjuncts e least first c (map conjunction_tree rest) x (Err r)) (sym eo) (fo.disjunct_refused first c (map conjunction_tree rest) r))
@@ -87,7 +87,7 @@ no_conjuncts e least first c (Err r) = fo.conjunct_refused first c [] r
 no_conjuncts e least first c (Ok s) = fo.no_conjunct first c s
 
 pub told_conjunct_end : (e : Environment) (least : ℕ) (first : Place) (c b : Context) (node : ConjunctionNode) (items : List (Next Place (Box UnitNode Global))) (i : ℕ) (so_far : Result Statement Refusal) → length items ≤ i → GivesConjunction e least first c (drop i items) so_far b node → ReadsConjunction e least b (conjunction_of node) so_far
-told_conjunct_end e least first c b node items i so_far le g = g so_far (subst (λ xs. ReadsConjuncts e least first c (map unit_tree xs) so_far so_far) (sym (gone items i le)) (no_conjuncts e least first c so_far))
+told_conjunct_end e least first c b node items i so_far le g = g so_far (subst (λ xs. ReadsConjuncts e least first c (map unit_tree xs) so_far so_far) (sym (drop-gone items i le)) (no_conjuncts e least first c so_far))
 
 pub told_conjunct_stop : (e : Environment) (least : ℕ) (first : Place) (c b : Context) (node : ConjunctionNode) (rest : List (Next Place (Box UnitNode Global))) (so_far : Result Statement Refusal) (r : Refusal) → so_far ≡ Err r → GivesConjunction e least first c rest so_far b node → ReadsConjunction e least b (conjunction_of node) (Err r)
 told_conjunct_stop e least first c b node rest so_far r eo g = g (Err r) (subst (λ x. ReadsConjuncts e least first c (map unit_tree rest) x (Err r)) (sym eo) (fo.conjunct_refused first c (map unit_tree rest) r))

@@ -44,8 +44,8 @@ behind_one : (out : List Variable) (v : Variable) (o : Result (List Variable) Re
 behind_one out v (Err r) = refl
 behind_one out v (Ok vs) = ap Ok (append_assoc out (v ∷ []) vs)
 
-pub told_word : (least : ℕ) (c : Context) (rest others : List Word) (w : Word) (out more : List Variable) (o goal : Result Variable Refusal) (v : Variable) (whole : Result (List Variable) Refusal) → rest ≡ w ∷ others → o ≡ reserved_variable least c w → o ≡ Ok v → more ≡ out ++ v ∷ [] → behind out (reserved_each least c rest) ≡ whole → behind more (reserved_each least c others) ≡ whole
-told_word least c rest others w out more o goal v whole er eo ev em h =
+pub behind-told_word : (least : ℕ) (c : Context) (rest others : List Word) (w : Word) (out more : List Variable) (o goal : Result Variable Refusal) (v : Variable) (whole : Result (List Variable) Refusal) → rest ≡ w ∷ others → o ≡ reserved_variable least c w → o ≡ Ok v → more ≡ out ++ v ∷ [] → behind out (reserved_each least c rest) ≡ whole → behind more (reserved_each least c others) ≡ whole
+behind-told_word least c rest others w out more o goal v whole er eo ev em h =
     ap (λ x. behind x (reserved_each least c others)) em ∙ (behind_one out v (reserved_each least c others) ∙
     (ap (λ x. behind out (first_then x (reserved_each least c others))) (sym ev ∙ eo) ∙ (ap (λ ws. behind out (reserved_each least c ws)) (sym er) ∙ h)))
 
@@ -57,14 +57,14 @@ behind_none : (o : Result (List Variable) Refusal) → behind [] o ≡ o
 behind_none (Err r) = refl
 behind_none (Ok vs) = refl
 
-pub told_words : (least : ℕ) (c : Context) (ws : List Word) (out : List Variable) → out ≡ [] → behind out (reserved_each least c ws) ≡ reserved_each least c ws
-told_words least c ws out e = ap (λ x. behind x (reserved_each least c ws)) e ∙ behind_none (reserved_each least c ws)
+pub behind-told_words : (least : ℕ) (c : Context) (ws : List Word) (out : List Variable) → out ≡ [] → behind out (reserved_each least c ws) ≡ reserved_each least c ws
+behind-told_words least c ws out e = ap (λ x. behind x (reserved_each least c ws)) e ∙ behind_none (reserved_each least c ws)
 
-pub ruleset reserved_rules = (told_no_word, told_word, told_unreserved, told_words)
+pub ruleset reserved_rules = (told_no_word, behind-told_word, told_unreserved, behind-told_words)
 
 -- variables put into force
-pub told_put : (c d : Context) (rest others : List Variable) (v : Variable) (goal : Context) → rest ≡ v ∷ others → d ≡ with_constant c (constant_of v) → with_variables c rest ≡ goal → with_variables d others ≡ goal
-told_put c d rest others v goal er ed h = ap (λ x. with_variables x others) ed ∙ (ap (with_variables c) (sym er) ∙ h)
+pub with_variables-told_put : (c d : Context) (rest others : List Variable) (v : Variable) (goal : Context) → rest ≡ v ∷ others → d ≡ with_constant c (constant_of v) → with_variables c rest ≡ goal → with_variables d others ≡ goal
+with_variables-told_put c d rest others v goal er ed h = ap (λ x. with_variables x others) ed ∙ (ap (with_variables c) (sym er) ∙ h)
 
 pub told_all_put : (c : Context) (rest : List Variable) (goal : Context) → length rest ≡ 0 → with_variables c rest ≡ goal → c ≡ goal
 told_all_put c rest goal e h = ap (with_variables c) (sym (empty rest e)) ∙ h
@@ -72,7 +72,7 @@ told_all_put c rest goal e h = ap (with_variables c) (sym (empty rest e)) ∙ h
 pub told_one : (c d : Context) (k : Constant) (v : Variable) → k ≡ constant_of v → d ≡ with_constant c k → d ≡ with_constant c (constant_of v)
 told_one c d k v ek ed = ed ∙ ap (with_constant c) ek
 
-pub ruleset put_rules = (told_put, told_all_put, grown_itself, grown_kept, grown_more, grown_by, grown_add)
+pub ruleset put_rules = (with_variables-told_put, told_all_put, grown_itself, grown_kept, grown_more, grown_by, grown_add)
 
 -- one declared identifier
 declares_as : (e : Environment) (least : ℕ) (s : Declaring) (node other : DeclaredNode) (d : DeclaredData) (o : Result Declaring Refusal) → node ≡ other → declared_of other ≡ d → Declares e least s d o → Declares e least s (declared_of node) o

@@ -18,13 +18,13 @@ pub as_reserved-append : (least : ℕ) (c : Context) (ns ms : List (List ℕ)) �
 as_reserved-append least c [] ms = refl
 as_reserved-append least c (n ∷ ns) ms = ap (λ z. if_typed n (reserved_type least c n) ++ z) (as_reserved-append least c ns ms) ∙ sym (append_assoc (if_typed n (reserved_type least c n)) (as_reserved least c ns) (as_reserved least c ms))
 
-more : (xs : List (List ℕ)) (i : ℕ) (x : List ℕ) → i < length xs → x ≡ get_or xs i x → take (i + 1) xs ≡ take i xs ++ x ∷ []
-more xs i x lt at = take_more xs i x lt ∙ ap (λ z. take i xs ++ z ∷ []) (sym at)
+take-more : (xs : List (List ℕ)) (i : ℕ) (x : List ℕ) → i < length xs → x ≡ get_or xs i x → take (i + 1) xs ≡ take i xs ++ x ∷ []
+take-more xs i x lt at = take_more xs i x lt ∙ ap (λ z. take i xs ++ z ∷ []) (sym at)
 
 pub told_one_more : (out out' xs : List (List ℕ)) (i : ℕ) (x : List ℕ) → i < length xs → x ≡ get_or xs i x → out ≡ once_behind [] (take i xs) → out' ≡ once_more out x → out' ≡ once_behind [] (take (i + 1) xs)
-told_one_more out out' xs i x lt at eo e = e ∙ ap (λ z. once_more z x) eo ∙ sym (ap (λ z. once_behind [] z) (more xs i x lt at) ∙ once_behind-append [] (take i xs) (x ∷ []))
+told_one_more out out' xs i x lt at eo e = e ∙ ap (λ z. once_more z x) eo ∙ sym (ap (λ z. once_behind [] z) (take-more xs i x lt at) ∙ once_behind-append [] (take i xs) (x ∷ []))
 
 pub told_one_typed : (least : ℕ) (c : Context) (out out' : List Variable) (xs : List (List ℕ)) (i : ℕ) (x : List ℕ) → i < length xs → x ≡ get_or xs i x → out ≡ as_reserved least c (take i xs) → out' ≡ out ++ if_typed x (reserved_type least c x) → out' ≡ as_reserved least c (take (i + 1) xs)
 told_one_typed least c out out' xs i x lt at eo e =
     let one : as_reserved least c (x ∷ []) ≡ if_typed x (reserved_type least c x) = append-nil (if_typed x (reserved_type least c x)) in
-    e ∙ ap (λ z. z ++ if_typed x (reserved_type least c x)) eo ∙ sym (ap (λ z. as_reserved least c z) (more xs i x lt at) ∙ as_reserved-append least c (take i xs) (x ∷ []) ∙ ap (λ z. as_reserved least c (take i xs) ++ z) one)
+    e ∙ ap (λ z. z ++ if_typed x (reserved_type least c x)) eo ∙ sym (ap (λ z. as_reserved least c z) (take-more xs i x lt at) ∙ as_reserved-append least c (take i xs) (x ∷ []) ∙ ap (λ z. as_reserved least c (take i xs) ++ z) one)

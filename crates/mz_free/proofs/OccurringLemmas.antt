@@ -52,9 +52,9 @@ drop-at zero (y ∷ ys) x lt e = ap (λ z. z ∷ ys) (sym e)
 drop-at (suc k) (y ∷ ys) x lt e = drop-at k ys x (omega (arith, lt)) e
 
 -- declarations, name by name
-pub told_first : (before out bound waiting : List (List ℕ)) (d : DeclaredNode) (items : List (Next Comma DeclaredNode)) → out ≡ before ++ in_its_type [] (declared_of d) → bound ≡ bound_behind [] [] (declared_of d) → waiting ≡ waiting_behind [] (declared_of d) →
+pub append-told_first : (before out bound waiting : List (List ℕ)) (d : DeclaredNode) (items : List (Next Comma DeclaredNode)) → out ≡ before ++ in_its_type [] (declared_of d) → bound ≡ bound_behind [] [] (declared_of d) → waiting ≡ waiting_behind [] (declared_of d) →
     before ++ in_declared [] [] (declared_of d) (next_declareds_of (map next_declared_of items)) ≡ out ++ in_next_declared bound waiting (next_declareds_of (map next_declared_of (drop 0 items)))
-told_first before out bound waiting d items eo eb ew =
+append-told_first before out bound waiting d items eo eb ew =
     sym (append_assoc before (in_its_type [] (declared_of d)) (in_next_declared (bound_behind [] [] (declared_of d)) (waiting_behind [] (declared_of d)) (next_declareds_of (map next_declared_of items)))) ∙
     ap (λ z. z ++ in_next_declared (bound_behind [] [] (declared_of d)) (waiting_behind [] (declared_of d)) (next_declareds_of (map next_declared_of items))) (sym eo) ∙
     ap (λ z. out ++ in_next_declared z (waiting_behind [] (declared_of d)) (next_declareds_of (map next_declared_of items))) (sym eb) ∙
@@ -72,15 +72,15 @@ told_next whole out now bound waiting bound' waiting' items i x lt e eo eb ew h 
     ap (λ z. now ++ in_next_declared bound' z (next_declareds_of (map next_declared_of (drop (suc i) items)))) (sym ew) ∙
     ap (λ n. now ++ in_next_declared bound' waiting' (next_declareds_of (map next_declared_of (drop n items)))) (sym (add-one i))
 
-gone : {X : Type 0} (xs : List X) (i : ℕ) → length xs ≤ i → drop i xs ≡ []
-gone [] zero h = refl
-gone [] (suc i) h = refl
-gone (x ∷ xs) zero h = absurd (omega (arith, h))
-gone (x ∷ xs) (suc i) h = gone xs i (omega (arith, h))
+drop-gone : {X : Type 0} (xs : List X) (i : ℕ) → length xs ≤ i → drop i xs ≡ []
+drop-gone [] zero h = refl
+drop-gone [] (suc i) h = refl
+drop-gone (x ∷ xs) zero h = absurd (omega (arith, h))
+drop-gone (x ∷ xs) (suc i) h = drop-gone xs i (omega (arith, h))
 
 pub told_last : (whole out bound waiting : List (List ℕ)) (items : List (Next Comma DeclaredNode)) (i : ℕ) → length items ≤ i → whole ≡ out ++ in_next_declared bound waiting (next_declareds_of (map next_declared_of (drop i items))) → out ≡ whole
-told_last whole out bound waiting items i le h = sym (h ∙ ap (λ zs. out ++ in_next_declared bound waiting (next_declareds_of (map next_declared_of zs))) (gone items i le) ∙ append-nil out)
+told_last whole out bound waiting items i le h = sym (h ∙ ap (λ zs. out ++ in_next_declared bound waiting (next_declareds_of (map next_declared_of zs))) (drop-gone items i le) ∙ append-nil out)
 
-pub ruleset declared_rules = (told_first, told_next, told_last)
+pub ruleset declared_rules = (append-told_first, told_next, told_last)
 
 pub ruleset list_rules = (append_assoc, append-nil, term_of-is, operand_of-is, conjunction_of-is, next_names-next_declareds_of, in_pieces-pieces_of, in_prefixes-prefixs_of, in_befores-befores_of, in_next_terms-next_terms_of, in_adjectives-adjectives_of, in_next_conjunctions-next_conjunctions_of, in_next_units-next_units_of)

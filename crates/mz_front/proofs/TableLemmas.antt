@@ -51,20 +51,20 @@ first_from above (l ∷ ls) = or_else (fault_below above l) (first_from (above +
 abbrev RightFrom : List (List ℕ) → List (List ℕ) → Type 0
 RightFrom above lines = (a : List (List ℕ)) (l : List ℕ) (b : List (List ℕ)) → lines ≡ a ++ l ∷ b → fault_below (above ++ a) l ≡ None
 
-first_right : (above : List (List ℕ)) (l : List ℕ) (ls : List (List ℕ)) → RightFrom above (l ∷ ls) → fault_below above l ≡ None
-first_right above l ls h = subst (λ (x : List (List ℕ)). fault_below x l ≡ None) (append-nil above) (h [] l ls refl)
+fault_below-first_right : (above : List (List ℕ)) (l : List ℕ) (ls : List (List ℕ)) → RightFrom above (l ∷ ls) → fault_below above l ≡ None
+fault_below-first_right above l ls h = subst (λ (x : List (List ℕ)). fault_below x l ≡ None) (append-nil above) (h [] l ls refl)
 
 later_right : (above : List (List ℕ)) (l : List ℕ) (ls : List (List ℕ)) → RightFrom above (l ∷ ls) → RightFrom (above ++ l ∷ []) ls
 later_right above l ls h = λ a m b e. subst (λ (x : List (List ℕ)). fault_below x m ≡ None) (sym (append_assoc above (l ∷ []) a)) (h (l ∷ a) m b (ap (λ xs. l ∷ xs) e))
 
 none_from : (above lines : List (List ℕ)) → RightFrom above lines → first_from above lines ≡ None
 none_from above [] h = refl
-none_from above (l ∷ ls) h = ap (λ o. or_else o (first_from (above ++ l ∷ []) ls)) (first_right above l ls h) ∙ none_from (above ++ l ∷ []) ls (later_right above l ls h)
+none_from above (l ∷ ls) h = ap (λ o. or_else o (first_from (above ++ l ∷ []) ls)) (fault_below-first_right above l ls h) ∙ none_from (above ++ l ∷ []) ls (later_right above l ls h)
 
 some_from : (above a : List (List ℕ)) (l : List ℕ) (b : List (List ℕ)) (f : VocFault) → RightFrom above a → fault_below (above ++ a) l ≡ Some f → first_from above (a ++ l ∷ b) ≡ Some f
 some_from above [] l b f h e = ap (λ o. or_else o (first_from (above ++ l ∷ []) b)) (ap (λ (x : List (List ℕ)). fault_below x l) (sym (append-nil above)) ∙ e)
 some_from above (m ∷ a) l b f h e =
-    ap (λ o. or_else o (first_from (above ++ m ∷ []) (a ++ l ∷ b))) (first_right above m a h) ∙ some_from (above ++ m ∷ []) a l b f (later_right above m a h) (ap (λ (x : List (List ℕ)). fault_below x l) (append_assoc above (m ∷ []) a) ∙ e)
+    ap (λ o. or_else o (first_from (above ++ m ∷ []) (a ++ l ∷ b))) (fault_below-first_right above m a h) ∙ some_from (above ++ m ∷ []) a l b f (later_right above m a h) (ap (λ (x : List (List ℕ)). fault_below x l) (append_assoc above (m ∷ []) a) ∙ e)
 
 -- what a vocabulary is
 
@@ -115,27 +115,27 @@ one_given vs known n a b (by_text bytes v h t r) (no_text k u) = absurd (none_or
 one_given vs known n a b (by_text bytes v h t r) (by_text others w k u s) =
     ap (by_voc n.place known) (one_voc others v w (subst (λ (x : List ℕ). ReadsVoc x v) (one_value _ bytes others t u) r) s)
 
-given_clash : (p : Place) (known es : List Entry) → any_clash known es ≡ true → by_voc p known (Ok es) ≡ Err (Some (plain p code.SymbolOfTwoKinds))
-given_clash p known es e = ap (by_clash p known es) e
+by_voc-given_clash : (p : Place) (known es : List Entry) → any_clash known es ≡ true → by_voc p known (Ok es) ≡ Err (Some (plain p code.SymbolOfTwoKinds))
+by_voc-given_clash p known es e = ap (by_clash p known es) e
 
-given_many : (p : Place) (known es : List Entry) → any_clash known es ≡ false → most_symbols < length (joined known es) → by_voc p known (Ok es) ≡ Err (Some (plain p code.TooManySymbols))
-given_many p known es e m = ap (by_clash p known es) e ∙ ap (by_count p (joined known es)) (lt-ltb most_symbols (length (joined known es)) m)
+by_voc-given_many : (p : Place) (known es : List Entry) → any_clash known es ≡ false → most_symbols < length (joined known es) → by_voc p known (Ok es) ≡ Err (Some (plain p code.TooManySymbols))
+by_voc-given_many p known es e m = ap (by_clash p known es) e ∙ ap (by_count p (joined known es)) (lt-ltb most_symbols (length (joined known es)) m)
 
-given_more : (p : Place) (known es : List Entry) → any_clash known es ≡ false → length (joined known es) ≤ most_symbols → by_voc p known (Ok es) ≡ Ok (joined known es)
-given_more p known es e m = ap (by_clash p known es) e ∙ ap (by_count p (joined known es)) (le-ltb most_symbols (length (joined known es)) m)
+by_voc-given_more : (p : Place) (known es : List Entry) → any_clash known es ≡ false → length (joined known es) ≤ most_symbols → by_voc p known (Ok es) ≡ Ok (joined known es)
+by_voc-given_more p known es e m = ap (by_clash p known es) e ∙ ap (by_count p (joined known es)) (le-ltb most_symbols (length (joined known es)) m)
 
 gives_more : (vs : List NamedText) (known : List Entry) (n : PlacedName) (next : List Entry) → Adds vs known n next → Gives vs known n (Ok next)
 gives_more vs known n _ (rule.hidden _ h) = built_in h
-gives_more vs known n _ (rule.vocabulary _ bytes es h t v c m) = subst (Gives vs known n) (given_more n.place known es c m) (by_text bytes (Ok es) h t v)
+gives_more vs known n _ (rule.vocabulary _ bytes es h t v c m) = subst (Gives vs known n) (by_voc-given_more n.place known es c m) (by_text bytes (Ok es) h t v)
 
 gives_fault : (vs : List NamedText) (known : List Entry) (n : PlacedName) (refusal : TableFault) (f : Fault) → IsFaultOf vs known n refusal → table_told refusal ≡ Some f → Gives vs known n (Err (Some f))
 gives_fault vs known n (table.Absent p) f (at, h, t) e = subst (λ (o : Option Fault). Gives vs known n (Err o)) (ap (λ (q : Place). Some (plain q code.VocabularyMissing)) (sym at) ∙ e) (no_text h t)
 gives_fault vs known n (table.Bad p g) f (at, h, (bytes, t, first)) e =
     subst (λ (o : Option Fault). Gives vs known n (Err o)) (ap (λ (q : Place). voc_told q g) (sym at) ∙ e) (by_text bytes (Err g) h t first)
 gives_fault vs known n (table.TwoKinds p) f (at, h, (bytes, es, t, v, c)) e =
-    subst (Gives vs known n) (given_clash n.place known es c ∙ ap Err (ap (λ (q : Place). Some (plain q code.SymbolOfTwoKinds)) (sym at) ∙ e)) (by_text bytes (Ok es) h t v)
+    subst (Gives vs known n) (by_voc-given_clash n.place known es c ∙ ap Err (ap (λ (q : Place). Some (plain q code.SymbolOfTwoKinds)) (sym at) ∙ e)) (by_text bytes (Ok es) h t v)
 gives_fault vs known n (table.TooManySymbols p) f (at, h, (bytes, es, t, v, c, m)) e =
-    subst (Gives vs known n) (given_many n.place known es c m ∙ ap Err (ap (λ (q : Place). Some (plain q code.TooManySymbols)) (sym at) ∙ e)) (by_text bytes (Ok es) h t v)
+    subst (Gives vs known n) (by_voc-given_many n.place known es c m ∙ ap Err (ap (λ (q : Place). Some (plain q code.TooManySymbols)) (sym at) ∙ e)) (by_text bytes (Ok es) h t v)
 gives_fault vs known n (table.Memory a) f h e = absurd (untold e)
   where
     untold : None ≡ Some f → ⊥

@@ -24,7 +24,7 @@ use Rattle.mz_ground.specs.declared.ground_term.GroundTerm.TheVariants as entry
 use Rattle.mz_ground.specs.declared.ground_atom.GroundAtom.{GroundAtom}
 use Rattle.mz_ground.specs.declared.trigger_places.TriggerPlaces.{TriggerPlaces}
 use Rattle.mz_ground.proofs.ListLemmas.{contains_none, get_extended, get_some, get_map}
-use Rattle.mz_ground.proofs.TableLemmas.{table_read, entry_at}
+use Rattle.mz_ground.proofs.TableLemmas.{term_at-table_read, entry_at}
 
 -- a list of places
 pub from_none : (m : ℕ) (ks : List ℕ) → ks ≡ [] → AreFrom m m ks
@@ -144,7 +144,7 @@ applied_head b (entry.Const n) s us q = cc
 applied_head b (entry.App r args) s us q = let p : r ≡ s = cc in ap (hash_with_symbol 1) p
 
 term_entry : (g : Ground) → IsNumbered g → (k : ℕ) → k < length g.terms → (e : GroundTerm) × (slice_get g.terms k ≡ Some e) × (term_at (ground_terms g) k ≡ term_of_entry (ground_terms g) e)
-term_entry g n k lt = let q = entry_at g.terms k lt in (q.0, q.1, table_read g.terms n.table k q.0 q.1)
+term_entry g n k lt = let q = entry_at g.terms k lt in (q.0, q.1, term_at-table_read g.terms n.table k q.0 q.1)
 
 same_term : (t u : Term) → TermExpression t ≡ TermExpression u → t ≡ u
 same_term t u e = cc

@@ -91,11 +91,11 @@ take_contains (y ∷ ys) (suc n) x w =
     ]
 
 -- expressions of a ground part stay at their places
-pub term_kept : (g h : Ground) → Extends g.terms h.terms → (k : ℕ) → k < length g.terms → expression_at h (place.Term k) ≡ expression_at g (place.Term k)
-term_kept g h p k lt = ap TermExpression (term_at_grown g.terms h.terms p k lt)
+pub expression_at-term_kept : (g h : Ground) → Extends g.terms h.terms → (k : ℕ) → k < length g.terms → expression_at h (place.Term k) ≡ expression_at g (place.Term k)
+expression_at-term_kept g h p k lt = ap TermExpression (term_at_grown g.terms h.terms p k lt)
 
-pub atom_kept : (g h : Ground) → IsNumbered g → Extends g.terms h.terms → Extends g.atoms h.atoms → (k : ℕ) → k < length g.atoms → expression_at h (place.Atom k) ≡ expression_at g (place.Atom k)
-atom_kept g h n p q k lt = ap expression_or_zero (get_extended (ground_atoms g) (ground_atoms h) k (atoms_extend g h n p q) (omega (arith, length-map g.atoms (atom_expression (ground_terms g)))))
+pub expression_at-atom_kept : (g h : Ground) → IsNumbered g → Extends g.terms h.terms → Extends g.atoms h.atoms → (k : ℕ) → k < length g.atoms → expression_at h (place.Atom k) ≡ expression_at g (place.Atom k)
+expression_at-atom_kept g h n p q k lt = ap expression_or_zero (get_extended (ground_atoms g) (ground_atoms h) k (atoms_extend g h n p q) (omega (arith, length-map g.atoms (atom_expression (ground_terms g)))))
 
 pub instance_as : (c : Clause) (P Q : GroundExpression → Type 0) (p : GroundExpression) → ((q : GroundExpression) → P q → Q q) → IsInstanceExpression c P p → IsInstanceExpression c Q p
 instance_as c P Q p h i = record { terms = i.terms; arity = i.arity; trigger = h (trigger_at i.terms c.trigger) i.trigger; nodes = i.nodes; expression = i.expression }
@@ -108,8 +108,8 @@ pub numbered_after : (g h : Ground) (Q : GroundExpression → Type 0) → Grows 
 numbered_after g h Q a = a.numbered
 
 pub expression_kept : (g h : Ground) → IsNumbered g → Extends g.terms h.terms → Extends g.atoms h.atoms → (at : ExpressionPlace) → IsExpressionPlace g at → expression_at h at ≡ expression_at g at
-expression_kept g h n p q (place.Term k) lt = term_kept g h p k lt
-expression_kept g h n p q (place.Atom k) lt = atom_kept g h n p q k lt
+expression_kept g h n p q (place.Term k) lt = expression_at-term_kept g h p k lt
+expression_kept g h n p q (place.Atom k) lt = expression_at-atom_kept g h n p q k lt
 
 pub place_kept : (g h : Ground) (Q : GroundExpression → Type 0) → Grows g Q h → (at : ExpressionPlace) → IsExpressionPlace g at → IsExpressionPlace h at
 place_kept g h Q a (place.Term k) lt = extends-length g.terms h.terms k a.terms lt

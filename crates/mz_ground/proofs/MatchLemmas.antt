@@ -17,7 +17,7 @@ use Rattle.mz_ground.specs.declared.ground_term.GroundTerm.{GroundTerm}
 use Rattle.mz_ground.specs.declared.ground_term.GroundTerm.TheVariants as entry
 use Rattle.mz_ground.proofs.ListLemmas.{contains_get}
 use Rattle.mz_ground.proofs.VariableLemmas.{args_have_index-terms_of}
-use Rattle.mz_ground.proofs.TableLemmas.{table_read, entry_at, term_at-inj, entry_terms-length}
+use Rattle.mz_ground.proofs.TableLemmas.{term_at-table_read, entry_at, term_at-inj, entry_terms-length}
 use Rattle.mz_logic.proofs.SubstitutionLaws.{substitute_args-terms_of}
 use Rattle.mz_logic.proofs.ValueLaws.{substitute-value_at}
 use Rattle.mz_ground.proofs.AddLemmas.{index_at, index_past}
@@ -41,7 +41,7 @@ value_const es index n place t e = record { value = λ o ts l h. absurd (false�
 
 -- an application at the terms, and the entry at the place
 pub app_entry : (es : List GroundTerm) → IsTable es → (ts : List Term) (r : Sym) (us : List Term) (t : Term) (place : ℕ) (e : GroundTerm) → t ≡ App r (terms_of us) → slice_get es place ≡ Some e → substitute 0 (value_at ts) t ≡ term_at (entry_terms es) place → App r (terms_of (map (substitute 0 (value_at ts)) us)) ≡ term_of_entry (entry_terms es) e
-app_entry es h ts r us t place e q g f = sym (ap (substitute 0 (value_at ts)) q ∙ ap (App r) (substitute_args-terms_of 0 (value_at ts) us)) ∙ f ∙ table_read es h place e g
+app_entry es h ts r us t place e q g f = sym (ap (substitute 0 (value_at ts)) q ∙ ap (App r) (substitute_args-terms_of 0 (value_at ts) us)) ∙ f ∙ term_at-table_read es h place e g
 
 apart_const : (d : List Term) (r : Sym) (us : List Term) (n : ℕ) → App r (terms_of us) ≡ term_of_entry d (entry.Const n) → ⊥
 apart_const d r us n e = cc
@@ -129,8 +129,8 @@ values_none_in es index us vs places n e le h =
 pub ruleset value_rules = (value_bound, value_other, value_const, value_app_const, value_app_other, value_app, entry_args_within, values_length, values_found, values_none)
 
 -- whether a term at terms is the term at a place
-pub bound_is : (es : List GroundTerm) (args : List ℕ) (n k place : ℕ) (t : Term) → t ≡ Bound n → slice_get args n ≡ Some k → k ≡ place → substitute 0 (value_at (map (term_at (entry_terms es)) args)) t ≡ term_at (entry_terms es) place
-bound_is es args n k place t e g q = ap (substitute 0 (value_at (map (term_at (entry_terms es)) args))) e ∙ index_at es args n k g ∙ ap (term_at (entry_terms es)) q
+pub substitute-bound_is : (es : List GroundTerm) (args : List ℕ) (n k place : ℕ) (t : Term) → t ≡ Bound n → slice_get args n ≡ Some k → k ≡ place → substitute 0 (value_at (map (term_at (entry_terms es)) args)) t ≡ term_at (entry_terms es) place
+substitute-bound_is es args n k place t e g q = ap (substitute 0 (value_at (map (term_at (entry_terms es)) args))) e ∙ index_at es args n k g ∙ ap (term_at (entry_terms es)) q
 
 pub bound_place : (es : List GroundTerm) → IsTable es → (args : List ℕ) (n k place : ℕ) (t : Term) → t ≡ Bound n → slice_get args n ≡ Some k → ((j : ℕ) → Contains args j → j < length es) → place < length es → substitute 0 (value_at (map (term_at (entry_terms es)) args)) t ≡ term_at (entry_terms es) place → k ≡ place
 bound_place es h args n k place t e g w lt f =
@@ -146,35 +146,35 @@ pub bound_past : (es : List GroundTerm) → IsTable es → (args : List ℕ) (n 
 bound_past es h args n place t e g lt f =
     let p = index_past es args n g in
     let d = entry_at es place lt in
-    entry_no_index (entry_terms es) d.0 p.0 (sym p.1 ∙ sym (ap (substitute 0 (value_at (map (term_at (entry_terms es)) args))) e) ∙ f ∙ table_read es h place d.0 d.1)
+    entry_no_index (entry_terms es) d.0 p.0 (sym p.1 ∙ sym (ap (substitute 0 (value_at (map (term_at (entry_terms es)) args))) e) ∙ f ∙ term_at-table_read es h place d.0 d.1)
 
-pub const_is : (es : List GroundTerm) → IsTable es → (ts : List Term) (m n place : ℕ) (t : Term) → t ≡ Const m → slice_get es place ≡ Some (entry.Const n) → m ≡ n → substitute 0 (value_at ts) t ≡ term_at (entry_terms es) place
-const_is es h ts m n place t e g q = ap (substitute 0 (value_at ts)) e ∙ ap Const q ∙ sym (table_read es h place (entry.Const n) g)
+pub substitute-const_is : (es : List GroundTerm) → IsTable es → (ts : List Term) (m n place : ℕ) (t : Term) → t ≡ Const m → slice_get es place ≡ Some (entry.Const n) → m ≡ n → substitute 0 (value_at ts) t ≡ term_at (entry_terms es) place
+substitute-const_is es h ts m n place t e g q = ap (substitute 0 (value_at ts)) e ∙ ap Const q ∙ sym (term_at-table_read es h place (entry.Const n) g)
 
 pub const_place : (es : List GroundTerm) → IsTable es → (ts : List Term) (m n place : ℕ) (t : Term) → t ≡ Const m → slice_get es place ≡ Some (entry.Const n) → substitute 0 (value_at ts) t ≡ term_at (entry_terms es) place → m ≡ n
-const_place es h ts m n place t e g f = let q : Const m ≡ Const n = sym (ap (substitute 0 (value_at ts)) e) ∙ f ∙ table_read es h place (entry.Const n) g in cc
+const_place es h ts m n place t e g f = let q : Const m ≡ Const n = sym (ap (substitute 0 (value_at ts)) e) ∙ f ∙ term_at-table_read es h place (entry.Const n) g in cc
 
 pub const_apart : (es : List GroundTerm) → IsTable es → (ts : List Term) (m place : ℕ) (s : Sym) (args : List ℕ) (t : Term) → t ≡ Const m → slice_get es place ≡ Some (entry.App s args) → substitute 0 (value_at ts) t ≡ term_at (entry_terms es) place → ⊥
-const_apart es h ts m place s args t e g f = let q : Const m ≡ App s (terms_of (map (term_at (entry_terms es)) args)) = sym (ap (substitute 0 (value_at ts)) e) ∙ f ∙ table_read es h place (entry.App s args) g in cc
+const_apart es h ts m place s args t e g f = let q : Const m ≡ App s (terms_of (map (term_at (entry_terms es)) args)) = sym (ap (substitute 0 (value_at ts)) e) ∙ f ∙ term_at-table_read es h place (entry.App s args) g in cc
 
 pub app_apart : (es : List GroundTerm) → IsTable es → (ts : List Term) (n place : ℕ) (r : Sym) (us : List Term) (t : Term) → t ≡ App r (terms_of us) → slice_get es place ≡ Some (entry.Const n) → substitute 0 (value_at ts) t ≡ term_at (entry_terms es) place → ⊥
 app_apart es h ts n place r us t q g f = apart_const (entry_terms es) r (map (substitute 0 (value_at ts)) us) n (app_entry es h ts r us t place (entry.Const n) q g f)
 
-pub app_is : (es : List GroundTerm) → IsTable es → (ts : List Term) (place : ℕ) (r s : Sym) (us : List Term) (args : List ℕ) (t : Term) → t ≡ App r (terms_of us) → slice_get es place ≡ Some (entry.App s args) → r ≡ s → map (substitute 0 (value_at ts)) us ≡ map (term_at (entry_terms es)) args → substitute 0 (value_at ts) t ≡ term_at (entry_terms es) place
-app_is es h ts place r s us args t q g e f = ap (substitute 0 (value_at ts)) q ∙ ap (App r) (substitute_args-terms_of 0 (value_at ts) us) ∙ (λ i. App (e i) (terms_of (f i))) ∙ sym (table_read es h place (entry.App s args) g)
+pub substitute-app_is : (es : List GroundTerm) → IsTable es → (ts : List Term) (place : ℕ) (r s : Sym) (us : List Term) (args : List ℕ) (t : Term) → t ≡ App r (terms_of us) → slice_get es place ≡ Some (entry.App s args) → r ≡ s → map (substitute 0 (value_at ts)) us ≡ map (term_at (entry_terms es)) args → substitute 0 (value_at ts) t ≡ term_at (entry_terms es) place
+substitute-app_is es h ts place r s us args t q g e f = ap (substitute 0 (value_at ts)) q ∙ ap (App r) (substitute_args-terms_of 0 (value_at ts) us) ∙ (λ i. App (e i) (terms_of (f i))) ∙ sym (term_at-table_read es h place (entry.App s args) g)
 
 pub app_place_sym : (es : List GroundTerm) → IsTable es → (ts : List Term) (place : ℕ) (r s : Sym) (us : List Term) (args : List ℕ) (t : Term) → t ≡ App r (terms_of us) → slice_get es place ≡ Some (entry.App s args) → substitute 0 (value_at ts) t ≡ term_at (entry_terms es) place → r ≡ s
 app_place_sym es h ts place r s us args t q g f = same_sym (entry_terms es) r s (map (substitute 0 (value_at ts)) us) args (app_entry es h ts r us t place (entry.App s args) q g f)
 
-pub app_place_args : (es : List GroundTerm) → IsTable es → (ts : List Term) (place : ℕ) (r s : Sym) (us : List Term) (args : List ℕ) (t : Term) → t ≡ App r (terms_of us) → slice_get es place ≡ Some (entry.App s args) → substitute 0 (value_at ts) t ≡ term_at (entry_terms es) place → map (substitute 0 (value_at ts)) us ≡ map (term_at (entry_terms es)) args
-app_place_args es h ts place r s us args t q g f = same_args (entry_terms es) r s (map (substitute 0 (value_at ts)) us) args (app_entry es h ts r us t place (entry.App s args) q g f)
+pub map-app_place_args : (es : List GroundTerm) → IsTable es → (ts : List Term) (place : ℕ) (r s : Sym) (us : List Term) (args : List ℕ) (t : Term) → t ≡ App r (terms_of us) → slice_get es place ≡ Some (entry.App s args) → substitute 0 (value_at ts) t ≡ term_at (entry_terms es) place → map (substitute 0 (value_at ts)) us ≡ map (term_at (entry_terms es)) args
+map-app_place_args es h ts place r s us args t q g f = same_args (entry_terms es) r s (map (substitute 0 (value_at ts)) us) args (app_entry es h ts r us t place (entry.App s args) q g f)
 
 pub maps_length : (ts d us : List Term) (places : List ℕ) → map (substitute 0 (value_at ts)) us ≡ map (term_at d) places → length us ≡ length places
 maps_length ts d us places e = sym (length-map us (substitute 0 (value_at ts))) ∙ ap length e ∙ length-map places (term_at d)
 
 -- the item at an index of a list that is the one of the terms
-pub item_is : (ts d us vs : List Term) (places : List ℕ) (i : ℕ) (u : Term) → vs ≡ us → i < length vs → u ≡ get_or vs i u → map (substitute 0 (value_at ts)) us ≡ map (term_at d) places → substitute 0 (value_at ts) u ≡ term_at d (get_or places i 0)
-item_is ts d us vs places i u e lt at f = ap (substitute 0 (value_at ts)) at ∙ map_at ts d vs places i u lt (ap (map (substitute 0 (value_at ts))) e ∙ f)
+pub substitute-item_is : (ts d us vs : List Term) (places : List ℕ) (i : ℕ) (u : Term) → vs ≡ us → i < length vs → u ≡ get_or vs i u → map (substitute 0 (value_at ts)) us ≡ map (term_at d) places → substitute 0 (value_at ts) u ≡ term_at d (get_or places i 0)
+substitute-item_is ts d us vs places i u e lt at f = ap (substitute 0 (value_at ts)) at ∙ map_at ts d vs places i u lt (ap (map (substitute 0 (value_at ts))) e ∙ f)
 
 pub map_more : (ts d vs : List Term) (places : List ℕ) (i : ℕ) (u : Term) → i < length vs → i < length places → u ≡ get_or vs i u → substitute 0 (value_at ts) u ≡ term_at d (get_or places i 0) → map (substitute 0 (value_at ts)) (take i vs) ≡ map (term_at d) (take i places) → map (substitute 0 (value_at ts)) (take (i + 1) vs) ≡ map (term_at d) (take (i + 1) places)
 map_more ts d vs places i u lv lk at e h =
@@ -182,4 +182,4 @@ map_more ts d vs places i u lv lk at e h =
     let one : at_terms (get_or vs i u) ≡ term_at d (get_or places i 0) = ap at_terms (sym at) ∙ e in
     ap (map at_terms) (take_more vs i u lv) ∙ map_push at_terms (take i vs) (get_or vs i u) ∙ (λ j. h j ++ one j ∷ []) ∙ sym (map_push (term_at d) (take i places) (get_or places i 0)) ∙ sym (ap (map (term_at d)) (take_more places i 0 lk))
 
-pub ruleset instance_rules = (bound_is, bound_place, bound_past, const_is, const_place, const_apart, app_apart, app_is, app_place_sym, app_place_args, entry_args_within, maps_length, map_at)
+pub ruleset instance_rules = (substitute-bound_is, bound_place, bound_past, substitute-const_is, const_place, const_apart, app_apart, substitute-app_is, app_place_sym, map-app_place_args, entry_args_within, maps_length, map_at)

@@ -15,7 +15,7 @@ use Rattle.mz_ground.specs.declared.clause.Clause.{Clause}
 use Rattle.mz_ground.specs.declared.ground_term.GroundTerm.{GroundTerm}
 use Rattle.mz_ground.specs.declared.ground_term.GroundTerm.TheVariants as entry
 use Rattle.mz_ground.proofs.ListLemmas.{contains_get}
-use Rattle.mz_ground.proofs.TableLemmas.{table_read}
+use Rattle.mz_ground.proofs.TableLemmas.{term_at-table_read}
 use Rattle.mz_logic.proofs.SubstitutionLaws.{substitute_args-terms_of}
 use Rattle.mz_ground.proofs.AddLemmas.{index_at, index_past}
 
@@ -55,10 +55,10 @@ spent_past n a b s = record { spent = omega (arith, s.spent) }
 
 -- the term at a place
 place_const : (es : List GroundTerm) → IsTable es → (place m : ℕ) → slice_get es place ≡ Some (entry.Const m) → term_nodes (term_at (entry_terms es) place) ≡ 1
-place_const es h place m g = ap term_nodes (table_read es h place (entry.Const m) g)
+place_const es h place m g = ap term_nodes (term_at-table_read es h place (entry.Const m) g)
 
 place_app : (es : List GroundTerm) → IsTable es → (place : ℕ) (s : Sym) (args : List ℕ) → slice_get es place ≡ Some (entry.App s args) → term_nodes (term_at (entry_terms es) place) ≡ suc (args_nodes (terms_of (map (term_at (entry_terms es)) args)))
-place_app es h place s args g = ap term_nodes (table_read es h place (entry.App s args) g)
+place_app es h place s args g = ap term_nodes (term_at-table_read es h place (entry.App s args) g)
 
 pub told_place_const : (es : List GroundTerm) → IsTable es → (place m n : ℕ) → slice_get es place ≡ Some (entry.Const m) → (n ≡ 0 → ⊥) → IsSpent n (term_nodes (term_at (entry_terms es) place)) (Some (n - 1))
 told_place_const es h place m n g z = spent_one n (term_nodes (term_at (entry_terms es) place)) z (place_const es h place m g)
@@ -94,10 +94,10 @@ spent_over f xs i x n m lt e s t =
     (spent_past n (args_nodes (terms_of (map f (take (suc i) xs)))) r.0
     (spent_as n (args_nodes (terms_of (map f (take (suc i) xs)))) (args_nodes (terms_of (map f (take i xs))) + term_nodes (f x)) None r.2 (spent_both n (args_nodes (terms_of (map f (take i xs)))) (term_nodes (f x)) m None s t)))
 
-pub read_self : (xs : List ℕ) (i : ℕ) → get_or xs i 0 ≡ get_or xs i (get_or xs i 0)
-read_self [] i = refl
-read_self (x ∷ xs) zero = refl
-read_self (x ∷ xs) (suc i) = read_self xs i
+pub get_or-read_self : (xs : List ℕ) (i : ℕ) → get_or xs i 0 ≡ get_or xs i (get_or xs i 0)
+get_or-read_self [] i = refl
+get_or-read_self (x ∷ xs) zero = refl
+get_or-read_self (x ∷ xs) (suc i) = get_or-read_self xs i
 
 pub spent_nothing : (n : ℕ) → IsSpent n 0 (Some n)
 spent_nothing n = record { spent = omega arith }

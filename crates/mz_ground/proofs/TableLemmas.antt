@@ -109,8 +109,8 @@ pub below_in : (es : List GroundTerm) → IsTable es → (k : ℕ) (e : GroundTe
 below_in es h k (Const number) g = tt
 below_in es h k (App sym args) g = λ j w. h.earlier k j sym args g w
 
-pub table_read : (es : List GroundTerm) → IsTable es → (k : ℕ) (e : GroundTerm) → slice_get es k ≡ Some e → term_at (entry_terms es) k ≡ term_of_entry (entry_terms es) e
-table_read es h k e g = reads_after [] es k k e (omega arith) g (below_in es h k e g)
+pub term_at-table_read : (es : List GroundTerm) → IsTable es → (k : ℕ) (e : GroundTerm) → slice_get es k ≡ Some e → term_at (entry_terms es) k ≡ term_of_entry (entry_terms es) e
+term_at-table_read es h k e g = reads_after [] es k k e (omega arith) g (below_in es h k e g)
 
 -- a term stands at one place
 pub term_at-inj : (ts : List Term) → IsDistinct ts → (i j : ℕ) → i < length ts → j < length ts → term_at ts i ≡ term_at ts j → i ≡ j
@@ -157,7 +157,7 @@ lacks_term es h e low none w =
     let size : length (entry_terms es) ≡ length es = entry_terms-length es in
     let lt : w.0 < length es = omega (arith, w.1, size) in
     let d = entry_at es w.0 lt in
-    let at : term_at (entry_terms es) w.0 ≡ term_of_entry (entry_terms es) d.0 = table_read es h w.0 d.0 d.1 in
+    let at : term_at (entry_terms es) w.0 ≡ term_of_entry (entry_terms es) d.0 = term_at-table_read es h w.0 d.0 d.1 in
     let same : term_of_entry (entry_terms es) d.0 ≡ term_of_entry (entry_terms es) e = sym at ∙ contained_at (entry_terms es) (term_of_entry (entry_terms es) e) w in
     let one : d.0 ≡ e = entry-inj (entry_terms es) h.distinct d.0 e (below_weaker w.0 (length (entry_terms es)) d.0 (omega (arith, w.1)) (below_in es h w.0 d.0 d.1)) (below_weaker (length es) (length (entry_terms es)) e (omega (arith, size)) low) same in
     none w.0 (d.1 ∙ ap Some one)
@@ -175,7 +175,7 @@ contained_from_found es t k f = subst (λ (u : Term). Contains (entry_terms es) 
 
 placed_old : (es : List GroundTerm) → IsTable es → (e : GroundTerm) (k : ℕ) → slice_get es k ≡ Some e → PlacedTerm es (term_of_entry (entry_terms es) e) es k
 placed_old es h e k g =
-    let f : IsFound es (term_of_entry (entry_terms es) e) (Some k) = (slice_get_within es k e g, table_read es h k e g) in
+    let f : IsFound es (term_of_entry (entry_terms es) e) (Some k) = (slice_get_within es k e g, term_at-table_read es h k e g) in
     record { table = h; grown = extends_itself es; found = f; sound = λ u w. inl w; complete = contained_from_found es (term_of_entry (entry_terms es) e) k f }
 
 push_earlier : (es : List GroundTerm) → IsTable es → (e : GroundTerm) → ArgsBelow (length es) e → (i k : ℕ) (sym' : Sym) (args : List ℕ) → slice_get (es ++ e ∷ []) i ≡ Some (App sym' args) → Contains args k → k < i
@@ -193,7 +193,7 @@ placed_new es h e low none k g =
     let apart : IsDistinct (d ++ t ∷ []) = all_pairs_push (λ (x y : Term). x ≡ y → ⊥) d t h.distinct (λ j c lt q. lacks_term es h e low none (subst (λ (u : Term). Contains d u) (sym (get_or-term_at d j c lt) ∙ q) (term_at-contained d j lt))) in
     let table : IsTable (es ++ e ∷ []) = record { earlier = push_earlier es h e low; distinct = subst (λ (ts : List Term). IsDistinct ts) (sym all) apart } in
     let lowd : ArgsBelow (length d) e = below_weaker (length es) (length d) e (omega (arith, entry_terms-length es)) low in
-    let at : term_at (entry_terms (es ++ e ∷ [])) k ≡ t = table_read (es ++ e ∷ []) table k e g ∙ ap (λ z. term_of_entry z e) all ∙ term_of_entry-append d (t ∷ []) e lowd in
+    let at : term_at (entry_terms (es ++ e ∷ [])) k ≡ t = term_at-table_read (es ++ e ∷ []) table k e g ∙ ap (λ z. term_of_entry z e) all ∙ term_of_entry-append d (t ∷ []) e lowd in
     record {
       table = table;
       grown = (e ∷ [], refl);
@@ -251,7 +251,7 @@ args_in_table : (es : List GroundTerm) → IsTable es → (s : Sym) (ts : List T
 args_in_table es h s ts t c w =
     let lt : c.0 < length es = omega (arith, c.1, entry_terms-length es) in
     let d = entry_at es c.0 lt in
-    args_in_entry es h s ts t c.0 d.0 lt (below_in es h c.0 d.0 d.1) (sym (table_read es h c.0 d.0 d.1) ∙ contained_at (entry_terms es) (term.App s (terms_of ts)) c) w
+    args_in_entry es h s ts t c.0 d.0 lt (below_in es h c.0 d.0 d.1) (sym (term_at-table_read es h c.0 d.0 d.1) ∙ contained_at (entry_terms es) (term.App s (terms_of ts)) c) w
 
 pub within_table : (es : List GroundTerm) → IsTable es → (u : Term) {t : Term} → IsWithin u t → Contains (entry_terms es) t → Contains (entry_terms es) u
 within_table es h u whole c = c

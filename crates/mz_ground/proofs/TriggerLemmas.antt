@@ -112,14 +112,14 @@ args_of_atom g n k a e j w = n.atoms_within a j (contains_get g.atoms k a e) w
 pub ruleset trigger_value_rules = (told_term, told_atom, told_other_sym, told_term_at_atom, told_atom_at_term, place_of_term, place_of_atom, table_of, args_of_atom)
 
 -- whether the instance is the expression
-pub term_is : (g : Ground) (ts : List Term) (k : ℕ) (r : Trigger) (at : ExpressionPlace) (t : Term) → r ≡ trigger.Term t → at ≡ place.Term k → substitute 0 (value_at ts) t ≡ term_at (entry_terms g.terms) k → trigger_at ts r ≡ expression_at g at
-term_is g ts k r at t er ea e = ap (trigger_at ts) er ∙ ap TermExpression e ∙ ap (expression_at g) (inverse ea)
+pub trigger_at-term_is : (g : Ground) (ts : List Term) (k : ℕ) (r : Trigger) (at : ExpressionPlace) (t : Term) → r ≡ trigger.Term t → at ≡ place.Term k → substitute 0 (value_at ts) t ≡ term_at (entry_terms g.terms) k → trigger_at ts r ≡ expression_at g at
+trigger_at-term_is g ts k r at t er ea e = ap (trigger_at ts) er ∙ ap TermExpression e ∙ ap (expression_at g) (inverse ea)
 
-pub term_from : (g : Ground) (ts : List Term) (k : ℕ) (r : Trigger) (at : ExpressionPlace) (t : Term) → r ≡ trigger.Term t → at ≡ place.Term k → trigger_at ts r ≡ expression_at g at → substitute 0 (value_at ts) t ≡ term_at (entry_terms g.terms) k
-term_from g ts k r at t er ea e = same_term (substitute 0 (value_at ts) t) (term_at (entry_terms g.terms) k) (ap (trigger_at ts) (inverse er) ∙ e ∙ ap (expression_at g) ea)
+pub substitute-term_from : (g : Ground) (ts : List Term) (k : ℕ) (r : Trigger) (at : ExpressionPlace) (t : Term) → r ≡ trigger.Term t → at ≡ place.Term k → trigger_at ts r ≡ expression_at g at → substitute 0 (value_at ts) t ≡ term_at (entry_terms g.terms) k
+substitute-term_from g ts k r at t er ea e = same_term (substitute 0 (value_at ts) t) (term_at (entry_terms g.terms) k) (ap (trigger_at ts) (inverse er) ∙ e ∙ ap (expression_at g) ea)
 
-pub atom_is : (g : Ground) (ts : List Term) (k : ℕ) (r : Trigger) (at : ExpressionPlace) (s : Sym) (us : List Term) (a : GroundAtom) → r ≡ trigger.Atom s us → at ≡ place.Atom k → slice_get g.atoms k ≡ Some a → s ≡ a.sym → map (substitute 0 (value_at ts)) us ≡ map (term_at (entry_terms g.terms)) a.args → trigger_at ts r ≡ expression_at g at
-atom_is g ts k r at s us a er ea ga es e = ap (trigger_at ts) er ∙ (λ i. AtomExpression (es i) (e i)) ∙ inverse (ap (expression_at g) ea ∙ atom_at g k a ga)
+pub trigger_at-atom_is : (g : Ground) (ts : List Term) (k : ℕ) (r : Trigger) (at : ExpressionPlace) (s : Sym) (us : List Term) (a : GroundAtom) → r ≡ trigger.Atom s us → at ≡ place.Atom k → slice_get g.atoms k ≡ Some a → s ≡ a.sym → map (substitute 0 (value_at ts)) us ≡ map (term_at (entry_terms g.terms)) a.args → trigger_at ts r ≡ expression_at g at
+trigger_at-atom_is g ts k r at s us a er ea ga es e = ap (trigger_at ts) er ∙ (λ i. AtomExpression (es i) (e i)) ∙ inverse (ap (expression_at g) ea ∙ atom_at g k a ga)
 
 atom_equation : (g : Ground) (ts : List Term) (k : ℕ) (r : Trigger) (at : ExpressionPlace) (s : Sym) (us : List Term) (a : GroundAtom) → r ≡ trigger.Atom s us → at ≡ place.Atom k → slice_get g.atoms k ≡ Some a → trigger_at ts r ≡ expression_at g at → AtomExpression s (map (substitute 0 (value_at ts)) us) ≡ AtomExpression a.sym (map (term_at (entry_terms g.terms)) a.args)
 atom_equation g ts k r at s us a er ea ga e = ap (trigger_at ts) (inverse er) ∙ e ∙ ap (expression_at g) ea ∙ atom_at g k a ga
@@ -127,8 +127,8 @@ atom_equation g ts k r at s us a er ea ga e = ap (trigger_at ts) (inverse er) �
 pub atom_from_sym : (g : Ground) (ts : List Term) (k : ℕ) (r : Trigger) (at : ExpressionPlace) (s : Sym) (us : List Term) (a : GroundAtom) → r ≡ trigger.Atom s us → at ≡ place.Atom k → slice_get g.atoms k ≡ Some a → trigger_at ts r ≡ expression_at g at → s ≡ a.sym
 atom_from_sym g ts k r at s us a er ea ga e = same_head s a.sym (map (substitute 0 (value_at ts)) us) (map (term_at (entry_terms g.terms)) a.args) (atom_equation g ts k r at s us a er ea ga e)
 
-pub atom_from_args : (g : Ground) (ts : List Term) (k : ℕ) (r : Trigger) (at : ExpressionPlace) (s : Sym) (us : List Term) (a : GroundAtom) → r ≡ trigger.Atom s us → at ≡ place.Atom k → slice_get g.atoms k ≡ Some a → trigger_at ts r ≡ expression_at g at → map (substitute 0 (value_at ts)) us ≡ map (term_at (entry_terms g.terms)) a.args
-atom_from_args g ts k r at s us a er ea ga e = same_args s a.sym (map (substitute 0 (value_at ts)) us) (map (term_at (entry_terms g.terms)) a.args) (atom_equation g ts k r at s us a er ea ga e)
+pub map-atom_from_args : (g : Ground) (ts : List Term) (k : ℕ) (r : Trigger) (at : ExpressionPlace) (s : Sym) (us : List Term) (a : GroundAtom) → r ≡ trigger.Atom s us → at ≡ place.Atom k → slice_get g.atoms k ≡ Some a → trigger_at ts r ≡ expression_at g at → map (substitute 0 (value_at ts)) us ≡ map (term_at (entry_terms g.terms)) a.args
+map-atom_from_args g ts k r at s us a er ea ga e = same_args s a.sym (map (substitute 0 (value_at ts)) us) (map (term_at (entry_terms g.terms)) a.args) (atom_equation g ts k r at s us a er ea ga e)
 
 pub term_not_atom : (g : Ground) (ts : List Term) (k : ℕ) (r : Trigger) (at : ExpressionPlace) (t : Term) → r ≡ trigger.Term t → at ≡ place.Atom k → IsExpressionPlace g at → trigger_at ts r ≡ expression_at g at → ⊥
 term_not_atom g ts k r at t er ea w e = apart_term g k ts t (place_of_atom g k at ea w) (ap (trigger_at ts) (inverse er) ∙ e ∙ ap (expression_at g) ea)
@@ -136,7 +136,7 @@ term_not_atom g ts k r at t er ea w e = apart_term g k ts t (place_of_atom g k a
 pub atom_not_term : (g : Ground) (ts : List Term) (k : ℕ) (r : Trigger) (at : ExpressionPlace) (s : Sym) (us : List Term) → r ≡ trigger.Atom s us → at ≡ place.Term k → trigger_at ts r ≡ expression_at g at → ⊥
 atom_not_term g ts k r at s us er ea e = apart_atom (term_at (ground_terms g) k) s (map (substitute 0 (value_at ts)) us) (ap (trigger_at ts) (inverse er) ∙ e ∙ ap (expression_at g) ea)
 
-pub ruleset instance_rules = (term_is, term_from, atom_is, atom_from_sym, atom_from_args, term_not_atom, atom_not_term, place_of_term, place_of_atom, table_of, args_of_atom)
+pub ruleset instance_rules = (trigger_at-term_is, substitute-term_from, trigger_at-atom_is, atom_from_sym, map-atom_from_args, term_not_atom, atom_not_term, place_of_term, place_of_atom, table_of, args_of_atom)
 
 -- the places for the variables
 pub matched_none : (g : Ground) (c : Clause) (p : GroundExpression) → MatchedBelow g c p 0 []

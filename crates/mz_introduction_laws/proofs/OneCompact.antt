@@ -56,16 +56,16 @@ made_of first n x us (For ty s) = no_fit first
 true_false : true ≡ false → ⊥
 true_false e = cc
 
-made_of_none : (first : Place) (n : ℕ) (x : Sentence) (us : List Term) (s : Statement) → is_equation s ≡ false → no_fit first ≡ made_of first n x us s
-made_of_none first n x us Truth h = refl
-made_of_none first n x us (Eq t u) h = absurd (true_false h)
-made_of_none first n x us (Atom s ts) h = refl
-made_of_none first n x us (Not s) h = refl
-made_of_none first n x us (And s t) h = refl
-made_of_none first n x us (For ty s) h = refl
+no_fit-made_of_none : (first : Place) (n : ℕ) (x : Sentence) (us : List Term) (s : Statement) → is_equation s ≡ false → no_fit first ≡ made_of first n x us s
+no_fit-made_of_none first n x us Truth h = refl
+no_fit-made_of_none first n x us (Eq t u) h = absurd (true_false h)
+no_fit-made_of_none first n x us (Atom s ts) h = refl
+no_fit-made_of_none first n x us (Not s) h = refl
+no_fit-made_of_none first n x us (And s t) h = refl
+no_fit-made_of_none first n x us (For ty s) h = refl
 
 made_is : (first : Place) (n : ℕ) (x : Sentence) (us : List Term) (o : Result Said ProofRefusal) → EqualityMade first n x us o → o ≡ made_of first n x us x.inner
-made_is first n x us o (co.no_equation h) = made_of_none first n x us x.inner h
+made_is first n x us o (co.no_equation h) = no_fit-made_of_none first n x us x.inner h
 made_is first n x us o (co.too_large t u h k) = sym (ap (made_of first n x us) h ∙ ap (by_kept first) k)
 made_is first n x us o (co.equality t u p h k) = sym (ap (made_of first n x us) h ∙ ap (by_kept first) k)
 

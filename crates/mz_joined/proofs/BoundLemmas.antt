@@ -52,8 +52,8 @@ has_variable first vs rest before s out v er (later w others ev h) = (w, others,
 quantified-some : (first : Place) (n : ℕ) (vs : List Variable) (s : Statement) (w : Variable) (others : List Variable) → vs ≡ w ∷ others → quantified first n vs s ≡ within statement_keeps first (for_all n vs s)
 quantified-some first n vs s w others e = subst (λ us. quantified first n us s ≡ within statement_keeps first (for_all n us s)) (sym e) refl
 
-inside : (n number less : ℕ) (rest before : List Variable) (v : Variable) (out goal : Statement) → rest ≡ before ++ v ∷ [] → number ≡ n + length rest → less ≡ number - 1 → for_all n rest out ≡ goal → for_all n before (For v.ty (statement_over less 0 out)) ≡ goal
-inside n number less rest before v out goal er en el h =
+for_all-inside : (n number less : ℕ) (rest before : List Variable) (v : Variable) (out goal : Statement) → rest ≡ before ++ v ∷ [] → number ≡ n + length rest → less ≡ number - 1 → for_all n rest out ≡ goal → for_all n before (For v.ty (statement_over less 0 out)) ≡ goal
+for_all-inside n number less rest before v out goal er en el h =
     let e : less ≡ n + length before = omega (arith, en, el, ap length er, length_push before v) in
     ap (λ k. for_all n before (For v.ty (statement_over k 0 out))) e ∙ (sym (for_all-push n before v out) ∙ (ap (λ us. for_all n us out) (sym er) ∙ h))
 
@@ -64,7 +64,7 @@ told_turn first n number less vs rest before v s out next p er el ep eo t =
     let some = has_variable first vs rest before s out v er t.reached in
     record {
       numbered = omega (arith, t.numbered, el, ap length er, length_push before v);
-      same = ap (for_all n before) is ∙ inside n number less rest before v out (for_all n vs s) er t.numbered el t.same;
+      same = ap (for_all n before) is ∙ for_all-inside n number less rest before v out (for_all n vs s) er t.numbered el t.same;
       reached = later some.0 some.1 some.2 (ap (within statement_keeps first) is ∙ (sym ep ∙ eo));
     }
 
@@ -73,7 +73,7 @@ pub told_stop : (first : Place) (n number less : ℕ) (vs rest before : List Var
 told_stop first n number less vs rest before v s out p r er el ep eo t =
     let some = has_variable first vs rest before s out v er t.reached in
     let over : statement_keeps (For v.ty (statement_over less 0 out)) ≡ false = within_beyond first (For v.ty (statement_over less 0 out)) r (sym ep ∙ eo) in
-    let all : statement_keeps (for_all n vs s) ≡ false = ap statement_keeps (sym (inside n number less rest before v out (for_all n vs s) er t.numbered el t.same)) ∙ beyond_all n before (For v.ty (statement_over less 0 out)) over in
+    let all : statement_keeps (for_all n vs s) ≡ false = ap statement_keeps (sym (for_all-inside n number less rest before v out (for_all n vs s) er t.numbered el t.same)) ∙ beyond_all n before (For v.ty (statement_over less 0 out)) over in
     ap Err (within_refused first (For v.ty (statement_over less 0 out)) r (sym ep ∙ eo)) ∙ sym (quantified-some first n vs s some.0 some.1 some.2 ∙ refused_within first (for_all n vs s) all)
 
 none_left : (first : Place) (n : ℕ) (vs : List Variable) (s out : Statement) → for_all n [] out ≡ for_all n vs s → Reached first vs s [] out → Ok out ≡ quantified first n vs s
@@ -90,9 +90,9 @@ told_end first n number vs rest s out e t =
     none_left first n vs s out (ap (λ us. for_all n us out) (sym em) ∙ t.same) (subst (λ us. Reached first vs s us out) em t.reached)
 
 -- for all
-pub told_all : (first : Place) (n : ℕ) (vs : List Variable) (s out : Statement) (p : Result Statement Refusal) → p ≡ quantified first n vs s → p ≡ Ok out → within statement_keeps first out ≡ for_all_within first n vs s
-told_all first n [] s out p e eo = let f : out ≡ s = cc (sym eo ∙ e) in ap (within statement_keeps first) f
-told_all first n (v ∷ vs) s out p e eo = ap (within statement_keeps first) (within_kept first (for_all n (v ∷ vs) s) out (sym e ∙ eo))
+pub within-told_all : (first : Place) (n : ℕ) (vs : List Variable) (s out : Statement) (p : Result Statement Refusal) → p ≡ quantified first n vs s → p ≡ Ok out → within statement_keeps first out ≡ for_all_within first n vs s
+within-told_all first n [] s out p e eo = let f : out ≡ s = cc (sym eo ∙ e) in ap (within statement_keeps first) f
+within-told_all first n (v ∷ vs) s out p e eo = ap (within statement_keeps first) (within_kept first (for_all n (v ∷ vs) s) out (sym e ∙ eo))
 
 pub told_not_all : (first : Place) (n : ℕ) (vs : List Variable) (s : Statement) (p : Result Statement Refusal) (r : Refusal) → p ≡ quantified first n vs s → p ≡ Err r → Err r ≡ for_all_within first n vs s
 told_not_all first n [] s p r e er = cc (sym e ∙ er)
@@ -112,6 +112,6 @@ told_some first n vs s opposed all o es ea eo = eo ∙ (ap (denied first) (ea �
 
 pub ruleset quantified_rules = (told_start, told_turn, told_stop, told_end)
 
-pub ruleset all_rules = (told_all, told_not_all)
+pub ruleset all_rules = (within-told_all, told_not_all)
 
 pub ruleset some_rules = (told_some)

@@ -18,9 +18,9 @@ use Rattle.mz_lex.specs.Known.{kind_in, differs, HasKinds}
 
 -- look-ups
 
-unfound : (spelling : List ℕ) (es : List Entry) → is_spelled es spelling ≡ false → find (λ e. bytes_eq e.spelling spelling) es ≡ None
-unfound spelling [] h = refl
-unfound spelling (e ∷ es) h = past (bytes_eq e.spelling spelling) (is_spelled es spelling) h (unfound spelling es)
+find-unfound : (spelling : List ℕ) (es : List Entry) → is_spelled es spelling ≡ false → find (λ e. bytes_eq e.spelling spelling) es ≡ None
+find-unfound spelling [] h = refl
+find-unfound spelling (e ∷ es) h = past (bytes_eq e.spelling spelling) (is_spelled es spelling) h (find-unfound spelling es)
   where
     past : (t u : Bool) → (t || u) ≡ false → (u ≡ false → find (λ e. bytes_eq e.spelling spelling) es ≡ None) → cond t (Some e) (find (λ e. bytes_eq e.spelling spelling) es) ≡ None
     past true u h ih = cc
@@ -53,7 +53,7 @@ module _ (known : List Entry) (new : Entry) (unseen : is_spelled known new.spell
       chosen : (t : Bool) → bytes_eq new.spelling spelling ≡ t → option_map (λ e. e.kind) (option_or (find (λ e. bytes_eq e.spelling spelling) known) (cond t (Some new) None)) ≡ cond t (Some new.kind) (kind_in known spelling)
       chosen true e =
           let same : new.spelling ≡ spelling = (bytes_eq-Decides new.spelling spelling).0 e in
-          let none : find (λ e. bytes_eq e.spelling spelling) known ≡ None = unfound spelling known (subst (λ s. is_spelled known s ≡ false) same unseen) in
+          let none : find (λ e. bytes_eq e.spelling spelling) known ≡ None = find-unfound spelling known (subst (λ s. is_spelled known s ≡ false) same unseen) in
           rw none refl
       chosen false e = kept (find (λ e. bytes_eq e.spelling spelling) known)
         where
@@ -66,7 +66,7 @@ module _ (known : List Entry) (new : Entry) (unseen : is_spelled known new.spell
       list_any-append (clashes_with entry) known (new ∷ []) ∙ ap (λ t. t || (clashes_with entry new || false)) so ∙ chosen (bytes_eq new.spelling entry.spelling) refl
     where
       none : bytes_eq new.spelling entry.spelling ≡ true → kind_in known entry.spelling ≡ None
-      none e = ap (option_map (λ e. e.kind)) (unfound entry.spelling known (subst (λ s. is_spelled known s ≡ false) ((bytes_eq-Decides new.spelling entry.spelling).0 e) unseen))
+      none e = ap (option_map (λ e. e.kind)) (find-unfound entry.spelling known (subst (λ s. is_spelled known s ≡ false) ((bytes_eq-Decides new.spelling entry.spelling).0 e) unseen))
 
       or-false : (t : Bool) → (t || (false || false)) ≡ t
       or-false true = refl

@@ -22,10 +22,10 @@ or_one false u h = inr h
 
 -- the index
 
-got : (ls : List Lexeme) (n : ℕ) (l : Lexeme) → n < length ls → l ≡ get_or ls n l → slice_get ls n ≡ Some l
-got [] n l lt e = absurd (omega arith)
-got (x ∷ ls) zero l lt e = ap Some (sym e)
-got (x ∷ ls) (suc n) l lt e = got ls n l (omega arith) e
+slice_get-got : (ls : List Lexeme) (n : ℕ) (l : Lexeme) → n < length ls → l ≡ get_or ls n l → slice_get ls n ≡ Some l
+slice_get-got [] n l lt e = absurd (omega arith)
+slice_get-got (x ∷ ls) zero l lt e = ap Some (sym e)
+slice_get-got (x ∷ ls) (suc n) l lt e = slice_get-got ls n l (omega arith) e
 
 -- no lexeme yet
 pub finds_none : (lexemes : List Lexeme) (positions : Spelled ℕ) (n : ℕ) → n ≡ length lexemes → ((spelling : List ℕ) → value_of positions spelling ≡ None) → FindsFirst lexemes positions (drop n lexemes)
@@ -42,7 +42,7 @@ finds_more lexemes old new p n l written some le en at so ew put spelling =
     let cut : drop n lexemes ≡ l ∷ drop (suc n) lexemes = drop-cons lexemes n l lt ∙ ap (λ z. z ∷ drop (suc n) lexemes) (sym at) in
     let read : value_of new spelling ≡ cond (bytes_eq l.spelling spelling) (Some n) (value_of old spelling) = put spelling ∙ ap (λ w. cond (bytes_eq w spelling) (Some n) (value_of old spelling)) ew in
     let rest : lexeme_at lexemes (value_of old spelling) ≡ lexeme_of (drop (suc n) lexemes) spelling = so spelling ∙ ap (λ k. lexeme_of (drop k lexemes) spelling) next in
-    ap (lexeme_at lexemes) read ∙ chosen rest (got lexemes n l lt at) (bytes_eq l.spelling spelling) ∙ ap (λ ls. lexeme_of ls spelling) (sym cut)
+    ap (lexeme_at lexemes) read ∙ chosen rest (slice_get-got lexemes n l lt at) (bytes_eq l.spelling spelling) ∙ ap (λ ls. lexeme_of ls spelling) (sym cut)
   where
     chosen : lexeme_at lexemes (value_of old spelling) ≡ lexeme_of (drop (suc n) lexemes) spelling → slice_get lexemes n ≡ Some l → (t : Bool) → lexeme_at lexemes (cond t (Some n) (value_of old spelling)) ≡ cond t (Some l) (lexeme_of (drop (suc n) lexemes) spelling)
     chosen rest here true = here

@@ -71,8 +71,8 @@ same_split v more w rest e n =
     let right : more ≡ rest = sym (drop-append_seam v more) ∙ (λ i. drop (n i) (e i)) ∙ drop-append_seam w rest in
     (left, right)
 
-one_token : (ls : List Lexeme) (text v more w rest : List ℕ) → IsToken ls text v more → IsToken ls text w rest → word v more ≡ word w rest
-one_token ls text v more w rest a b =
+word-one_token : (ls : List Lexeme) (text v more w rest : List ℕ) → IsToken ls text v more → IsToken ls text w rest → word v more ≡ word w rest
+word-one_token ls text v more w rest a b =
     let same = same_split v more w rest (sym a.split ∙ b.split) (omega (arith, a.longest w rest b.split b.spells, b.longest v more a.split a.spells)) in
     λ i. word (same.0 i) (same.1 i)
 
@@ -102,8 +102,8 @@ one_line (x ∷ v) more (y ∷ w) rest e av aw em er =
     let same = one_line v more w rest t (and_both (not (is_line_end x)) _ av).1 (and_both (not (is_line_end y)) _ aw).1 em er in
     ((λ i. h i ∷ same.0 i), same.1)
 
-one_comment : (text v more w rest : List ℕ) → IsComment text v more → IsComment text w rest → skip v more ≡ skip w rest
-one_comment text v more w rest a b =
+skip-one_comment : (text v more w rest : List ℕ) → IsComment text v more → IsComment text w rest → skip v more ≡ skip w rest
+skip-one_comment text v more w rest a b =
     let same = one_line v more w rest (sym a.split ∙ b.split) a.one_line b.one_line a.ends b.ends in
     λ i. skip (same.0 i) (same.1 i)
 
@@ -126,7 +126,7 @@ separator_only ls b bs g s (at_token text w rest k) = absurd (token_no_separator
 comment_only : (ls : List Lexeme) (text c bs : List ℕ) (g : Front) → IsComment text c bs → Stands ls text g → g ≡ skip c bs
 comment_only ls text c bs g k at_end = let o = k.opens in cc
 comment_only ls text c bs g k (at_separator b rest s) = absurd (separator_comment b rest s k.opens)
-comment_only ls text c bs g k (at_comment t d rest j) = one_comment text d rest c bs j k
+comment_only ls text c bs g k (at_comment t d rest j) = skip-one_comment text d rest c bs j k
 comment_only ls text c bs g k (at_pragma t h) = let o = k.no_pragma in cc
 comment_only ls text c bs g k (at_bad t j) = let o = k.opens in let n = token_opens text j.opens in cc
 comment_only ls text c bs g k (at_token t w rest j) = let o = k.opens in let n = token_opens text j.opens in cc
@@ -153,7 +153,7 @@ token_only ls text w bs g k (at_separator b rest s) = absurd (token_no_separator
 token_only ls text w bs g k (at_comment t d rest j) = let o = j.opens in let n = token_opens text k.opens in cc
 token_only ls text w bs g k (at_pragma t h) = let o = pragma_comment text h in let n = token_opens text k.opens in cc
 token_only ls text w bs g k (at_bad t j) = absurd (no_bad ls text w bs j k)
-token_only ls text w bs g k (at_token t v rest j) = one_token ls text v rest w bs j k
+token_only ls text w bs g k (at_token t v rest j) = word-one_token ls text v rest w bs j k
 
 -- what a cut is, by what stands at its start
 abbrev MeansBorder : List Lexeme → Mode → ℕ → Place → List ℕ → List ℕ → List Token → End → Type 0

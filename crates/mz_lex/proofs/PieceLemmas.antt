@@ -190,8 +190,8 @@ not_chosen : (t : Bool) (n : ℕ) → None ≡ cond t (Some n) None → t ≡ fa
 not_chosen true n h = cc
 not_chosen false n h = refl
 
-pub no_line_end : (bytes : List ℕ) → None ≡ position is_line_end bytes → length bytes ≡ comment_len bytes
-no_line_end bytes h =
+pub length-no_line_end : (bytes : List ℕ) → None ≡ position is_line_end bytes → length bytes ≡ comment_len bytes
+length-no_line_end bytes h =
     let n : ℕ = comment_len bytes in
     let past : length bytes ≤ n = ltb-false n (length bytes) (not_chosen (nat_lt n (length bytes)) n h) in
     omega (arith, prefix_len-le (λ b. not (is_line_end b)) bytes)

@@ -37,24 +37,24 @@ on_ok (Err e) P Q w h = h
 
 -- the export of a name
 
-push_by : {X : Type 0} (p : X → Bool) (y : X) (ys : List X) (x : X) (b : Bool) → p y ≡ b → cond b (Some y) (find p ys) ≡ None → (find p ys ≡ None → find p (ys ++ x ∷ []) ≡ cond (p x) (Some x) None) → cond (p y) (Some y) (find p (ys ++ x ∷ [])) ≡ cond (p x) (Some x) None
-push_by p y ys x true e h ih = cc
-push_by p y ys x false e h ih = ap (λ b. cond b (Some y) (find p (ys ++ x ∷ []))) e ∙ ih h
+cond-push_by : {X : Type 0} (p : X → Bool) (y : X) (ys : List X) (x : X) (b : Bool) → p y ≡ b → cond b (Some y) (find p ys) ≡ None → (find p ys ≡ None → find p (ys ++ x ∷ []) ≡ cond (p x) (Some x) None) → cond (p y) (Some y) (find p (ys ++ x ∷ [])) ≡ cond (p x) (Some x) None
+cond-push_by p y ys x true e h ih = cc
+cond-push_by p y ys x false e h ih = ap (λ b. cond b (Some y) (find p (ys ++ x ∷ []))) e ∙ ih h
 
 find_push : {X : Type 0} (p : X → Bool) (xs : List X) (x : X) → find p xs ≡ None → find p (xs ++ x ∷ []) ≡ cond (p x) (Some x) None
 find_push p [] x e = refl
-find_push p (y ∷ ys) x e = push_by p y ys x (p y) refl e (find_push p ys x)
+find_push p (y ∷ ys) x e = cond-push_by p y ys x (p y) refl e (find_push p ys x)
 
-more_by : {X : Type 0} (p : X → Bool) (z : X) (zs ys : List X) (x : X) (b : Bool) → p z ≡ b → cond b (Some z) (find p zs) ≡ None → (find p zs ≡ None → find p (zs ++ x ∷ ys) ≡ Some x) → cond (p z) (Some z) (find p (zs ++ x ∷ ys)) ≡ Some x
-more_by p z zs ys x true e h ih = cc
-more_by p z zs ys x false e h ih = ap (λ b. cond b (Some z) (find p (zs ++ x ∷ ys))) e ∙ ih h
+cond-more_by : {X : Type 0} (p : X → Bool) (z : X) (zs ys : List X) (x : X) (b : Bool) → p z ≡ b → cond b (Some z) (find p zs) ≡ None → (find p zs ≡ None → find p (zs ++ x ∷ ys) ≡ Some x) → cond (p z) (Some z) (find p (zs ++ x ∷ ys)) ≡ Some x
+cond-more_by p z zs ys x true e h ih = cc
+cond-more_by p z zs ys x false e h ih = ap (λ b. cond b (Some z) (find p (zs ++ x ∷ ys))) e ∙ ih h
 
-found_more : {X : Type 0} (p : X → Bool) (xs ys : List X) (x : X) → find p xs ≡ None → p x ≡ true → find p (xs ++ x ∷ ys) ≡ Some x
-found_more p [] ys x e passes = ap (λ b. cond b (Some x) (find p ys)) passes
-found_more p (z ∷ zs) ys x e passes = more_by p z zs ys x (p z) refl e (λ h. found_more p zs ys x h passes)
+find-found_more : {X : Type 0} (p : X → Bool) (xs ys : List X) (x : X) → find p xs ≡ None → p x ≡ true → find p (xs ++ x ∷ ys) ≡ Some x
+find-found_more p [] ys x e passes = ap (λ b. cond b (Some x) (find p ys)) passes
+find-found_more p (z ∷ zs) ys x e passes = cond-more_by p z zs ys x (p z) refl e (λ h. find-found_more p zs ys x h passes)
 
-pub found_turn : (es : List Export) (n : Name) (i : ℕ) (e : Export) → slice_get es i ≡ Some e → i < length es → is_export_of n e ≡ false → find (is_export_of n) (take i es) ≡ None → find (is_export_of n) (take (i + 1) es) ≡ None
-found_turn es n i e at lt fails none =
+pub find-found_turn : (es : List Export) (n : Name) (i : ℕ) (e : Export) → slice_get es i ≡ Some e → i < length es → is_export_of n e ≡ false → find (is_export_of n) (take i es) ≡ None → find (is_export_of n) (take (i + 1) es) ≡ None
+find-found_turn es n i e at lt fails none =
     let more : take (i + 1) es ≡ take i es ++ e ∷ [] = take_more es i e lt ∙ ap (λ x. take i es ++ x ∷ []) (read_at es i e at) in
     ap (find (is_export_of n)) more ∙ find_push (is_export_of n) (take i es) e none ∙ ap (λ b. cond b (Some e) None) fails
   where
@@ -63,10 +63,10 @@ found_turn es n i e at lt fails none =
     read_at (y ∷ ys) zero x h = cc
     read_at (y ∷ ys) (suc k) x h = read_at ys k x h
 
-pub named_found : (es : List Export) (n : Name) (i : ℕ) (e : Export) → slice_get es i ≡ Some e → i < length es → is_export_of n e ≡ true → find (is_export_of n) (take i es) ≡ None → export_lines e ≡ named_lines es n
-named_found es n i e at lt passes none =
+pub export_lines-named_found : (es : List Export) (n : Name) (i : ℕ) (e : Export) → slice_get es i ≡ Some e → i < length es → is_export_of n e ≡ true → find (is_export_of n) (take i es) ≡ None → export_lines e ≡ named_lines es n
+export_lines-named_found es n i e at lt passes none =
     let split : es ≡ take i es ++ e ∷ drop (i + 1) es = sym (take-append-drop i es) ∙ ap (λ xs. take i es ++ xs) (drop_more es i e lt ∙ ap (λ x. x ∷ drop (i + 1) es) (read_at es i e at)) in
-    sym (ap lines_of_export (ap (find (is_export_of n)) split ∙ found_more (is_export_of n) (take i es) (drop (i + 1) es) e none passes))
+    sym (ap lines_of_export (ap (find (is_export_of n)) split ∙ find-found_more (is_export_of n) (take i es) (drop (i + 1) es) e none passes))
   where
     read_at : (xs : List Export) (k : ℕ) (x : Export) → slice_get xs k ≡ Some x → get_or xs k x ≡ x
     read_at [] k x h = refl

@@ -153,14 +153,14 @@ occurs_in_formula-formula_over c depth (And f g) = or_from _ _ (occurs_in_formul
 occurs_in_formula-formula_over c depth (All f) = occurs_in_formula-formula_over c (depth + 1) f
 
 -- a constant in place of itself
-itself_or : (c number : ℕ) (b : Bool) → nat_eq number c ≡ b → (if b then Const c else Const number) ≡ Const number
-itself_or c number true e = ap Const (sym (eqb-true number c e))
-itself_or c number false e = refl
+if-itself_or : (c number : ℕ) (b : Bool) → nat_eq number c ≡ b → (if b then Const c else Const number) ≡ Const number
+if-itself_or c number true e = ap Const (sym (eqb-true number c e))
+if-itself_or c number false e = refl
 
 mutual
   term_with-itself : (c : ℕ) (u : Term) → term_with c (Const c) u ≡ u
   term_with-itself c (Bound index) = refl
-  term_with-itself c (Const number) = itself_or c number (nat_eq number c) refl
+  term_with-itself c (Const number) = if-itself_or c number (nat_eq number c) refl
   term_with-itself c (App s us) = ap (λ vs. App s vs) (args_with-itself c us)
 
   args_with-itself : (c : ℕ) (us : Terms) → args_with c (Const c) us ≡ us

@@ -199,8 +199,8 @@ pub stops : (xs ys ts us : List Term) (i : ℕ) (t u : Term) (o : Ordering) → 
 stops xs ys ts us i t u o inv a b et eu e n =
     e ∙ sym (then_stands (term_cmp t u) (terms_cmp (drop (i + 1) ts) (drop (i + 1) us)) (λ q. n (e ∙ q))) ∙ sym (terms_cmp-drop ts us i t u a b et eu) ∙ sym inv
 
-pub goes_on : (xs ys ts us : List Term) (i : ℕ) (t u : Term) → terms_cmp xs ys ≡ terms_cmp (drop i ts) (drop i us) → i < length ts → i < length us → t ≡ get_or ts i t → u ≡ get_or us i u → Equal ≡ term_cmp t u → terms_cmp xs ys ≡ terms_cmp (drop (i + 1) ts) (drop (i + 1) us)
-goes_on xs ys ts us i t u inv a b et eu e =
+pub terms_cmp-goes_on : (xs ys ts us : List Term) (i : ℕ) (t u : Term) → terms_cmp xs ys ≡ terms_cmp (drop i ts) (drop i us) → i < length ts → i < length us → t ≡ get_or ts i t → u ≡ get_or us i u → Equal ≡ term_cmp t u → terms_cmp xs ys ≡ terms_cmp (drop (i + 1) ts) (drop (i + 1) us)
+terms_cmp-goes_on xs ys ts us i t u inv a b et eu e =
     inv ∙ terms_cmp-drop ts us i t u a b et eu ∙ ap (λ o. ordering_then o (terms_cmp (drop (i + 1) ts) (drop (i + 1) us))) (sym e)
 
 pub ruleset compare_rules = (then_end, term_cmp-App)

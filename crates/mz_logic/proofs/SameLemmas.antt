@@ -96,8 +96,8 @@ heads_and_rests f g (a ∷ fs) (b ∷ gs) pf pg = (
       (cc, cc),
 )
 
-pub heads_agree : (f g : Formula) (fs gs : List Formula) → IsPlain f → IsPlain g → conjunction f fs ≡ conjunction g gs → normal_form f ≡ normal_form g
-heads_agree f g fs gs pf pg e = ((heads_and_rests f g fs gs pf pg).1 e).0
+pub normal_form-heads_agree : (f g : Formula) (fs gs : List Formula) → IsPlain f → IsPlain g → conjunction f fs ≡ conjunction g gs → normal_form f ≡ normal_form g
+normal_form-heads_agree f g fs gs pf pg e = ((heads_and_rests f g fs gs pf pg).1 e).0
 
 abbrev IsNoNot : Formula → Type 0
 IsNoNot Truth = Unit {0}
@@ -134,6 +134,6 @@ under_not (All f) h = tt
 pub normal_form-Not : (f : Formula) → IsPlain (Not f) → normal_form (Not f) ≡ Not (normal_form f)
 normal_form-Not f h = negated_plain (normal_form f) (under_not f h)
 
-pub ruleset same_rules = (conjunction-And, conjunction-Not-Not, heads_and_rests, heads_agree)
+pub ruleset same_rules = (conjunction-And, conjunction-Not-Not, heads_and_rests, normal_form-heads_agree)
 
 pub ruleset head_rules = (conjunction-nil, normal_form-Not)

@@ -118,21 +118,21 @@ substitute-at depth ts index h le = elim (cases_lt (index - depth) (length ts)) 
 ]
 
 -- what was shifted past the list's binders is as it was
-beyond_list : (ts : List Term) (k : ℕ) → value_at ts (k + length ts) ≡ Bound k
-beyond_list ts k =
+value_at-beyond_list : (ts : List Term) (k : ℕ) → value_at ts (k + length ts) ≡ Bound k
+value_at-beyond_list ts k =
     let le : length ts ≤ k + length ts = omega arith in
     let down : (k + length ts) - length ts ≡ k = omega arith in
     value_at-beyond ts (k + length ts) le ∙ ap Bound down
 
 pub substitute-past : (depth : ℕ) (ts : List Term) (t : Term) → substitute depth (value_at ts) (shift depth (length ts) t) ≡ t
-substitute-past depth ts t = substitute-unused depth (length ts) (value_at ts) t ∙ (λ i. substitute depth (λ k. beyond_list ts k i) t) ∙ substitute-Bound depth t
+substitute-past depth ts t = substitute-unused depth (length ts) (value_at ts) t ∙ (λ i. substitute depth (λ k. value_at-beyond_list ts k i) t) ∙ substitute-Bound depth t
 
 pub substitute_formula-past : (depth : ℕ) (ts : List Term) (f : Formula) → substitute_formula depth (value_at ts) (shift_formula depth (length ts) f) ≡ f
-substitute_formula-past depth ts f = substitute_formula-unused depth (length ts) (value_at ts) f ∙ (λ i. substitute_formula depth (λ k. beyond_list ts k i) f) ∙ substitute_formula-Bound depth f
+substitute_formula-past depth ts f = substitute_formula-unused depth (length ts) (value_at ts) f ∙ (λ i. substitute_formula depth (λ k. value_at-beyond_list ts k i) f) ∙ substitute_formula-Bound depth f
 
 -- one term after the others is all at once
-past_one : (depth : ℕ) (t w : Term) → substitute depth (value_at (t ∷ [])) (shift 0 (depth + 1) w) ≡ shift 0 depth w
-past_one depth t w =
+substitute-past_one : (depth : ℕ) (t w : Term) → substitute depth (value_at (t ∷ [])) (shift 0 (depth + 1) w) ≡ shift 0 depth w
+substitute-past_one depth t w =
     let low : 0 ≤ depth = omega arith in
     let high : depth ≤ 0 + depth = omega arith in
     ap (substitute depth (value_at (t ∷ []))) (sym (shift-within 0 depth depth 1 w low high)) ∙ substitute-past depth (t ∷ []) (shift 0 depth w)
@@ -154,7 +154,7 @@ one_index-others depth t ts index = elim (cases_order index depth) [
         let far : depth + 1 ≤ index = omega arith in
         let le : depth ≤ index = omega arith in
         let place : index - depth ≡ suc (index - (depth + 1)) = omega arith in
-        ap (substitute depth (value_at (t ∷ []))) (substitute-outside (depth + 1) (value_at ts) index far) ∙ past_one depth t (value_at ts (index - (depth + 1)))
+        ap (substitute depth (value_at (t ∷ []))) (substitute-outside (depth + 1) (value_at ts) index far) ∙ substitute-past_one depth t (value_at ts (index - (depth + 1)))
         ∙ sym (substitute-outside depth (value_at (t ∷ ts)) index le ∙ ap (λ k. shift 0 depth (value_at (t ∷ ts) k)) place)
   ]
 ]
@@ -228,8 +228,8 @@ values_of-within Lowered ts place t lt e = value_at-within ts place t lt ∙ sym
 values_of-within Kept ts place t lt e = get_or_default ts place (Bound place) t lt ∙ sym e
 values_of-within Zero ts place t lt e = get_or_default ts place (Const 0) t lt ∙ sym e
 
-pub substitute-value : (b : Beyond) (depth : ℕ) (ts : List Term) (index : ℕ) (t : Term) → depth ≤ index → index - depth < length ts → t ≡ get_or ts (index - depth) t → shift 0 depth t ≡ substitute depth (values_of b ts) (Bound index)
-substitute-value b depth ts index t le lt e =
+pub shift-substitute-value : (b : Beyond) (depth : ℕ) (ts : List Term) (index : ℕ) (t : Term) → depth ≤ index → index - depth < length ts → t ≡ get_or ts (index - depth) t → shift 0 depth t ≡ substitute depth (values_of b ts) (Bound index)
+shift-substitute-value b depth ts index t le lt e =
     ap (shift 0 depth) (sym (values_of-within b ts (index - depth) t lt e)) ∙ sym (substitute-outside depth (values_of b ts) index le)
 
-pub ruleset value_rules = (substitute-value, substitute-lowered, substitute-kept, substitute-zero, substitute-inside)
+pub ruleset value_rules = (shift-substitute-value, substitute-lowered, substitute-kept, substitute-zero, substitute-inside)

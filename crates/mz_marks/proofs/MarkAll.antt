@@ -138,15 +138,15 @@ marks_count : (reserving : Bool) (s : List TokenClass) → length (marks_from re
 marks_count reserving [] = refl
 marks_count reserving (r ∷ s) = ap suc (marks_count (reserving_after reserving r) s)
 
-nil : (a : List TokenClass) → a ++ [] ≡ a
-nil [] = refl
-nil (q ∷ a) = ap (λ z. q ∷ z) (nil a)
+append-nil : (a : List TokenClass) → a ++ [] ≡ a
+append-nil [] = refl
+append-nil (q ∷ a) = ap (λ z. q ∷ z) (append-nil a)
 
 each_mark : (before s : List TokenClass) (reserving : Bool) → Tells before reserving → (i : ℕ) → i < length s → IsMark (before ++ take i s) (drop i s) (get_or (marks_from reserving s) i mark.NotComma)
 each_mark before [] reserving t i l = absurd (omega (arith, l))
 each_mark before (r ∷ s) reserving t zero l =
     let M : List TokenClass → Type 0 = λ z. IsMark z (r ∷ s) (settled reserving (pending_mark_with r (begins s) (segment s) (reserve_segment s))) in
-    subst M (sym (nil before)) (here before s r reserving t)
+    subst M (sym (append-nil before)) (here before s r reserving t)
 each_mark before (r ∷ s) reserving t (suc i) l =
     let M : List TokenClass → Type 0 = λ z. IsMark z (drop i s) (get_or (marks_from (reserving_after reserving r) s) i mark.NotComma) in
     subst M (append_assoc before (r ∷ []) (take i s)) (each_mark (before ++ r ∷ []) s (reserving_after reserving r) (tells_more before r reserving t) i (omega (arith, l)))

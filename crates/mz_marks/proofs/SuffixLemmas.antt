@@ -79,8 +79,8 @@ on_more classes rest after r reserving outs outs' o marks marks' h e f g =
           ∙ (sym (append_assoc marks (settled reserving o ∷ []) (marks_from (reserving_after reserving r) after)) ∙ ap (λ z. z ++ marks_from (reserving_after reserving r) after) (sym g))));
     }
 
-pub on_end : (classes rest : List TokenClass) (reserving : Bool) (outs : List PendingMark) (marks : List Mark) → On classes rest reserving outs marks → rest ≡ [] → marks_from false classes ≡ marks
-on_end classes rest reserving outs marks h e = h.all ∙ (ap (λ z. marks ++ marks_from reserving z) e ∙ nil marks)
+pub marks_from-on_end : (classes rest : List TokenClass) (reserving : Bool) (outs : List PendingMark) (marks : List Mark) → On classes rest reserving outs marks → rest ≡ [] → marks_from false classes ≡ marks
+marks_from-on_end classes rest reserving outs marks h e = h.all ∙ (ap (λ z. marks ++ marks_from reserving z) e ∙ nil marks)
   where
     nil : (ms : List Mark) → ms ++ [] ≡ ms
     nil [] = refl

@@ -8,11 +8,11 @@ use Rattle.mz_match.specs.declared.table.Table.{Table}
 use Rattle.mz_match.specs.Slots.{Assignment}
 use Rattle.mz_match.specs.Matches.{match_args, match_term, congruent_args, congruent_term}
 
-pub no_values : (table : Table) (depth : ℕ) (ts : List Term) (vs : List ℕ) (es : List Assignment) → (length ts ≡ length vs → ⊥) → match_args table depth (terms_of ts) vs es ≡ []
-no_values table depth [] [] es h = absurd (h refl)
-no_values table depth [] (v ∷ vs) es h = refl
-no_values table depth (t ∷ ts) [] es h = refl
-no_values table depth (t ∷ ts) (v ∷ vs) es h = no_values table depth ts vs (match_term table depth t v es) (λ e. h (omega arith))
+pub match_args-no_values : (table : Table) (depth : ℕ) (ts : List Term) (vs : List ℕ) (es : List Assignment) → (length ts ≡ length vs → ⊥) → match_args table depth (terms_of ts) vs es ≡ []
+match_args-no_values table depth [] [] es h = absurd (h refl)
+match_args-no_values table depth [] (v ∷ vs) es h = refl
+match_args-no_values table depth (t ∷ ts) [] es h = refl
+match_args-no_values table depth (t ∷ ts) (v ∷ vs) es h = match_args-no_values table depth ts vs (match_term table depth t v es) (λ e. h (omega arith))
 
 pub none_congruent : (table : Table) (depth : ℕ) (ts us : List Term) (es : List Assignment) → (length ts ≡ length us → ⊥) → congruent_args table depth (terms_of ts) (terms_of us) es ≡ []
 none_congruent table depth [] [] es h = absurd (h refl)

@@ -19,21 +19,21 @@ use Rattle.mz_match.proofs.SomeLemmas.{some_map, some_none}
 use Rattle.mz_match.proofs.ValueLemmas.{IsRow, ValueIs, value_map, table_value}
 
 -- a variable
-slot_class : (e : Assignment) (a : List ℕ) (i v : ℕ) → Fits e a → slot_at e i ≡ Some v → slice_get a i ≡ Some v
-slot_class [] a i v f h = cc
-slot_class (None ∷ e) [] i v f h = absurd f
-slot_class (Some u ∷ e) [] i v f h = absurd f
-slot_class (None ∷ e) (w ∷ a) zero v f h = cc
-slot_class (Some u ∷ e) (w ∷ a) zero v f h = let q : u ≡ v = cc in ap (λ y. Some y) (sym f.0 ∙ q)
-slot_class (None ∷ e) (w ∷ a) (suc i) v f h = slot_class e a i v f h
-slot_class (Some u ∷ e) (w ∷ a) (suc i) v f h = slot_class e a i v f.1 h
+slice_get-slot_class : (e : Assignment) (a : List ℕ) (i v : ℕ) → Fits e a → slot_at e i ≡ Some v → slice_get a i ≡ Some v
+slice_get-slot_class [] a i v f h = cc
+slice_get-slot_class (None ∷ e) [] i v f h = absurd f
+slice_get-slot_class (Some u ∷ e) [] i v f h = absurd f
+slice_get-slot_class (None ∷ e) (w ∷ a) zero v f h = cc
+slice_get-slot_class (Some u ∷ e) (w ∷ a) zero v f h = let q : u ≡ v = cc in ap (λ y. Some y) (sym f.0 ∙ q)
+slice_get-slot_class (None ∷ e) (w ∷ a) (suc i) v f h = slice_get-slot_class e a i v f h
+slice_get-slot_class (Some u ∷ e) (w ∷ a) (suc i) v f h = slice_get-slot_class e a i v f.1 h
 
 one_class : (x : Option ℕ) (v w : ℕ) → x ≡ Some w → x ≡ Some v → v ≡ w
 one_class x v w h k = let q : Some v ≡ Some w = sym k ∙ h in cc
 
 slot_known : (e : Assignment) (a : List ℕ) (i : ℕ) → Fits e a → (x : Option ℕ) → slot_at e i ≡ x → ValueIs (λ v. slice_get a i ≡ Some v) (slot_value x)
 slot_known e a i f None h = tt
-slot_known e a i f (Some w) h = let q = slot_class e a i w f h in (q, λ v p. one_class (slice_get a i) v w q p)
+slot_known e a i f (Some w) h = let q = slice_get-slot_class e a i w f h in (q, λ v p. one_class (slice_get a i) v w q p)
 
 variable_known : (depth i : ℕ) (e : Assignment) (a : List ℕ) → Fits e a → ValueIs (λ v. (depth ≤ i) × (slice_get a (i - depth) ≡ Some v)) (variable_value depth i e)
 variable_known depth i e a f =

@@ -125,16 +125,16 @@ told_grown h r table mid next number found groups e f others g n more q =
 pub ruleset table_rules = (told_grown)
 
 -- a table without rows
-pub told_empty : (table : Table) → table.groups.entries ≡ [] → (h : Head) → rows_at table h ≡ None
+pub rows_at-told_empty : (table : Table) → table.groups.entries ≡ [] → (h : Head) → rows_at table h ≡ None
 unfolding rows_at
-told_empty table g h = ap (λ es. group_of h (groups_in (lookup (is_at (nat_cmp (number_of h))) es))) g
+rows_at-told_empty table g h = ap (λ es. group_of h (groups_in (lookup (is_at (nat_cmp (number_of h))) es))) g
 
-pub ruleset new_rules = (told_empty)
+pub ruleset new_rules = (rows_at-told_empty)
 
-one_add : (i : ℕ) → suc i ≡ i + 1
-one_add i = omega arith
+suc-one_add : (i : ℕ) → suc i ≡ i + 1
+suc-one_add i = omega arith
 
 pub none_next : (h : Head) (gs : List Group) (i : ℕ) (g : Group) → i < length gs → g ≡ slice_index_or gs i g → same_head g.head h ≡ false → NoneBefore h gs i → NoneBefore h gs (i + 1)
-none_next h gs i g lt e n b = subst (λ (k : ℕ). NoneBefore h gs k) (one_add i) (none_more h gs i g lt e n b)
+none_next h gs i g lt e n b = subst (λ (k : ℕ). NoneBefore h gs k) (suc-one_add i) (none_more h gs i g lt e n b)
 
 pub ruleset place_rules = (none_next, group_at, none_all)

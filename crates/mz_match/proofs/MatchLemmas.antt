@@ -46,9 +46,9 @@ rows_finds p m R a rs f h =
     flat_finds (λ r. if p r then m r else []) (λ r. (p r ≡ true) × R r) a rs (λ r c. if_finds (λ e. Fits e a) (p r) (m r) c.0 (f r c.1)) h
 
 -- a variable
-slot_first : (w v : ℕ) (e : Assignment) (a : List ℕ) → Fits (Some w ∷ e) a → w ≡ v → slice_get a 0 ≡ Some v
-slot_first w v e [] f q = absurd f
-slot_first w v e (x ∷ a) f q = ap (λ y. Some y) (sym f.0 ∙ q)
+slice_get-slot_first : (w v : ℕ) (e : Assignment) (a : List ℕ) → Fits (Some w ∷ e) a → w ≡ v → slice_get a 0 ≡ Some v
+slice_get-slot_first w v e [] f q = absurd f
+slice_get-slot_first w v e (x ∷ a) f q = ap (λ y. Some y) (sym f.0 ∙ q)
 
 some_pull : (w x : ℕ) (a : List ℕ) (ds : List Assignment) → SomeOf (λ d. (w ≡ x) × Fits d a) ds → (w ≡ x) × Covered ds a
 some_pull w x a ds h = pull (w ≡ x) (λ d. Fits d a) ds h
@@ -59,7 +59,7 @@ bind_found zero v (None ∷ e) [] h = elim h [ inl f ↦ absurd f | inr b ↦ ab
 bind_found zero v (None ∷ e) (x ∷ a) h = elim h [ inl f ↦ (f.1, ap (λ y. Some y) (sym f.0)) | inr b ↦ absurd b ]
 bind_found zero v (Some w ∷ e) a h =
     let r = if_found (λ d. Fits d a) (nat_eq w v) ((Some w ∷ e) ∷ []) h in
-    elim r.1 [ inl f ↦ (f, slot_first w v e a f (eqb-true w v r.0)) | inr b ↦ absurd b ]
+    elim r.1 [ inl f ↦ (f, slice_get-slot_first w v e a f (eqb-true w v r.0)) | inr b ↦ absurd b ]
 bind_found (suc i) v (None ∷ e) [] h = absurd (some_none (bind i v e) (out_of_map (λ d. Fits d []) (λ d. None ∷ d) (bind i v e) h))
 bind_found (suc i) v (Some w ∷ e) [] h = absurd (some_none (bind i v e) (out_of_map (λ d. Fits d []) (λ d. Some w ∷ d) (bind i v e) h))
 bind_found (suc i) v (None ∷ e) (x ∷ a) h = bind_found i v e a (out_of_map (λ d. Fits d (x ∷ a)) (λ d. None ∷ d) (bind i v e) h)

@@ -157,15 +157,15 @@ all_fit (m ∷ scope) (Some w ∷ l) a h zero i q = let r : m ≡ i = cc in sym 
 all_fit (m ∷ scope) (None ∷ l) a h (suc j) i q = all_fit scope l a h j i q
 all_fit (m ∷ scope) (Some w ∷ l) a h (suc j) i q = all_fit scope l a h.1 j i q
 
-fits_long : (scope : List ℕ) (l : Assignment) (a : ℕ → ℕ) → Fits l (map a scope) → length scope ≡ length l
-fits_long [] [] a h = refl
-fits_long [] (x ∷ l) a h = absurd h
-fits_long (i ∷ scope) [] a h = absurd h
-fits_long (i ∷ scope) (None ∷ l) a h = ap suc (fits_long scope l a h)
-fits_long (i ∷ scope) (Some w ∷ l) a h = ap suc (fits_long scope l a h.1)
+length-fits_long : (scope : List ℕ) (l : Assignment) (a : ℕ → ℕ) → Fits l (map a scope) → length scope ≡ length l
+length-fits_long [] [] a h = refl
+length-fits_long [] (x ∷ l) a h = absurd h
+length-fits_long (i ∷ scope) [] a h = absurd h
+length-fits_long (i ∷ scope) (None ∷ l) a h = ap suc (length-fits_long scope l a h)
+length-fits_long (i ∷ scope) (Some w ∷ l) a h = ap suc (length-fits_long scope l a h.1)
 
 pub told_unlike : (scope : List ℕ) (l e : Assignment) → (length scope ≡ length l → ⊥) → Extends (λ a. Fits l (map a scope)) e e false
-told_unlike scope l e n = record { count = refl; there = λ r. absurd (true_not_false false r refl); nowhere = λ r a g h. n (fits_long scope l a h) }
+told_unlike scope l e n = record { count = refl; there = λ r. absurd (true_not_false false r refl); nowhere = λ r a g h. n (length-fits_long scope l a h) }
 
 pub told_all_bound : (scope : List ℕ) (l e d : Assignment) → length scope ≡ length l → Extends (λ a. FitsTo scope l a (length scope)) e d true → Extends (λ a. Fits l (map a scope)) e d true
 told_all_bound scope l e d n h = record {

@@ -49,9 +49,9 @@ is_list_turned s t n =
     ]
 
 -- what an insertion leaves, at each list
-pub inserted : {K X S : Type 0} (items : K → List ℕ) (m n : HashMap K X S) (key : K) (v : X) → UpdatesBy (λ a b. is_list (items a) (items b)) (λ k. is_list (items key) (items k)) m n (Some v) → (s : List ℕ) → lookup (λ k. is_list s (items k)) n.entries ≡ (if is_list s (items key) then Some v else lookup (λ k. is_list s (items k)) m.entries)
+pub lookup-inserted : {K X S : Type 0} (items : K → List ℕ) (m n : HashMap K X S) (key : K) (v : X) → UpdatesBy (λ a b. is_list (items a) (items b)) (λ k. is_list (items key) (items k)) m n (Some v) → (s : List ℕ) → lookup (λ k. is_list s (items k)) n.entries ≡ (if is_list s (items key) then Some v else lookup (λ k. is_list s (items k)) m.entries)
 unfolding KeepsOthers
-inserted {K} {X} {S} items m n key v u s =
+lookup-inserted {K} {X} {S} items m n key v u s =
     let here : (b : Bool) → is_list s (items key) ≡ b → lookup (λ k. is_list s (items k)) n.entries ≡ (if b then Some v else lookup (λ k. is_list s (items k)) m.entries)
     = elim [
       | true ↦ λ e. subst (λ (z : List ℕ). lookup (λ k. is_list z (items k)) n.entries ≡ Some v) (sym (is_list_true s (items key) e)) u.1
@@ -59,18 +59,18 @@ inserted {K} {X} {S} items m n key v u s =
     ] in
     here (is_list s (items key)) refl
 
-pub inserted_value : (x y : Option Value) (b : Bool) (v : Value) → x ≡ (if b then Some v else y) → or_nothing x ≡ (if b then v else or_nothing y)
-inserted_value x y true v e = ap or_nothing e
-inserted_value x y false v e = ap or_nothing e
+pub or_nothing-inserted_value : (x y : Option Value) (b : Bool) (v : Value) → x ≡ (if b then Some v else y) → or_nothing x ≡ (if b then v else or_nothing y)
+or_nothing-inserted_value x y true v e = ap or_nothing e
+or_nothing-inserted_value x y false v e = ap or_nothing e
 
 -- one row more
-put_append : (b : Bool) (v : ℕ) (x y all : List ℕ) → all ≡ x ++ y → (if b then v ∷ all else all) ≡ (if b then v ∷ x else x) ++ y
-put_append true v x y all e = ap (λ zs. v ∷ zs) e
-put_append false v x y all e = e
+cons-put_append : (b : Bool) (v : ℕ) (x y all : List ℕ) → all ≡ x ++ y → (if b then v ∷ all else all) ≡ (if b then v ∷ x else x) ++ y
+cons-put_append true v x y all e = ap (λ zs. v ∷ zs) e
+cons-put_append false v x y all e = e
 
 values_of-append : (rs ks : List Row) (args : List ℕ) → values_of (rs ++ ks) args ≡ values_of rs args ++ values_of ks args
 values_of-append [] ks args = refl
-values_of-append (r ∷ rs) ks args = put_append (is_list r.args.items args) r.value (values_of rs args) (values_of ks args) (values_of (rs ++ ks) args) (values_of-append rs ks args)
+values_of-append (r ∷ rs) ks args = cons-put_append (is_list r.args.items args) r.value (values_of rs args) (values_of ks args) (values_of (rs ++ ks) args) (values_of-append rs ks args)
 
 right_with : (k : Value) (vs : List ℕ) (v : ℕ) → is_right k vs ≡ true → is_right (with_value k v) (vs ++ v ∷ []) ≡ true
 right_with Unknown vs v h = refl

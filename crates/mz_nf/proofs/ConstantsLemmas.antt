@@ -23,11 +23,11 @@ or_assoc : (a b c : Bool) → ((a || b) || c) ≡ (a || (b || c))
 or_assoc true b c = refl
 or_assoc false b c = refl
 
-inserted : (a b : Bool) → cond a true b ≡ (b || a)
-inserted true true = refl
-inserted true false = refl
-inserted false true = refl
-inserted false false = refl
+cond-inserted : (a b : Bool) → cond a true b ≡ (b || a)
+cond-inserted true true = refl
+cond-inserted true false = refl
+cond-inserted false true = refl
+cond-inserted false false = refl
 
 -- one more element at the end of those that are taken
 any_more : {X : Type 0} (p : X → Bool) (xs : List X) (i : ℕ) (x : X) → x ≡ get_or xs i x → i < length xs → list_any p (take (i + 1) xs) ≡ (list_any p (take i xs) || p x)
@@ -41,7 +41,7 @@ told_bound t n a e c = rw e (or_false (has a c))
 
 pub told_constant : {S : Type 0} (t : Term) (n : ℕ) (a b : HashSet ℕ S) → t ≡ Const n → Updates nat_eq a b n true → AddsTerm t a b
 unfolding AddsTerm
-told_constant t n a b e u c = rw e (u.0 c ∙ inserted (nat_eq n c) (has a c))
+told_constant t n a b e u c = rw e (u.0 c ∙ cond-inserted (nat_eq n c) (has a c))
 
 pub told_application : {S : Type 0} (t : Term) (s : Sym) (ts : List Term) (a b : HashSet ℕ S) → t ≡ App s (terms_of ts) → AddsTerms ts a b → AddsTerm t a b
 unfolding AddsTerm AddsTerms
@@ -97,9 +97,9 @@ pub told_formulas : {S : Type 0} (fs : List Formula) (i : ℕ) (a b : HashSet �
 unfolding AddsFormulas
 told_formulas fs i a b h le c = h c ∙ ap (λ gs. has a c || list_any (occurs_in_formula c) gs) (take_all i fs le)
 
-pub told_problem : {S : Type 0} (p : Problem) (a b d : HashSet ℕ S) → IsEmpty a → AddsFormulas p.premises a b → AddsFormula p.conclusion b d → (c : ℕ) → has d c ≡ has_constant p c
+pub has-told_problem : {S : Type 0} (p : Problem) (a b d : HashSet ℕ S) → IsEmpty a → AddsFormulas p.premises a b → AddsFormula p.conclusion b d → (c : ℕ) → has d c ≡ has_constant p c
 unfolding AddsFormula AddsFormulas
-told_problem p a b d e h k c =
+has-told_problem p a b d e h k c =
     let none : has a c ≡ false = ap (λ ks. list_any (nat_eq c) ks) e in
     k c ∙ ap (λ x. x || occurs_in_formula c p.conclusion) (h c ∙ ap (λ x. x || list_any (occurs_in_formula c) p.premises) none)
 
@@ -111,4 +111,4 @@ pub ruleset formula_rules = (told_truth, told_equation, told_atom, told_negation
 
 pub ruleset formulas_rules = (told_no_formulas, told_more_formulas, told_formulas)
 
-pub ruleset problem_rules = (told_problem)
+pub ruleset problem_rules = (has-told_problem)

@@ -40,9 +40,9 @@ pub told_problem : (p : Problem) (x m n : ℕ) → x ≡ capped (m * n) → m �
 told_problem p x m n ex em en = told_product x m n (count_all p.premises) (count false p.conclusion) ex em en ∙ ap capped (sym (count_all-more p.premises (Not p.conclusion)))
 
 -- a capped count is 0 exactly where the count is
-pub told_zero : (x m n a b : ℕ) → x ≡ capped (m * n) → m ≡ capped a → n ≡ capped b → x ≡ 0 → a * b ≡ 0
+pub product-told_zero : (x m n a b : ℕ) → x ≡ capped (m * n) → m ≡ capped a → n ≡ capped b → x ≡ 0 → a * b ≡ 0
 unfolding capped
-told_zero x m n a b ex em en z =
+product-told_zero x m n a b ex em en z =
     let e : x ≡ capped (a * b) = told_product x m n a b ex em en in
     omega arith
 
@@ -50,7 +50,7 @@ pub told_some : (x m n a b : ℕ) → x ≡ capped (m * n) → m ≡ capped a �
 unfolding capped
 told_some x m n a b ex em en z = told_product x m n a b ex em en ∙ ap capped z
 
-pub ruleset pair_rules = (told_zero, told_some)
+pub ruleset pair_rules = (product-told_zero, told_some)
 
 pub ruleset count_rules = (capped-zero, capped-one, told_conjunction, told_conjunction_negated)
 

@@ -67,27 +67,27 @@ all_splits_once used fs k m n ds es (splits.next f gs l o r xs ys h i) (splits.n
     ((λ t. pairs (r1.0 t) (r2.0 t)), r2.1)
 
 -- their number is the count
-pub splits_count : (used : ℕ → Bool) (s : Bool) (f : Formula) (k m : ℕ) (ds : List Disjunct) → Splits used s f k ds m → length ds ≡ count s f
-splits_count used s f k m ds (splits.truth l) = refl
-splits_count used s f k m ds (splits.truth_negated l) = refl
-splits_count used s f k m ds (splits.equation true t u l) = refl
-splits_count used s f k m ds (splits.equation false t u l) = refl
-splits_count used s f k m ds (splits.atom true p ts l) = refl
-splits_count used s f k m ds (splits.atom false p ts l) = refl
-splits_count used s f k m ds (splits.negation g l n xs h) = splits_count used false g l n xs h
-splits_count used s f k m ds (splits.negation_negated g l n xs h) = splits_count used true g l n xs h
-splits_count used s f k m ds (splits.conjunction p q l n o xs ys h i) =
-    length-pairs xs ys ∙ (λ t. splits_count used true p l n xs h t * splits_count used true q n o ys i t)
-splits_count used s f k m ds (splits.conjunction_negated p q l n o xs ys h i) =
-    length-append xs ys ∙ (λ t. splits_count used false p l n xs h t + splits_count used false q n o ys i t)
-splits_count used s f k m ds (splits.universal b l) = refl
-splits_count used s f k m ds (splits.universal_negated b l c n xs i h) =
-    splits_count used false (body_at b (Const c)) (suc c) n xs h ∙ count-substitute_formula false 0 (value_at (Const c ∷ [])) b
+pub length-splits_count : (used : ℕ → Bool) (s : Bool) (f : Formula) (k m : ℕ) (ds : List Disjunct) → Splits used s f k ds m → length ds ≡ count s f
+length-splits_count used s f k m ds (splits.truth l) = refl
+length-splits_count used s f k m ds (splits.truth_negated l) = refl
+length-splits_count used s f k m ds (splits.equation true t u l) = refl
+length-splits_count used s f k m ds (splits.equation false t u l) = refl
+length-splits_count used s f k m ds (splits.atom true p ts l) = refl
+length-splits_count used s f k m ds (splits.atom false p ts l) = refl
+length-splits_count used s f k m ds (splits.negation g l n xs h) = length-splits_count used false g l n xs h
+length-splits_count used s f k m ds (splits.negation_negated g l n xs h) = length-splits_count used true g l n xs h
+length-splits_count used s f k m ds (splits.conjunction p q l n o xs ys h i) =
+    length-pairs xs ys ∙ (λ t. length-splits_count used true p l n xs h t * length-splits_count used true q n o ys i t)
+length-splits_count used s f k m ds (splits.conjunction_negated p q l n o xs ys h i) =
+    length-append xs ys ∙ (λ t. length-splits_count used false p l n xs h t + length-splits_count used false q n o ys i t)
+length-splits_count used s f k m ds (splits.universal b l) = refl
+length-splits_count used s f k m ds (splits.universal_negated b l c n xs i h) =
+    length-splits_count used false (body_at b (Const c)) (suc c) n xs h ∙ count-substitute_formula false 0 (value_at (Const c ∷ [])) b
 
-pub all_splits_count : (used : ℕ → Bool) (fs : List Formula) (k m : ℕ) (ds : List Disjunct) → SplitsAll used fs k ds m → length ds ≡ count_all fs
-all_splits_count used fs k m ds (splits.end l) = refl
-all_splits_count used fs k m ds (splits.next f gs l n o xs ys h i) =
-    length-pairs xs ys ∙ (λ t. splits_count used true f l n xs h t * all_splits_count used gs n o ys i t)
+pub length-all_splits_count : (used : ℕ → Bool) (fs : List Formula) (k m : ℕ) (ds : List Disjunct) → SplitsAll used fs k ds m → length ds ≡ count_all fs
+length-all_splits_count used fs k m ds (splits.end l) = refl
+length-all_splits_count used fs k m ds (splits.next f gs l n o xs ys h i) =
+    length-pairs xs ys ∙ (λ t. length-splits_count used true f l n xs h t * length-all_splits_count used gs n o ys i t)
 
 -- the laws of a problem
 neither : (a b : Bool) → a ≡ false → b ≡ false → (a || b) ≡ false
@@ -109,21 +109,21 @@ one_list p =
     (r.0, r.1, λ es h. (all_splits_once (has_constant p) (parts_of p) 1 h.0 (r.1).0 es r.0 h.1 (r.1).1).0)
 
 pub length-disjuncts : (p : Problem) (ds : List Disjunct) → AreDisjuncts p ds → length ds ≡ count_all (parts_of p)
-length-disjuncts p ds h = all_splits_count (has_constant p) (parts_of p) 1 h.0 ds h.1
+length-disjuncts p ds h = length-all_splits_count (has_constant p) (parts_of p) 1 h.0 ds h.1
 
 pub count_law : (p : Problem) (ds : List Disjunct) → AreDisjuncts p ds → count_of p ≡ capped (length ds)
 count_law p ds h = ap capped (sym (length-disjuncts p ds h))
 
 -- a count that isn't capped is the length
-pub told_few : (p : Problem) (ds : List Disjunct) (x : ℕ) → AreDisjuncts p ds → x ≡ count_of p → x ≤ 1024 → length ds ≡ count_of p
+pub length-told_few : (p : Problem) (ds : List Disjunct) (x : ℕ) → AreDisjuncts p ds → x ≡ count_of p → x ≤ 1024 → length ds ≡ count_of p
 unfolding capped
-told_few p ds x h e le =
+length-told_few p ds x h e le =
     let c : count_of p ≡ capped (length ds) = count_law p ds h in
     omega arith
 
 pub told_small : (p : Problem) (ds : List Disjunct) (x : ℕ) → AreDisjuncts p ds → x ≡ count_of p → x ≤ 1024 → length ds ≤ 1024
 told_small p ds x h e le =
-    let n : length ds ≡ count_of p = told_few p ds x h e le in
+    let n : length ds ≡ count_of p = length-told_few p ds x h e le in
     omega arith
 
 -- a problem whose count is 0
@@ -142,4 +142,4 @@ told_none p ds x d e z =
 pub told_no_length : (p : Problem) (ds : List Disjunct) (x : ℕ) → ds ≡ [] → x ≡ count_of p → x ≡ 0 → length ds ≡ count_of p
 told_no_length p ds x d e z = ap length d ∙ sym z ∙ e
 
-pub ruleset disjuncts_rules = (told_few, told_small, told_none, told_no_length)
+pub ruleset disjuncts_rules = (length-told_few, told_small, told_none, told_no_length)

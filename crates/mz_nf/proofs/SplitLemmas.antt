@@ -22,7 +22,7 @@ use Rattle.mz_nf.specs.Takes.{Takes}
 use Rattle.mz_nf.specs.Count.{count}
 use Rattle.mz_nf.proofs.PairLemmas.{pairs_assoc, pairs-empty, empty-pairs}
 use Rattle.mz_nf.proofs.TakesLemmas.{HasSplit, takes_split}
-use Rattle.mz_nf.proofs.OneListLemmas.{splits_count}
+use Rattle.mz_nf.proofs.OneListLemmas.{length-splits_count}
 
 -- a formula, by its form
 pub told_truth : (used : ℕ → Bool) (s : Bool) (f : Formula) (k : ℕ) (ds : List Disjunct) → f ≡ Truth → ds ≡ (if s then empty ∷ [] else []) → Splits used s f k ds k
@@ -64,7 +64,7 @@ nothing (d ∷ ds) e = absurd (omega arith)
 pub told_nothing : (used : ℕ → Bool) (s : Bool) (g h : Formula) (k m n : ℕ) (ds : List Disjunct) → s ≡ true → count true g * count true h ≡ 0 → Takes used true g k m → Takes used true h m n → ds ≡ [] → Splits used s (And g h) k ds n
 told_nothing used s g h k m n ds z c a b ed =
     let r : HasSplit used true (And g h) k n = takes_split used true (And g h) k n (takes.conjunction true g h k m n a b) in
-    let none : r.0 ≡ [] = nothing r.0 (splits_count used true (And g h) k n r.0 r.1 ∙ c) in
+    let none : r.0 ≡ [] = nothing r.0 (length-splits_count used true (And g h) k n r.0 r.1 ∙ c) in
     rw (z, ed) (subst (λ (y : List Disjunct). Splits used true (And g h) k y n) none r.1)
 
 pub ruleset pair_rules = (told_pair, told_nothing)

@@ -147,34 +147,34 @@ is_stated : (ps : List NowPart) (o : Option Statement) → o ≡ stated_kept ps 
 is_stated ps o e = record { kept = e; stated = λ s h. whole_law ps (conjuncts_kept ps) (conjuncts_law ps) s (sym e ∙ h) }
 
 -- the parts, from the last one on
-from_last : (ps : List NowPart) (i j : ℕ) (p : NowPart) → j ≡ i - 1 → 0 < i → i ≤ length ps → p ≡ get_or ps j p → drop j ps ≡ p ∷ drop i ps
-from_last ps zero j p ej lt le e = absurd (omega (arith, lt))
-from_last ps (suc n) j p ej lt le e =
+drop-from_last : (ps : List NowPart) (i j : ℕ) (p : NowPart) → j ≡ i - 1 → 0 < i → i ≤ length ps → p ≡ get_or ps j p → drop j ps ≡ p ∷ drop i ps
+drop-from_last ps zero j p ej lt le e = absurd (omega (arith, lt))
+drop-from_last ps (suc n) j p ej lt le e =
     let same : j ≡ n = omega (arith, ej) in
     let within : j < length ps = omega (arith, le, same) in
     drop-cons ps j p within ∙ (ap (λ q. q ∷ drop (suc j) ps) (sym e) ∙ ap (λ m. p ∷ drop (suc m) ps) same)
 
-part_is : (ps : List NowPart) (i j : ℕ) (p : NowPart) (old : List Statement) (o : Option (List Statement)) → j ≡ i - 1 → 0 < i → i ≤ length ps → p ≡ get_or ps j p → conjuncts_kept (drop i ps) ≡ Some old → o ≡ kept_with p old → conjuncts_kept (drop j ps) ≡ o
-part_is ps i j p old o ej lt le e h k = ap conjuncts_kept (from_last ps i j p ej lt le e) ∙ (ap (in_front_of p) h ∙ sym k)
+conjuncts_kept-part_is : (ps : List NowPart) (i j : ℕ) (p : NowPart) (old : List Statement) (o : Option (List Statement)) → j ≡ i - 1 → 0 < i → i ≤ length ps → p ≡ get_or ps j p → conjuncts_kept (drop i ps) ≡ Some old → o ≡ kept_with p old → conjuncts_kept (drop j ps) ≡ o
+conjuncts_kept-part_is ps i j p old o ej lt le e h k = ap conjuncts_kept (drop-from_last ps i j p ej lt le e) ∙ (ap (in_front_of p) h ∙ sym k)
 
-none_before : (ps : List NowPart) (j : ℕ) → conjuncts_kept (drop j ps) ≡ None → conjuncts_kept ps ≡ None
-none_before [] zero h = h
-none_before [] (suc j) h = h
-none_before (p ∷ ps) zero h = h
-none_before (p ∷ ps) (suc j) h = ap (in_front_of p) (none_before ps j h)
+conjuncts_kept-none_before : (ps : List NowPart) (j : ℕ) → conjuncts_kept (drop j ps) ≡ None → conjuncts_kept ps ≡ None
+conjuncts_kept-none_before [] zero h = h
+conjuncts_kept-none_before [] (suc j) h = h
+conjuncts_kept-none_before (p ∷ ps) zero h = h
+conjuncts_kept-none_before (p ∷ ps) (suc j) h = ap (in_front_of p) (conjuncts_kept-none_before ps j h)
 
-pub told_part : (ps : List NowPart) (i j : ℕ) (p : NowPart) (old new : List Statement) (o : Option (List Statement)) → j ≡ i - 1 → 0 < i → i ≤ length ps → p ≡ get_or ps j p → conjuncts_kept (drop i ps) ≡ Some old → o ≡ kept_with p old → o ≡ Some new → conjuncts_kept (drop j ps) ≡ Some new
-told_part ps i j p old new o ej lt le e h k is = part_is ps i j p old o ej lt le e h k ∙ is
+pub conjuncts_kept-told_part : (ps : List NowPart) (i j : ℕ) (p : NowPart) (old new : List Statement) (o : Option (List Statement)) → j ≡ i - 1 → 0 < i → i ≤ length ps → p ≡ get_or ps j p → conjuncts_kept (drop i ps) ≡ Some old → o ≡ kept_with p old → o ≡ Some new → conjuncts_kept (drop j ps) ≡ Some new
+conjuncts_kept-told_part ps i j p old new o ej lt le e h k is = conjuncts_kept-part_is ps i j p old o ej lt le e h k ∙ is
 
 pub told_part_beyond : (parts ps : List NowPart) (i j : ℕ) (p : NowPart) (old : List Statement) (o : Option (List Statement)) → ps ≡ parts → j ≡ i - 1 → 0 < i → i ≤ length ps → p ≡ get_or ps j p → conjuncts_kept (drop i ps) ≡ Some old → o ≡ kept_with p old → o ≡ None → IsStated parts None
 told_part_beyond parts ps i j p old o ep ej lt le e h k is =
-    is_stated parts None (ap whole_of (sym (none_before ps j (part_is ps i j p old o ej lt le e h k ∙ is))) ∙ ap stated_kept ep)
+    is_stated parts None (ap whole_of (sym (conjuncts_kept-none_before ps j (conjuncts_kept-part_is ps i j p old o ej lt le e h k ∙ is))) ∙ ap stated_kept ep)
 
-pub told_no_part : (ps : List NowPart) (i : ℕ) (ss : List Statement) → i ≡ length ps → ss ≡ [] → conjuncts_kept (drop i ps) ≡ Some ss
-told_no_part ps i ss ei h = ap conjuncts_kept (ap (λ m. drop m ps) ei ∙ drop-length ps) ∙ ap Some (sym h)
+pub conjuncts_kept-told_no_part : (ps : List NowPart) (i : ℕ) (ss : List Statement) → i ≡ length ps → ss ≡ [] → conjuncts_kept (drop i ps) ≡ Some ss
+conjuncts_kept-told_no_part ps i ss ei h = ap conjuncts_kept (ap (λ m. drop m ps) ei ∙ drop-length ps) ∙ ap Some (sym h)
 
 pub told_stated : (parts ps : List NowPart) (i : ℕ) (ss : List Statement) (o : Option Statement) → ps ≡ parts → i ≡ 0 → conjuncts_kept (drop i ps) ≡ Some ss → o ≡ whole_kept ss → IsStated parts o
 told_stated parts ps i ss o ep ei h k =
     is_stated parts o (k ∙ (ap whole_of (sym h) ∙ (ap (λ m. whole_of (conjuncts_kept (drop m ps))) ei ∙ ap stated_kept ep)))
 
-pub ruleset stated_rules = (told_part, told_part_beyond, told_no_part, told_stated)
+pub ruleset stated_rules = (conjuncts_kept-told_part, told_part_beyond, conjuncts_kept-told_no_part, told_stated)

@@ -17,7 +17,7 @@ use Rattle.mz_ground.specs.Table.{IsTable, entry_terms}
 use Rattle.mz_ground.specs.declared.ground_atom.GroundAtom.{GroundAtom}
 use Rattle.mz_ground.specs.declared.ground_term.GroundTerm.{GroundTerm}
 use Rattle.mz_ground.specs.declared.ground_term.GroundTerm.TheVariants.{Const, App}
-use Rattle.mz_ground.proofs.TableLemmas.{table_read, entry_terms-length}
+use Rattle.mz_ground.proofs.TableLemmas.{term_at-table_read, entry_terms-length}
 use Rattle.mz_ground.specs.declared.ground_part.Ground.{Ground}
 use Rattle.mz_numbering.specs.Numbering.{option_atom_cmp}
 use Rattle.mz_numbering.specs.Entry.{symbol_in, constant_in, args_in}
@@ -44,7 +44,7 @@ parts_at es t p =
     let here : (o : Option GroundTerm) → slice_get es p ≡ o → term_at (entry_terms es) p ≡ term_of_parts (entry_terms es) (symbol_in o) (args_in o) (constant_in o)
     = elim [
       | None ↦ λ e. ap term_or_zero (slice_get_past (entry_terms es) p (past es p e))
-      | Some x ↦ λ e. table_read es t p x e ∙ parts_of_entry (entry_terms es) x
+      | Some x ↦ λ e. term_at-table_read es t p x e ∙ parts_of_entry (entry_terms es) x
     ] in
     here (slice_get es p) refl
 

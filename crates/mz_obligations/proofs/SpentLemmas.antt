@@ -10,7 +10,7 @@ spent_one l (suc n) m h e = let same : n ≡ m = omega (arith, e) in ap (λ k. S
 pub told_spent : (old new : Left) → (old.obligations ≡ 0 → ⊥) → new ≡ record old { obligations = old.obligations - 1 } → obligation_spent old ≡ Some new
 told_spent old new h e = spent_one old old.obligations (old.obligations - 1) h refl ∙ ap Some (sym e)
 
-pub told_none : (l : Left) → l.obligations ≡ 0 → obligation_spent l ≡ None
-told_none l e = ap (spent l) e
+pub obligation_spent-told_none : (l : Left) → l.obligations ≡ 0 → obligation_spent l ≡ None
+obligation_spent-told_none l e = ap (spent l) e
 
-pub ruleset spent_rules = (told_spent, told_none)
+pub ruleset spent_rules = (told_spent, obligation_spent-told_none)

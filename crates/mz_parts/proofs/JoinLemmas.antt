@@ -18,9 +18,9 @@ beyond_to : (s : Statement) (ss : List Statement) → statement_keeps s ≡ fals
 beyond_to s [] h = h
 beyond_to s (t ∷ ts) h = beyond_to (And s t) ts (beyond_and s t h)
 
-pub told_and : (first : Place) (s t : Statement) (rest others : List LabelledStatement) (p : LabelledStatement) (o goal : Result Statement Refusal) → rest ≡ p ∷ others → o ≡ within statement_keeps first (And s p.statement) → o ≡ Ok t →
+pub within-told_and : (first : Place) (s t : Statement) (rest others : List LabelledStatement) (p : LabelledStatement) (o goal : Result Statement Refusal) → rest ≡ p ∷ others → o ≡ within statement_keeps first (And s p.statement) → o ≡ Ok t →
     within statement_keeps first (conjunction_to s (map statement_of rest)) ≡ goal → within statement_keeps first (conjunction_to t (map statement_of others)) ≡ goal
-told_and first s t rest others p o goal er eo et h =
+within-told_and first s t rest others p o goal er eo et h =
     ap (λ u. within statement_keeps first (conjunction_to u (map statement_of others))) (within_kept first (And s p.statement) t (sym eo ∙ et)) ∙ (ap (λ xs. within statement_keeps first (conjunction_to s (map statement_of xs))) (sym er) ∙ h)
 
 pub told_and_refused : (first : Place) (s : Statement) (rest others : List LabelledStatement) (p : LabelledStatement) (o goal : Result Statement Refusal) (r : Refusal) → rest ≡ p ∷ others → o ≡ within statement_keeps first (And s p.statement) → o ≡ Err r →
@@ -35,7 +35,7 @@ pub told_and_end : (first : Place) (s : Statement) (rest : List LabelledStatemen
     within statement_keeps first (conjunction_to s (map statement_of rest)) ≡ goal → o ≡ goal
 told_and_end first s rest o goal er eo h = eo ∙ (ap (λ xs. within statement_keeps first (conjunction_to s (map statement_of xs))) (sym (empty rest er)) ∙ h)
 
-pub ruleset conjunction_rules = (told_and, told_and_refused, told_and_end)
+pub ruleset conjunction_rules = (within-told_and, told_and_refused, told_and_end)
 
 -- a disjunction that is joined to a further statement is larger: its conjunction stands in the new one
 beyond_or : (s t u : Statement) → statement_keeps (disjunction s t) ≡ false → statement_keeps (disjunction (disjunction s t) u) ≡ false
@@ -46,9 +46,9 @@ beyond_some : (s t : Statement) (us : List Statement) → statement_keeps (disju
 beyond_some s t [] h = h
 beyond_some s t (u ∷ us) h = beyond_some (disjunction s t) u us (beyond_or s t u h)
 
-pub told_or : (first : Place) (s u : Statement) (rest others : List Statement) (t : Statement) (o goal : Result Statement Refusal) → rest ≡ t ∷ others → o ≡ within statement_keeps first (disjunction s t) → o ≡ Ok u →
+pub within-told_or : (first : Place) (s u : Statement) (rest others : List Statement) (t : Statement) (o goal : Result Statement Refusal) → rest ≡ t ∷ others → o ≡ within statement_keeps first (disjunction s t) → o ≡ Ok u →
     within statement_keeps first (disjunction_to s rest) ≡ goal → within statement_keeps first (disjunction_to u others) ≡ goal
-told_or first s u rest others t o goal er eo et h =
+within-told_or first s u rest others t o goal er eo et h =
     ap (λ x. within statement_keeps first (disjunction_to x others)) (within_kept first (disjunction s t) u (sym eo ∙ et)) ∙ (ap (λ xs. within statement_keeps first (disjunction_to s xs)) (sym er) ∙ h)
 
 pub told_or_refused : (first : Place) (s : Statement) (rest others : List Statement) (t : Statement) (o goal : Result Statement Refusal) (r : Refusal) → rest ≡ t ∷ others → o ≡ within statement_keeps first (disjunction s t) → o ≡ Err r →
@@ -61,4 +61,4 @@ told_or_refused first s rest others t o goal r er eo ep h =
 pub told_or_end : (first : Place) (s : Statement) (rest : List Statement) (o goal : Result Statement Refusal) → length rest ≡ 0 → o ≡ within statement_keeps first s → within statement_keeps first (disjunction_to s rest) ≡ goal → o ≡ goal
 told_or_end first s rest o goal er eo h = eo ∙ (ap (λ xs. within statement_keeps first (disjunction_to s xs)) (sym (empty rest er)) ∙ h)
 
-pub ruleset disjunction_rules = (told_or, told_or_refused, told_or_end)
+pub ruleset disjunction_rules = (within-told_or, told_or_refused, told_or_end)

@@ -192,13 +192,13 @@ told_names_end ty (n ∷ ns) terms out goal e h = sym (append-nil out) ∙ (ap (
 pub told_no_names : (ty : SoftType) (names : List (Next Comma RetypedTree)) (terms : List Term) (out goal : List Definition) → length names ≡ 0 → out ++ retyped ty (map tree_of names) terms ≡ goal → out ≡ goal
 told_no_names ty names terms out goal e h = sym (append-nil out) ∙ (ap (λ xs. out ++ retyped ty (map tree_of xs) terms) (sym (empty names e)) ∙ h)
 
-pub told_name : (ty : SoftType) (names others : List (Next Comma RetypedTree)) (terms more : List Term) (x : Next Comma RetypedTree) (t : Term) (w : Word) (d : Definition) (out all goal : List Definition) →
+pub append-told_name : (ty : SoftType) (names others : List (Next Comma RetypedTree)) (terms more : List Term) (x : Next Comma RetypedTree) (t : Term) (w : Word) (d : Definition) (out all goal : List Definition) →
     names ≡ x ∷ others → terms ≡ t ∷ more → w ≡ retyped_name x.tree → d ≡ definition w ty t → all ≡ out ++ d ∷ [] → out ++ retyped ty (map tree_of names) terms ≡ goal → all ++ retyped ty (map tree_of others) more ≡ goal
-told_name ty names others terms more x t w d out all goal en et ew ed ea h =
+append-told_name ty names others terms more x t w d out all goal en et ew ed ea h =
     ap (λ y. y ++ retyped ty (map tree_of others) more) (ea ∙ ap (λ y. out ++ y ∷ []) (ed ∙ ap (λ y. definition y ty t) ew)) ∙ (append_assoc out (definition (retyped_name x.tree) ty t ∷ []) (retyped ty (map tree_of others) more) ∙
     (ap (λ ns. out ++ retyped ty (map tree_of ns) (t ∷ more)) (sym en) ∙ (ap (λ ts. out ++ retyped ty (map tree_of names) ts) (sym et) ∙ h)))
 
-pub ruleset name_rules = (told_names_end, told_no_names, told_name)
+pub ruleset name_rules = (told_names_end, told_no_names, append-told_name)
 
 pub told_names : (ty : SoftType) (first : RetypedTree) (names : List (Next Comma RetypedTree)) (terms more : List Term) (t : Term) (w : Word) (d : Definition) (none out all : List Definition) →
     terms ≡ t ∷ more → w ≡ retyped_name first → d ≡ definition w ty t → none ≡ [] → out ≡ none ++ d ∷ [] → all ≡ out ++ retyped ty (map tree_of names) more → all ≡ retyped ty (first ∷ map tree_of names) terms

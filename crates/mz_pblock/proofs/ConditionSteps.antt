@@ -275,9 +275,9 @@ module _ (room : ℕ) (still : Bool) (c : List MarkedToken) (on : next_has begin
         (leads_on (owed_form still) (further still) (owed_form (after still x)) room (put_first still) (λ zs. (x, zs)) c c d begin_further
         (leads_second either_form (λ x. owed_form (after still x)) (joined_further still) room c x d found)))))
 
-nil : (xs : List ConditionOrPropertyTree) → xs ++ [] ≡ xs
-nil [] = refl
-nil (x ∷ xs) = ap (λ z. x ∷ z) (nil xs)
+append-nil : (xs : List ConditionOrPropertyTree) → xs ++ [] ≡ xs
+append-nil [] = refl
+append-nil (x ∷ xs) = ap (λ z. x ∷ z) (append-nil xs)
 
 -- where none comes next
 none_left : (due : Bool) (c : List MarkedToken) → next_has begins_either c ≡ false → (x : ConditionOrPropertyTree) (xs : List ConditionOrPropertyTree) → (owed_form due).IsTree (x ∷ xs) → Agrees c ((owed_form due).spell (x ∷ xs)) → ⊥
@@ -292,7 +292,7 @@ pub owed_found : (room : ℕ) (due still : Bool) (xs : List ConditionOrPropertyT
 owed_found room due still xs b c so_far off paid =
     let F : List ConditionOrPropertyTree → Type 0 = λ z. Found (owed_form due) room b z c in
     let L : Bool → Type 0 = λ z. OwedSoFar room due z xs b c in
-    subst F (nil xs) ((subst L paid so_far).finds [] c (record { found = finds_empty (owed_form false) [] c (tt, tt) refl only; fits = λ i l. absurd (omega (arith, l)) }))
+    subst F (append-nil xs) ((subst L paid so_far).finds [] c (record { found = finds_empty (owed_form false) [] c (tt, tt) refl only; fits = λ i l. absurd (omega (arith, l)) }))
   where
     only : (ys : List ConditionOrPropertyTree) → (owed_form false).IsTree ys → Agrees c ((owed_form false).spell ys) → ys ≡ []
     only [] is g = refl

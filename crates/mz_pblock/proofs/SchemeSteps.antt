@@ -271,19 +271,19 @@ pub only_scheme : (x : SchemeTree) → scheme_form.IsTree x → (k : scheme_1.Tr
 only_scheme x is = ((record { scheme = x.scheme; name = x.name; left = x.left; parameters = x.parameters; right = x.right }, record { colon = x.colon; formula = x.formula; provided = x.provided; just = x.just; semicolon = x.semicolon }), (is.0, (is.1, is.2, is.3)), refl)
 
 -- lists that group to the left
-five : {X : Type 0} (v w x y z : List X) → (((v ++ w) ++ x) ++ y) ++ z ≡ v ++ (w ++ (x ++ (y ++ z)))
-five v w x y z = append_assoc ((v ++ w) ++ x) y z ∙ (append_assoc (v ++ w) x (y ++ z) ∙ append_assoc v w (x ++ (y ++ z)))
+append-five : {X : Type 0} (v w x y z : List X) → (((v ++ w) ++ x) ++ y) ++ z ≡ v ++ (w ++ (x ++ (y ++ z)))
+append-five v w x y z = append_assoc ((v ++ w) ++ x) y z ∙ (append_assoc (v ++ w) x (y ++ z) ∙ append_assoc v w (x ++ (y ++ z)))
 
-regroup : {X : Type 0} (p f o j s : List X) (r c : X) → (((p ++ (r ∷ (c ∷ f))) ++ o) ++ j) ++ s ≡ (p ++ r ∷ []) ++ (c ∷ (f ++ (o ++ (j ++ s))))
-regroup p f o j s r c = five p (r ∷ (c ∷ f)) o j s ∙ sym (append_assoc p (r ∷ []) (c ∷ (f ++ (o ++ (j ++ s)))))
+append-regroup : {X : Type 0} (p f o j s : List X) (r c : X) → (((p ++ (r ∷ (c ∷ f))) ++ o) ++ j) ++ s ≡ (p ++ r ∷ []) ++ (c ∷ (f ++ (o ++ (j ++ s))))
+append-regroup p f o j s r c = append-five p (r ∷ (c ∷ f)) o j s ∙ sym (append_assoc p (r ∷ []) (c ∷ (f ++ (o ++ (j ++ s)))))
 
 pub scheme_spells : (k : scheme_1.Tree) → scheme_form.spell (make_scheme k) ≡ scheme_1.spell k
 scheme_spells k = ap (λ z. word_token (codes "scheme") k.0.scheme ∷ (named signs.Identifier k.0.name ∷ (fixed signs.OpenBrace k.0.left ∷ z)))
-    (regroup (spell_separated spell_parameter k.0.parameters) ((formula_form false).spell k.1.formula) (optional_provided.spell k.1.provided) (just_form.spell k.1.just) (key keywords.Semicolon k.1.semicolon ∷ []) (fixed signs.CloseBrace k.0.right) (key keywords.Colon k.1.colon))
+    (append-regroup (spell_separated spell_parameter k.0.parameters) ((formula_form false).spell k.1.formula) (optional_provided.spell k.1.provided) (just_form.spell k.1.just) (key keywords.Semicolon k.1.semicolon ∷ []) (fixed signs.CloseBrace k.0.right) (key keywords.Colon k.1.colon))
 
 scheme_levels : (k : scheme_1.Tree) → scheme_form.levels (make_scheme k) ≡ scheme_1.levels k
 scheme_levels k = ap (λ z. 0 ∷ (0 ∷ (1 ∷ z)))
-    (regroup (map suc (levels_separated levels_parameter k.0.parameters)) ((formula_form false).levels k.1.formula) (optional_provided.levels k.1.provided) (just_form.levels k.1.just) (0 ∷ []) 0 0)
+    (append-regroup (map suc (levels_separated levels_parameter k.0.parameters)) ((formula_form false).levels k.1.formula) (optional_provided.levels k.1.provided) (just_form.levels k.1.just) (0 ∷ []) 0 0)
 
 ends_scheme : Ends scheme_1
 ends_scheme = ends_then scheme_head_form (λ _. scheme_rest_form) (λ _. record { filled = λ x is e. cc; closed = λ x t is g. never g })

@@ -162,19 +162,19 @@ only_group (registereds.Adjectives a b) e is = group_adjectives a b e is.0 is.1
 only_group (registereds.Term a b) e is = group_term a b e is.0 is.1
 
 -- A group with what stands behind it is spelled as what it begins.
-regroup : {X : Type 0} (a l b : List X) (q w : X) → ((a ++ (q ∷ (w ∷ []))) ++ l) ++ b ≡ (a ++ q ∷ []) ++ (w ∷ (l ++ b))
-regroup a l b q w = append_assoc (a ++ (q ∷ (w ∷ []))) l b ∙ (append_assoc a (q ∷ (w ∷ [])) (l ++ b) ∙ sym (append_assoc a (q ∷ []) (w ∷ (l ++ b))))
+append-regroup : {X : Type 0} (a l b : List X) (q w : X) → ((a ++ (q ∷ (w ∷ []))) ++ l) ++ b ≡ (a ++ q ∷ []) ++ (w ∷ (l ++ b))
+append-regroup a l b q w = append_assoc (a ++ (q ∷ (w ∷ []))) l b ∙ (append_assoc a (q ∷ (w ∷ [])) (l ++ b) ∙ sym (append_assoc a (q ∷ []) (w ∷ (l ++ b))))
 
 pub group_spells : (k : group_form.Tree) → spell_registered (of_group k) ≡ group_form.spell k
 group_spells (k, attributed w ads b) =
     ap (λ z. fixed signs.Open k.0 ∷ (((spell_terms k.1.0 ++ (fixed signs.Close k.1.1 ∷ (named signs.Attribute w ∷ []))) ++ z) ++ spell_behind b)) (list_spells false ads)
-    ∙ ap (λ z. fixed signs.Open k.0 ∷ z) (regroup (spell_terms k.1.0) ((adjective_list_form false).spell ads) (spell_behind b) (fixed signs.Close k.1.1) (named signs.Attribute w))
+    ∙ ap (λ z. fixed signs.Open k.0 ∷ z) (append-regroup (spell_terms k.1.0) ((adjective_list_form false).spell ads) (spell_behind b) (fixed signs.Close k.1.1) (named signs.Attribute w))
 group_spells (k, continued ps a) = ap (λ z. fixed signs.Open k.0 ∷ z) (append_assoc (spell_terms k.1.0 ++ fixed signs.Close k.1.1 ∷ []) (spell_piece_list ps) (spell_assigned a))
 
 pub group_levels : (k : group_form.Tree) → levels_registered (of_group k) ≡ group_form.levels k
 group_levels (k, attributed w ads b) =
     ap (λ z. 1 ∷ (((map suc (levels_terms k.1.0) ++ (0 ∷ (0 ∷ []))) ++ z) ++ levels_behind b)) (list_levels false ads)
-    ∙ ap (λ z. 1 ∷ z) (regroup (map suc (levels_terms k.1.0)) ((adjective_list_form false).levels ads) (levels_behind b) 0 0)
+    ∙ ap (λ z. 1 ∷ z) (append-regroup (map suc (levels_terms k.1.0)) ((adjective_list_form false).levels ads) (levels_behind b) 0 0)
 group_levels (k, continued ps a) = ap (λ z. 1 ∷ z) (append_assoc (map suc (levels_terms k.1.0) ++ 0 ∷ []) (levels_piece_list ps) (levels_assigned a))
 
 pub group_into : (k : group_form.Tree) → group_form.IsTree k → IsRegistered (of_group k)
@@ -285,11 +285,11 @@ open_kind (WithIdentifierAdjective o v w) = inl refl
 open_kind (WithTermsAdjective None p ts q w) = inr refl
 open_kind (WithTermsAdjective (Some r) p ts q w) = inl refl
 
-group_head : (x : AdjectiveData) (v : List MarkedToken) (t : MarkedToken) → adjective_kind x ≡ kinds.Group → Agrees (t ∷ []) (spell_adjective x ++ v) → sign_of t ≡ signs.Open
-group_head (PlainAdjective o w) v t e g = cc
-group_head (WithIdentifierAdjective o u w) v t e g = cc
-group_head (WithTermsAdjective (Some r) p ts q w) v t e g = cc
-group_head (WithTermsAdjective None p ts q w) v t e g = sym (ap sign_of g) ∙ sign_of-fixed signs.Open p refl
+sign_of-group_head : (x : AdjectiveData) (v : List MarkedToken) (t : MarkedToken) → adjective_kind x ≡ kinds.Group → Agrees (t ∷ []) (spell_adjective x ++ v) → sign_of t ≡ signs.Open
+sign_of-group_head (PlainAdjective o w) v t e g = cc
+sign_of-group_head (WithIdentifierAdjective o u w) v t e g = cc
+sign_of-group_head (WithTermsAdjective (Some r) p ts q w) v t e g = cc
+sign_of-group_head (WithTermsAdjective None p ts q w) v t e g = sym (ap sign_of g) ∙ sign_of-fixed signs.Open p refl
 
 first_adjectives : (s : Sign) (rest : List MarkedToken) → first_kind s rest ≡ kinds.Adjectives → s ≡ signs.Open → ⊥
 first_adjectives signs.Open rest e f = cc
@@ -304,7 +304,7 @@ adjectives_level t rest k h g =
   where
     go : (adjective_kind k.0.first ≡ kinds.Adjectives) ⊎ (adjective_kind k.0.first ≡ kinds.Group) → Agrees (t ∷ []) (spell_adjective k.0.first ++ (spell_adjective_list k.0.more ++ spell_behind k.1)) → adjective_kind k.0.first ≡ kinds.Adjectives
     go (inl e) s = e
-    go (inr e) s = absurd (first_adjectives (sign_of t) rest (if_else (is_arrow t) (first_kind (sign_of t) rest) kinds.Adjectives h (λ f. cc)).1 (group_head k.0.first _ t e s))
+    go (inr e) s = absurd (first_adjectives (sign_of t) rest (if_else (is_arrow t) (first_kind (sign_of t) rest) kinds.Adjectives h (λ f. cc)).1 (sign_of-group_head k.0.first _ t e s))
 
 head_as : (F : Form MarkedToken) (build : F.Tree → RegisteredTree) (k : F.Tree) (x : RegisteredTree) (t : MarkedToken) (more : List MarkedToken) → spell_registered (build k) ≡ F.spell k → x ≡ build k → spell_registered x ≡ t ∷ more → Agrees (t ∷ []) (F.spell k)
 head_as F build k x t more same f e = let A : List MarkedToken → Type 0 = λ z. Agrees (t ∷ []) z in subst A (sym e ∙ (ap spell_registered f ∙ same)) refl
@@ -489,28 +489,28 @@ cluster_into (p, registereds.Adjectives a (behinds.Implied b)) is = (is.1.0, is.
 cluster_into (p, registereds.Term a b) is = (is.1.0, is.1.1.0, is.1.1.1)
 
 -- lists that group to the left
-four : {X : Type 0} (v w x y : List X) → ((v ++ w) ++ x) ++ y ≡ v ++ (w ++ (x ++ y))
-four v w x y = append_assoc (v ++ w) x y ∙ append_assoc v w (x ++ y)
+append-four : {X : Type 0} (v w x y : List X) → ((v ++ w) ++ x) ++ y ≡ v ++ (w ++ (x ++ y))
+append-four v w x y = append_assoc (v ++ w) x y ∙ append_assoc v w (x ++ y)
 
 abbrev word_at_front : Place → List MarkedToken → List MarkedToken
 word_at_front p w = word_token (codes "cluster") p ∷ w
 
 pub cluster_spells : (k : cluster_1.Tree) → spell_cluster (make_cluster k) ≡ cluster_1.spell k
-cluster_spells (p, registereds.Implied a) = ap (word_at_front p) (four [] (arrow_token a.arrow ∷ spell_adjectives a.adjectives) (spell_for_type a.for_type) (key keywords.Semicolon a.semicolon ∷ []))
-cluster_spells (p, registereds.Adjectives a (behinds.Type t q)) = ap (word_at_front p) (four (spell_adjectives a) [] (spell_type t) (key keywords.Semicolon q ∷ []))
-cluster_spells (p, registereds.Adjectives a (behinds.For t q)) = ap (word_at_front p) (four (spell_adjectives a) (fixed signs.For t.for_ ∷ []) (spell_type t.ty) (key keywords.Semicolon q ∷ []))
-cluster_spells (p, registereds.Adjectives a (behinds.Implied b)) = ap (word_at_front p) (four (spell_adjectives a) (arrow_token b.arrow ∷ spell_adjectives b.adjectives) (spell_for_type b.for_type) (key keywords.Semicolon b.semicolon ∷ []))
-cluster_spells (p, registereds.Term a b) = ap (word_at_front p) (four (spell_term a) (arrow_token b.arrow ∷ spell_adjectives b.adjectives) (maybe spell_for_type b.for_type) (key keywords.Semicolon b.semicolon ∷ []))
+cluster_spells (p, registereds.Implied a) = ap (word_at_front p) (append-four [] (arrow_token a.arrow ∷ spell_adjectives a.adjectives) (spell_for_type a.for_type) (key keywords.Semicolon a.semicolon ∷ []))
+cluster_spells (p, registereds.Adjectives a (behinds.Type t q)) = ap (word_at_front p) (append-four (spell_adjectives a) [] (spell_type t) (key keywords.Semicolon q ∷ []))
+cluster_spells (p, registereds.Adjectives a (behinds.For t q)) = ap (word_at_front p) (append-four (spell_adjectives a) (fixed signs.For t.for_ ∷ []) (spell_type t.ty) (key keywords.Semicolon q ∷ []))
+cluster_spells (p, registereds.Adjectives a (behinds.Implied b)) = ap (word_at_front p) (append-four (spell_adjectives a) (arrow_token b.arrow ∷ spell_adjectives b.adjectives) (spell_for_type b.for_type) (key keywords.Semicolon b.semicolon ∷ []))
+cluster_spells (p, registereds.Term a b) = ap (word_at_front p) (append-four (spell_term a) (arrow_token b.arrow ∷ spell_adjectives b.adjectives) (maybe spell_for_type b.for_type) (key keywords.Semicolon b.semicolon ∷ []))
 
 abbrev level_at_front : List ℕ → List ℕ
 level_at_front ls = 0 ∷ ls
 
 cluster_levels : (k : cluster_1.Tree) → levels_cluster (make_cluster k) ≡ cluster_1.levels k
-cluster_levels (p, registereds.Implied a) = ap level_at_front (four [] (0 ∷ levels_adjectives a.adjectives) (levels_for_type a.for_type) (0 ∷ []))
-cluster_levels (p, registereds.Adjectives a (behinds.Type t q)) = ap level_at_front (four (levels_adjectives a) [] (levels_type t) (0 ∷ []))
-cluster_levels (p, registereds.Adjectives a (behinds.For t q)) = ap level_at_front (four (levels_adjectives a) (0 ∷ []) (levels_type t.ty) (0 ∷ []))
-cluster_levels (p, registereds.Adjectives a (behinds.Implied b)) = ap level_at_front (four (levels_adjectives a) (0 ∷ levels_adjectives b.adjectives) (levels_for_type b.for_type) (0 ∷ []))
-cluster_levels (p, registereds.Term a b) = ap level_at_front (four (levels_term a) (0 ∷ levels_adjectives b.adjectives) (maybe levels_for_type b.for_type) (0 ∷ []))
+cluster_levels (p, registereds.Implied a) = ap level_at_front (append-four [] (0 ∷ levels_adjectives a.adjectives) (levels_for_type a.for_type) (0 ∷ []))
+cluster_levels (p, registereds.Adjectives a (behinds.Type t q)) = ap level_at_front (append-four (levels_adjectives a) [] (levels_type t) (0 ∷ []))
+cluster_levels (p, registereds.Adjectives a (behinds.For t q)) = ap level_at_front (append-four (levels_adjectives a) (0 ∷ []) (levels_type t.ty) (0 ∷ []))
+cluster_levels (p, registereds.Adjectives a (behinds.Implied b)) = ap level_at_front (append-four (levels_adjectives a) (0 ∷ levels_adjectives b.adjectives) (levels_for_type b.for_type) (0 ∷ []))
+cluster_levels (p, registereds.Term a b) = ap level_at_front (append-four (levels_term a) (0 ∷ levels_adjectives b.adjectives) (maybe levels_for_type b.for_type) (0 ∷ []))
 
 ends_cluster : Ends cluster_1
 ends_cluster = ends_then (word_form (codes "cluster")) (λ _. registered_form) (λ _. record { filled = λ x is e. registered_filled x is e; closed = λ x t is g. never g })

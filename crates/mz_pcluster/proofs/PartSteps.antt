@@ -70,9 +70,9 @@ headed b [] g h = absurd (h refl)
 headed b (t ∷ m) g h = (t, m, refl, g)
 
 -- it is `->`, which has no sign of expressions
-pub arrow_head : (b : List MarkedToken) (t : MarkedToken) (w : List MarkedToken) → next_has is_arrow b ≡ true → Agrees b (t ∷ w) → sign_of t ≡ signs.Other
-arrow_head [] t w h g = absurd g
-arrow_head (s ∷ b) t w h g = ap sign_of (g ∙ arrow_told s h) ∙ arrow_signed s.token.place
+pub sign_of-arrow_head : (b : List MarkedToken) (t : MarkedToken) (w : List MarkedToken) → next_has is_arrow b ≡ true → Agrees b (t ∷ w) → sign_of t ≡ signs.Other
+sign_of-arrow_head [] t w h g = absurd g
+sign_of-arrow_head (s ∷ b) t w h g = ap sign_of (g ∙ arrow_told s h) ∙ arrow_signed s.token.place
 
 pub no_arrow : (t : MarkedToken) (s : Sign) → sign_of t ≡ s → (s ≡ signs.Other → ⊥) → is_arrow t ≡ false
 no_arrow t s e differ = go (is_arrow t) refl
@@ -367,7 +367,7 @@ as_behind_implied b h = record {
 }
   where
     only : (x : BehindTree) → IsBehind x → Agrees b (spell_behind x) → (k : ImpliedTree) × implied_form.IsTree k × (x ≡ make_behind_implied k)
-    only (behinds.Type a p) is g = let k = headed b (spell_behind (behinds.Type a p)) g (λ e. bare_filled a _ is e) in absurd (radix_no_arrow (sign_of k.0) (bare_first a _ k.0 k.1 is k.2) (arrow_head b k.0 k.1 h k.3))
+    only (behinds.Type a p) is g = let k = headed b (spell_behind (behinds.Type a p)) g (λ e. bare_filled a _ is e) in absurd (radix_no_arrow (sign_of k.0) (bare_first a _ k.0 k.1 is k.2) (sign_of-arrow_head b k.0 k.1 h k.3))
     only (behinds.For a p) is g = absurd (has_not is_arrow b (fixed signs.For a.for_) _ h (no_arrow (fixed signs.For a.for_) signs.For (sign_of-fixed signs.For a.for_ refl) (λ e. clash e)) g)
       where
         clash : signs.For ≡ signs.Other → ⊥

@@ -26,13 +26,13 @@ thesis-variables c (v ∷ vs) = thesis-variables (with_constant c (constant_of v
 pub told_entered : (c d f : Context) (vs : List Variable) (s inner : Statement) → d ≡ with_variables c vs → f ≡ at_start_of_proof d s → s ≡ inner → f ≡ at_start_of_proof (with_variables c vs) inner
 told_entered c d f vs s inner ed ef es = ef ∙ (ap (λ x. at_start_of_proof x s) ed ∙ ap (at_start_of_proof (with_variables c vs)) es)
 
-pub told_aside : (c d : Context) (vs : List Variable) (m : Mark) (o : Outside) → m ≡ mark_of c → d ≡ with_variables c vs → o ≡ outside_of d → record { mark = m; previous = o.previous; thesis = o.thesis } ≡ outside_of c
-told_aside c d vs m o em ed eo =
+pub record-told_aside : (c d : Context) (vs : List Variable) (m : Mark) (o : Outside) → m ≡ mark_of c → d ≡ with_variables c vs → o ≡ outside_of d → record { mark = m; previous = o.previous; thesis = o.thesis } ≡ outside_of c
+record-told_aside c d vs m o em ed eo =
     let ep : o.previous ≡ c.previous = ap (λ x. x.previous) eo ∙ (ap (λ x. x.previous) ed ∙ previous-variables c vs) in
     let et : o.thesis ≡ c.thesis = ap (λ x. x.thesis) eo ∙ (ap (λ x. x.thesis) ed ∙ thesis-variables c vs) in
     λ i. record { mark = em i; previous = ep i; thesis = et i }
 
-pub ruleset enter_rules = (told_entered, told_aside)
+pub ruleset enter_rules = (told_entered, record-told_aside)
 
 pub told_no_now : (b : Block) → b ≡ Proof → None ≡ stated_in b
 told_no_now b eb = ap stated_in (sym eb)

@@ -36,12 +36,12 @@ use Rattle.mz_performing.proofs.AnswerLemmas.{on_err, on_ok, on_made, on_unread,
 use Rattle.mz_performing.proofs.KeptLemmas.{kept_behind, kept_begun, kept_turn, kept_stop, kept_end}
 
 -- that the terms are of the type
-pub told_begun : (ds : List Definition) (out : List Statement) → out ≡ [] → kept_behind out (all_kept (map type_owed ds)) ≡ all_kept (map type_owed ds)
-told_begun ds out e = kept_begun out (all_kept (map type_owed ds)) e
+pub kept_behind-told_begun : (ds : List Definition) (out : List Statement) → out ≡ [] → kept_behind out (all_kept (map type_owed ds)) ≡ all_kept (map type_owed ds)
+kept_behind-told_begun ds out e = kept_begun out (all_kept (map type_owed ds)) e
 
-pub told_turn : (rest others ds : List Definition) (d : Definition) (s : Statement) (out more : List Statement) (b : Bool) → rest ≡ d ∷ others → s ≡ is_of_type d.ty d.term → b ≡ statement_keeps s → b ≡ true → more ≡ out ++ s ∷ [] →
+pub kept_behind-told_turn : (rest others ds : List Definition) (d : Definition) (s : Statement) (out more : List Statement) (b : Bool) → rest ≡ d ∷ others → s ≡ is_of_type d.ty d.term → b ≡ statement_keeps s → b ≡ true → more ≡ out ++ s ∷ [] →
     kept_behind out (all_kept (map type_owed rest)) ≡ all_kept (map type_owed ds) → kept_behind more (all_kept (map type_owed others)) ≡ all_kept (map type_owed ds)
-told_turn rest others ds d s out more b er es eb e1 em h = kept_turn type_owed rest others d s out more b (all_kept (map type_owed ds)) er es eb e1 em h
+kept_behind-told_turn rest others ds d s out more b er es eb e1 em h = kept_turn type_owed rest others d s out more b (all_kept (map type_owed ds)) er es eb e1 em h
 
 pub told_stop : (rest others ds : List Definition) (d : Definition) (s : Statement) (out : List Statement) (b : Bool) → rest ≡ d ∷ others → s ≡ is_of_type d.ty d.term → b ≡ statement_keeps s → b ≡ false →
     kept_behind out (all_kept (map type_owed rest)) ≡ all_kept (map type_owed ds) → None ≡ types_owed ds
@@ -50,7 +50,7 @@ told_stop rest others ds d s out b er es eb e0 h = kept_stop type_owed rest othe
 pub told_end : (rest ds : List Definition) (out : List Statement) → length rest ≡ 0 → kept_behind out (all_kept (map type_owed rest)) ≡ all_kept (map type_owed ds) → Some out ≡ types_owed ds
 told_end rest ds out er h = kept_end type_owed rest out (all_kept (map type_owed ds)) er h
 
-pub ruleset owed_rules = (told_begun, told_turn, told_stop, told_end)
+pub ruleset owed_rules = (kept_behind-told_begun, kept_behind-told_turn, told_stop, told_end)
 
 -- as it was read
 pub told_too_large : (e : Environment) (at : Extent) (first : Place) (s : State) (t : ReconsiderTree) (ds : List Definition) (o : Option (List Statement)) → o ≡ types_owed ds → o ≡ None → Retypes e at first s t ds (Refused (Resolve (TooLarge first)))

@@ -119,8 +119,8 @@ opening_apart field (unit_opening u) ([], ([], k)) s x isa isk e g = concluded_a
 rest_into : (field : Bool) (u : UnitData) (k : (rest_form field u).Tree) → (unit_form field).IsTree u → (rest_form field u).IsTree k → IsFormula field (rest_with field u k)
 rest_into field u (us, (cs, k)) isu is = formula_into field (disjunction_with (conjunction_with u us) cs) k ((as_disjunction field []).into (conjunction_with u us, cs) ((as_conjunction field []).into (u, us) (isu, is.0), is.1.0)) is.1.1
 
-chained : {X : Type 0} (u a b c : List X) → ((u ++ a) ++ b) ++ c ≡ u ++ (a ++ (b ++ c))
-chained u a b c = append_assoc (u ++ a) b c ∙ append_assoc u a (b ++ c)
+append-chained : {X : Type 0} (u a b c : List X) → ((u ++ a) ++ b) ++ c ≡ u ++ (a ++ (b ++ c))
+append-chained u a b c = append_assoc (u ++ a) b c ∙ append_assoc u a (b ++ c)
 
 rest_spells : (field : Bool) (u : UnitData) (k : (rest_form field u).Tree) → (unit_form field).IsTree u → (rest_form field u).IsTree k → (formula_form field).spell (rest_with field u k) ≡ spell_unit u ++ (rest_form field u).spell k
 rest_spells field u (us, (cs, k)) isu is =
@@ -129,7 +129,7 @@ rest_spells field u (us, (cs, k)) isu is =
     formula_spells (disjunction_with (conjunction_with u us) cs) k ∙
     (ap (λ z. z ++ spell_conclusion k) ((as_disjunction field []).spells (conjunction_with u us, cs) disjunction) ∙
     (ap (λ z. (z ++ spell_chain (or_links field) cs) ++ spell_conclusion k) ((as_conjunction field []).spells (u, us) conjunction) ∙
-    chained (spell_unit u) (spell_chain (and_links field) us) (spell_chain (or_links field) cs) (spell_conclusion k)))
+    append-chained (spell_unit u) (spell_chain (and_links field) us) (spell_chain (or_links field) cs) (spell_conclusion k)))
 
 rest_levels : (field : Bool) (u : UnitData) (k : (rest_form field u).Tree) → (unit_form field).IsTree u → (rest_form field u).IsTree k → (formula_form field).levels (rest_with field u k) ≡ levels_unit u ++ (rest_form field u).levels k
 rest_levels field u (us, (cs, k)) isu is =
@@ -138,7 +138,7 @@ rest_levels field u (us, (cs, k)) isu is =
     formula_levels (disjunction_with (conjunction_with u us) cs) k ∙
     (ap (λ z. z ++ levels_conclusion k) ((as_disjunction field []).level (conjunction_with u us, cs) disjunction) ∙
     (ap (λ z. (z ++ levels_chain (or_links field) cs) ++ levels_conclusion k) ((as_conjunction field []).level (u, us) conjunction) ∙
-    chained (levels_unit u) (levels_chain (and_links field) us) (levels_chain (or_links field) cs) (levels_conclusion k)))
+    append-chained (levels_unit u) (levels_chain (and_links field) us) (levels_chain (or_links field) cs) (levels_conclusion k)))
 
 abbrev pub make_inside : (field : Bool) → (begun_inside field).Tree → Inside
 make_inside field k = inside_with field k.0 k.1

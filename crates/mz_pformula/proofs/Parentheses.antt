@@ -82,8 +82,8 @@ parenthesis_is field (p, (formula_inside f, (q, k))) is = is.1.0
 parenthesis_is field (p, (terms_inside us, (q, (ps, (ms, k))))) is =
     join_is field (with_group p us q ps ms) k ((as_list field []).into (group_term p us q ps, ms) (((tt, tt, is.1.0, tt), is.1.1.1.0), is.1.1.1.1.0)) is.1.1.1.1.1
 
-regroup : {X : Type 0} (a : List X) (c : X) (b d e : List X) → (((a ++ c ∷ []) ++ b) ++ d) ++ e ≡ a ++ c ∷ (b ++ (d ++ e))
-regroup a c b d e = append_assoc ((a ++ c ∷ []) ++ b) d e ∙ (append_assoc (a ++ c ∷ []) b (d ++ e) ∙ append_assoc a (c ∷ []) (b ++ (d ++ e)))
+append-regroup : {X : Type 0} (a : List X) (c : X) (b d e : List X) → (((a ++ c ∷ []) ++ b) ++ d) ++ e ≡ a ++ c ∷ (b ++ (d ++ e))
+append-regroup a c b d e = append_assoc ((a ++ c ∷ []) ++ b) d e ∙ (append_assoc (a ++ c ∷ []) b (d ++ e) ∙ append_assoc a (c ∷ []) (b ++ (d ++ e)))
 
 pub parenthesis_spells : (field : Bool) (x : (parenthesis_form field).Tree) → (parenthesis_form field).IsTree x → spell_opening (parenthesis_with field x) ≡ (parenthesis_form field).spell x
 parenthesis_spells field (p, (formula_inside f, (q, k))) is = refl
@@ -92,7 +92,7 @@ parenthesis_spells field (p, (terms_inside us, (q, (ps, (ms, k))))) is =
     let into : (some_terms field).IsTree (group_term p us q ps, ms) = (((tt, tt, is.1.0, tt), is.1.1.1.0), is.1.1.1.1.0) in
     join_spells field (with_group p us q ps ms) k is.1.1.1.1.1 ∙
     (ap (λ z. z ++ spell_tail field k) ((as_list field []).spells (t, ms) into) ∙
-    ap (λ z. fixed signs.Open p ∷ z) (regroup (spell_terms us) (fixed signs.Close q) (spell_piece_list ps) (spell_chain (term_links field) ms) (spell_tail field k)))
+    ap (λ z. fixed signs.Open p ∷ z) (append-regroup (spell_terms us) (fixed signs.Close q) (spell_piece_list ps) (spell_chain (term_links field) ms) (spell_tail field k)))
 
 parenthesis_levels : (field : Bool) (x : (parenthesis_form field).Tree) → (parenthesis_form field).IsTree x → levels_opening (parenthesis_with field x) ≡ (parenthesis_form field).levels x
 parenthesis_levels field (p, (formula_inside f, (q, k))) is = refl
@@ -101,7 +101,7 @@ parenthesis_levels field (p, (terms_inside us, (q, (ps, (ms, k))))) is =
     let into : (some_terms field).IsTree (group_term p us q ps, ms) = (((tt, tt, is.1.0, tt), is.1.1.1.0), is.1.1.1.1.0) in
     join_levels field (with_group p us q ps ms) k is.1.1.1.1.1 ∙
     (ap (λ z. z ++ levels_tail field k) ((as_list field []).level (t, ms) into) ∙
-    ap (λ z. 1 ∷ z) (regroup (map suc (levels_terms us)) 0 (levels_piece_list ps) (levels_chain (term_links field) ms) (levels_tail field k)))
+    ap (λ z. 1 ∷ z) (append-regroup (map suc (levels_terms us)) 0 (levels_piece_list ps) (levels_chain (term_links field) ms) (levels_tail field k)))
 
 pub parenthesis_goes : (field : Bool) (x : (parenthesis_form field).Tree) (t : MarkedToken) → (parenthesis_form field).goes x t ≡ true → goes_opening (parenthesis_with field x) (sign_of t) ≡ true
 parenthesis_goes field (p, (formula_inside f, (q, k))) t g = absurd (never (either false false _ (λ h. h) g))

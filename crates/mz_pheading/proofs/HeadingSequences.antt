@@ -24,7 +24,7 @@ use Rattle.mz_pheading.specs.HeadingForms.{attribute_heading_form, functor_headi
 use Rattle.mz_pheading.specs.ModeForms.{optional_result}
 use Rattle.mz_pmeaning.proofs.Bodies.{IsMeant}
 use Rattle.mz_pheading.proofs.ModeSteps.{meant_apart, meant_unsigned, result_apart, result_unsigned}
-use Rattle.mz_pmeaning.proofs.Steps.{next, stopped, apart_unsigned, grouped}
+use Rattle.mz_pmeaning.proofs.Steps.{next, stopped, apart_unsigned, append-grouped}
 
 -- Examples.
 abbrev pub some_functor_pattern : FunctorPatternTree
@@ -77,10 +77,10 @@ module _ (M : Form MarkedToken) (meant : IsMeant M) where
   pub as_functor : (b : List MarkedToken) → Reshapes (functor_heading_form M) functor_1 make_functor b
   as_functor b = record {
     into = λ k is. (is.1.1.0, is.1.1.1.0);
-    spells = λ k is. ap (λ z. word_token (codes "func") k.0 ∷ z) (grouped (functor_pattern_form.spell k.1.0) (optional_result.spell k.1.1.0) (M.spell k.1.1.1.0) (key keywords.Semicolon k.1.1.1.1 ∷ []));
+    spells = λ k is. ap (λ z. word_token (codes "func") k.0 ∷ z) (append-grouped (functor_pattern_form.spell k.1.0) (optional_result.spell k.1.1.0) (M.spell k.1.1.1.0) (key keywords.Semicolon k.1.1.1.1 ∷ []));
     only = λ x is g. only_functor x is;
     goes = λ k t is g. absurd (ends_functor.closed k t is g);
-    level = λ k is. ap (λ z. 0 ∷ z) (grouped (functor_pattern_form.levels k.1.0) (optional_result.levels k.1.1.0) (M.levels k.1.1.1.0) (0 ∷ []));
+    level = λ k is. ap (λ z. 0 ∷ z) (append-grouped (functor_pattern_form.levels k.1.0) (optional_result.levels k.1.1.0) (M.levels k.1.1.1.0) (0 ∷ []));
   }
 
   begin_functor : (room : ℕ) (b : List MarkedToken) → Leads (functor_heading_form M) functor_1 room make_functor b b

@@ -48,30 +48,30 @@ word_of_heading (heading_tree.RedefinedPredicate p a) = heading_words.Redefine
 word_of_heading (heading_tree.RedefinedAttribute p a) = heading_words.Redefine
 word_of_heading (heading_tree.RedefinedMode p a) = heading_words.Redefine
 
-own : (w : HeadingWord) (p : Place) → first_of heading_word headings (word_token (heading_word w) p) ≡ Some w
-own heading_words.Func p = refl
-own heading_words.Pred p = refl
-own heading_words.Attr p = refl
-own heading_words.Mode p = refl
-own heading_words.Struct p = refl
-own heading_words.Redefine p = refl
+first_of-own : (w : HeadingWord) (p : Place) → first_of heading_word headings (word_token (heading_word w) p) ≡ Some w
+first_of-own heading_words.Func p = refl
+first_of-own heading_words.Pred p = refl
+first_of-own heading_words.Attr p = refl
+first_of-own heading_words.Mode p = refl
+first_of-own heading_words.Struct p = refl
+first_of-own heading_words.Redefine p = refl
 
-word_told : (w : HeadingWord) (p : Place) (m b : List MarkedToken) → Agrees b (word_token (heading_word w) p ∷ m) → heading_next b ≡ Some w
-word_told w p m [] g = absurd g
-word_told w p m (t ∷ b) g = ap (first_of heading_word headings) (sym g) ∙ own w p
+heading_next-word_told : (w : HeadingWord) (p : Place) (m b : List MarkedToken) → Agrees b (word_token (heading_word w) p ∷ m) → heading_next b ≡ Some w
+heading_next-word_told w p m [] g = absurd g
+heading_next-word_told w p m (t ∷ b) g = ap (first_of heading_word headings) (sym g) ∙ first_of-own w p
 
 -- what the next tokens say of a heading that they begin
-pub told : (x : HeadingTree) (b : List MarkedToken) → Agrees b (spell_heading x) → heading_next b ≡ Some (word_of_heading x)
-told (heading_tree.Functor a) b g = word_told heading_words.Func a.func _ b g
-told (heading_tree.Predicate a) b g = word_told heading_words.Pred a.pred _ b g
-told (heading_tree.Attribute a) b g = word_told heading_words.Attr a.attr _ b g
-told (heading_tree.Mode a) b g = word_told heading_words.Mode a.mode _ b g
-told (heading_tree.Abbreviation a) b g = word_told heading_words.Mode a.mode _ b g
-told (heading_tree.Structure a) b g = word_told heading_words.Struct a.struct_ _ b g
-told (heading_tree.RedefinedFunctor p a) b g = word_told heading_words.Redefine p _ b g
-told (heading_tree.RedefinedPredicate p a) b g = word_told heading_words.Redefine p _ b g
-told (heading_tree.RedefinedAttribute p a) b g = word_told heading_words.Redefine p _ b g
-told (heading_tree.RedefinedMode p a) b g = word_told heading_words.Redefine p _ b g
+pub heading_next-told : (x : HeadingTree) (b : List MarkedToken) → Agrees b (spell_heading x) → heading_next b ≡ Some (word_of_heading x)
+heading_next-told (heading_tree.Functor a) b g = heading_next-word_told heading_words.Func a.func _ b g
+heading_next-told (heading_tree.Predicate a) b g = heading_next-word_told heading_words.Pred a.pred _ b g
+heading_next-told (heading_tree.Attribute a) b g = heading_next-word_told heading_words.Attr a.attr _ b g
+heading_next-told (heading_tree.Mode a) b g = heading_next-word_told heading_words.Mode a.mode _ b g
+heading_next-told (heading_tree.Abbreviation a) b g = heading_next-word_told heading_words.Mode a.mode _ b g
+heading_next-told (heading_tree.Structure a) b g = heading_next-word_told heading_words.Struct a.struct_ _ b g
+heading_next-told (heading_tree.RedefinedFunctor p a) b g = heading_next-word_told heading_words.Redefine p _ b g
+heading_next-told (heading_tree.RedefinedPredicate p a) b g = heading_next-word_told heading_words.Redefine p _ b g
+heading_next-told (heading_tree.RedefinedAttribute p a) b g = heading_next-word_told heading_words.Redefine p _ b g
+heading_next-told (heading_tree.RedefinedMode p a) b g = heading_next-word_told heading_words.Redefine p _ b g
 
 -- no two words are one
 apart_words : {P : Type 0} (b : List MarkedToken) (v w : HeadingWord) → heading_next b ≡ Some v → heading_next b ≡ Some w → (Some v ≡ Some w → P) → P
@@ -115,15 +115,15 @@ as_functor b h = record {
   where
     only : (x : HeadingTree) → IsHeading x × (states x ≡ true) → Agrees b (spell_heading x) → (a : FunctorHeadingTree MeaningTree) × (functor_heading_form meaning_form).IsTree a × (x ≡ put_functor a)
     only (heading_tree.Functor a) is g = (a, is.0, refl)
-    only (heading_tree.Predicate a) is g = apart_words b heading_words.Func heading_words.Pred h (told (heading_tree.Predicate a) b g) (λ e. cc)
-    only (heading_tree.Attribute a) is g = apart_words b heading_words.Func heading_words.Attr h (told (heading_tree.Attribute a) b g) (λ e. cc)
-    only (heading_tree.Mode a) is g = apart_words b heading_words.Func heading_words.Mode h (told (heading_tree.Mode a) b g) (λ e. cc)
-    only (heading_tree.Abbreviation a) is g = apart_words b heading_words.Func heading_words.Mode h (told (heading_tree.Abbreviation a) b g) (λ e. cc)
-    only (heading_tree.Structure a) is g = apart_words b heading_words.Func heading_words.Struct h (told (heading_tree.Structure a) b g) (λ e. cc)
-    only (heading_tree.RedefinedFunctor p a) is g = apart_words b heading_words.Func heading_words.Redefine h (told (heading_tree.RedefinedFunctor p a) b g) (λ e. cc)
-    only (heading_tree.RedefinedPredicate p a) is g = apart_words b heading_words.Func heading_words.Redefine h (told (heading_tree.RedefinedPredicate p a) b g) (λ e. cc)
-    only (heading_tree.RedefinedAttribute p a) is g = apart_words b heading_words.Func heading_words.Redefine h (told (heading_tree.RedefinedAttribute p a) b g) (λ e. cc)
-    only (heading_tree.RedefinedMode p a) is g = apart_words b heading_words.Func heading_words.Redefine h (told (heading_tree.RedefinedMode p a) b g) (λ e. cc)
+    only (heading_tree.Predicate a) is g = apart_words b heading_words.Func heading_words.Pred h (heading_next-told (heading_tree.Predicate a) b g) (λ e. cc)
+    only (heading_tree.Attribute a) is g = apart_words b heading_words.Func heading_words.Attr h (heading_next-told (heading_tree.Attribute a) b g) (λ e. cc)
+    only (heading_tree.Mode a) is g = apart_words b heading_words.Func heading_words.Mode h (heading_next-told (heading_tree.Mode a) b g) (λ e. cc)
+    only (heading_tree.Abbreviation a) is g = apart_words b heading_words.Func heading_words.Mode h (heading_next-told (heading_tree.Abbreviation a) b g) (λ e. cc)
+    only (heading_tree.Structure a) is g = apart_words b heading_words.Func heading_words.Struct h (heading_next-told (heading_tree.Structure a) b g) (λ e. cc)
+    only (heading_tree.RedefinedFunctor p a) is g = apart_words b heading_words.Func heading_words.Redefine h (heading_next-told (heading_tree.RedefinedFunctor p a) b g) (λ e. cc)
+    only (heading_tree.RedefinedPredicate p a) is g = apart_words b heading_words.Func heading_words.Redefine h (heading_next-told (heading_tree.RedefinedPredicate p a) b g) (λ e. cc)
+    only (heading_tree.RedefinedAttribute p a) is g = apart_words b heading_words.Func heading_words.Redefine h (heading_next-told (heading_tree.RedefinedAttribute p a) b g) (λ e. cc)
+    only (heading_tree.RedefinedMode p a) is g = apart_words b heading_words.Func heading_words.Redefine h (heading_next-told (heading_tree.RedefinedMode p a) b g) (λ e. cc)
 
 pub functor_read : (room : ℕ) (b after : List MarkedToken) (a : FunctorHeadingTree MeaningTree) → heading_next b ≡ Some heading_words.Func → Found (functor_heading_form meaning_form) room b a after → Found heading_form room b (put_functor a) after
 functor_read room b after a h f = (leads_as heading_form (functor_heading_form meaning_form) put_functor room b (as_functor b h)).finds a after f
@@ -144,16 +144,16 @@ as_predicate b h = record {
 }
   where
     only : (x : HeadingTree) → IsHeading x × (states x ≡ true) → Agrees b (spell_heading x) → (a : PredicateHeadingTree MeaningTree) × (predicate_heading_form means_form).IsTree a × (x ≡ put_predicate a)
-    only (heading_tree.Functor a) is g = apart_words b heading_words.Pred heading_words.Func h (told (heading_tree.Functor a) b g) (λ e. cc)
+    only (heading_tree.Functor a) is g = apart_words b heading_words.Pred heading_words.Func h (heading_next-told (heading_tree.Functor a) b g) (λ e. cc)
     only (heading_tree.Predicate a) is g = (a, is.0, refl)
-    only (heading_tree.Attribute a) is g = apart_words b heading_words.Pred heading_words.Attr h (told (heading_tree.Attribute a) b g) (λ e. cc)
-    only (heading_tree.Mode a) is g = apart_words b heading_words.Pred heading_words.Mode h (told (heading_tree.Mode a) b g) (λ e. cc)
-    only (heading_tree.Abbreviation a) is g = apart_words b heading_words.Pred heading_words.Mode h (told (heading_tree.Abbreviation a) b g) (λ e. cc)
-    only (heading_tree.Structure a) is g = apart_words b heading_words.Pred heading_words.Struct h (told (heading_tree.Structure a) b g) (λ e. cc)
-    only (heading_tree.RedefinedFunctor p a) is g = apart_words b heading_words.Pred heading_words.Redefine h (told (heading_tree.RedefinedFunctor p a) b g) (λ e. cc)
-    only (heading_tree.RedefinedPredicate p a) is g = apart_words b heading_words.Pred heading_words.Redefine h (told (heading_tree.RedefinedPredicate p a) b g) (λ e. cc)
-    only (heading_tree.RedefinedAttribute p a) is g = apart_words b heading_words.Pred heading_words.Redefine h (told (heading_tree.RedefinedAttribute p a) b g) (λ e. cc)
-    only (heading_tree.RedefinedMode p a) is g = apart_words b heading_words.Pred heading_words.Redefine h (told (heading_tree.RedefinedMode p a) b g) (λ e. cc)
+    only (heading_tree.Attribute a) is g = apart_words b heading_words.Pred heading_words.Attr h (heading_next-told (heading_tree.Attribute a) b g) (λ e. cc)
+    only (heading_tree.Mode a) is g = apart_words b heading_words.Pred heading_words.Mode h (heading_next-told (heading_tree.Mode a) b g) (λ e. cc)
+    only (heading_tree.Abbreviation a) is g = apart_words b heading_words.Pred heading_words.Mode h (heading_next-told (heading_tree.Abbreviation a) b g) (λ e. cc)
+    only (heading_tree.Structure a) is g = apart_words b heading_words.Pred heading_words.Struct h (heading_next-told (heading_tree.Structure a) b g) (λ e. cc)
+    only (heading_tree.RedefinedFunctor p a) is g = apart_words b heading_words.Pred heading_words.Redefine h (heading_next-told (heading_tree.RedefinedFunctor p a) b g) (λ e. cc)
+    only (heading_tree.RedefinedPredicate p a) is g = apart_words b heading_words.Pred heading_words.Redefine h (heading_next-told (heading_tree.RedefinedPredicate p a) b g) (λ e. cc)
+    only (heading_tree.RedefinedAttribute p a) is g = apart_words b heading_words.Pred heading_words.Redefine h (heading_next-told (heading_tree.RedefinedAttribute p a) b g) (λ e. cc)
+    only (heading_tree.RedefinedMode p a) is g = apart_words b heading_words.Pred heading_words.Redefine h (heading_next-told (heading_tree.RedefinedMode p a) b g) (λ e. cc)
 
 pub predicate_read : (room : ℕ) (b after : List MarkedToken) (a : PredicateHeadingTree MeaningTree) → heading_next b ≡ Some heading_words.Pred → Found (predicate_heading_form means_form) room b a after → Found heading_form room b (put_predicate a) after
 predicate_read room b after a h f = (leads_as heading_form (predicate_heading_form means_form) put_predicate room b (as_predicate b h)).finds a after f
@@ -174,16 +174,16 @@ as_attribute b h = record {
 }
   where
     only : (x : HeadingTree) → IsHeading x × (states x ≡ true) → Agrees b (spell_heading x) → (a : AttributeHeadingTree MeaningTree) × (attribute_heading_form means_form).IsTree a × (x ≡ put_attribute a)
-    only (heading_tree.Functor a) is g = apart_words b heading_words.Attr heading_words.Func h (told (heading_tree.Functor a) b g) (λ e. cc)
-    only (heading_tree.Predicate a) is g = apart_words b heading_words.Attr heading_words.Pred h (told (heading_tree.Predicate a) b g) (λ e. cc)
+    only (heading_tree.Functor a) is g = apart_words b heading_words.Attr heading_words.Func h (heading_next-told (heading_tree.Functor a) b g) (λ e. cc)
+    only (heading_tree.Predicate a) is g = apart_words b heading_words.Attr heading_words.Pred h (heading_next-told (heading_tree.Predicate a) b g) (λ e. cc)
     only (heading_tree.Attribute a) is g = (a, is.0, refl)
-    only (heading_tree.Mode a) is g = apart_words b heading_words.Attr heading_words.Mode h (told (heading_tree.Mode a) b g) (λ e. cc)
-    only (heading_tree.Abbreviation a) is g = apart_words b heading_words.Attr heading_words.Mode h (told (heading_tree.Abbreviation a) b g) (λ e. cc)
-    only (heading_tree.Structure a) is g = apart_words b heading_words.Attr heading_words.Struct h (told (heading_tree.Structure a) b g) (λ e. cc)
-    only (heading_tree.RedefinedFunctor p a) is g = apart_words b heading_words.Attr heading_words.Redefine h (told (heading_tree.RedefinedFunctor p a) b g) (λ e. cc)
-    only (heading_tree.RedefinedPredicate p a) is g = apart_words b heading_words.Attr heading_words.Redefine h (told (heading_tree.RedefinedPredicate p a) b g) (λ e. cc)
-    only (heading_tree.RedefinedAttribute p a) is g = apart_words b heading_words.Attr heading_words.Redefine h (told (heading_tree.RedefinedAttribute p a) b g) (λ e. cc)
-    only (heading_tree.RedefinedMode p a) is g = apart_words b heading_words.Attr heading_words.Redefine h (told (heading_tree.RedefinedMode p a) b g) (λ e. cc)
+    only (heading_tree.Mode a) is g = apart_words b heading_words.Attr heading_words.Mode h (heading_next-told (heading_tree.Mode a) b g) (λ e. cc)
+    only (heading_tree.Abbreviation a) is g = apart_words b heading_words.Attr heading_words.Mode h (heading_next-told (heading_tree.Abbreviation a) b g) (λ e. cc)
+    only (heading_tree.Structure a) is g = apart_words b heading_words.Attr heading_words.Struct h (heading_next-told (heading_tree.Structure a) b g) (λ e. cc)
+    only (heading_tree.RedefinedFunctor p a) is g = apart_words b heading_words.Attr heading_words.Redefine h (heading_next-told (heading_tree.RedefinedFunctor p a) b g) (λ e. cc)
+    only (heading_tree.RedefinedPredicate p a) is g = apart_words b heading_words.Attr heading_words.Redefine h (heading_next-told (heading_tree.RedefinedPredicate p a) b g) (λ e. cc)
+    only (heading_tree.RedefinedAttribute p a) is g = apart_words b heading_words.Attr heading_words.Redefine h (heading_next-told (heading_tree.RedefinedAttribute p a) b g) (λ e. cc)
+    only (heading_tree.RedefinedMode p a) is g = apart_words b heading_words.Attr heading_words.Redefine h (heading_next-told (heading_tree.RedefinedMode p a) b g) (λ e. cc)
 
 pub attribute_read : (room : ℕ) (b after : List MarkedToken) (a : AttributeHeadingTree MeaningTree) → heading_next b ≡ Some heading_words.Attr → Found (attribute_heading_form means_form) room b a after → Found heading_form room b (put_attribute a) after
 attribute_read room b after a h f = (leads_as heading_form (attribute_heading_form means_form) put_attribute room b (as_attribute b h)).finds a after f
@@ -204,16 +204,16 @@ as_structure b h = record {
 }
   where
     only : (x : HeadingTree) → IsHeading x × (states x ≡ true) → Agrees b (spell_heading x) → (a : StructureTree) × structure_form.IsTree a × (x ≡ put_structure a)
-    only (heading_tree.Functor a) is g = apart_words b heading_words.Struct heading_words.Func h (told (heading_tree.Functor a) b g) (λ e. cc)
-    only (heading_tree.Predicate a) is g = apart_words b heading_words.Struct heading_words.Pred h (told (heading_tree.Predicate a) b g) (λ e. cc)
-    only (heading_tree.Attribute a) is g = apart_words b heading_words.Struct heading_words.Attr h (told (heading_tree.Attribute a) b g) (λ e. cc)
-    only (heading_tree.Mode a) is g = apart_words b heading_words.Struct heading_words.Mode h (told (heading_tree.Mode a) b g) (λ e. cc)
-    only (heading_tree.Abbreviation a) is g = apart_words b heading_words.Struct heading_words.Mode h (told (heading_tree.Abbreviation a) b g) (λ e. cc)
+    only (heading_tree.Functor a) is g = apart_words b heading_words.Struct heading_words.Func h (heading_next-told (heading_tree.Functor a) b g) (λ e. cc)
+    only (heading_tree.Predicate a) is g = apart_words b heading_words.Struct heading_words.Pred h (heading_next-told (heading_tree.Predicate a) b g) (λ e. cc)
+    only (heading_tree.Attribute a) is g = apart_words b heading_words.Struct heading_words.Attr h (heading_next-told (heading_tree.Attribute a) b g) (λ e. cc)
+    only (heading_tree.Mode a) is g = apart_words b heading_words.Struct heading_words.Mode h (heading_next-told (heading_tree.Mode a) b g) (λ e. cc)
+    only (heading_tree.Abbreviation a) is g = apart_words b heading_words.Struct heading_words.Mode h (heading_next-told (heading_tree.Abbreviation a) b g) (λ e. cc)
     only (heading_tree.Structure a) is g = (a, is.0, refl)
-    only (heading_tree.RedefinedFunctor p a) is g = apart_words b heading_words.Struct heading_words.Redefine h (told (heading_tree.RedefinedFunctor p a) b g) (λ e. cc)
-    only (heading_tree.RedefinedPredicate p a) is g = apart_words b heading_words.Struct heading_words.Redefine h (told (heading_tree.RedefinedPredicate p a) b g) (λ e. cc)
-    only (heading_tree.RedefinedAttribute p a) is g = apart_words b heading_words.Struct heading_words.Redefine h (told (heading_tree.RedefinedAttribute p a) b g) (λ e. cc)
-    only (heading_tree.RedefinedMode p a) is g = apart_words b heading_words.Struct heading_words.Redefine h (told (heading_tree.RedefinedMode p a) b g) (λ e. cc)
+    only (heading_tree.RedefinedFunctor p a) is g = apart_words b heading_words.Struct heading_words.Redefine h (heading_next-told (heading_tree.RedefinedFunctor p a) b g) (λ e. cc)
+    only (heading_tree.RedefinedPredicate p a) is g = apart_words b heading_words.Struct heading_words.Redefine h (heading_next-told (heading_tree.RedefinedPredicate p a) b g) (λ e. cc)
+    only (heading_tree.RedefinedAttribute p a) is g = apart_words b heading_words.Struct heading_words.Redefine h (heading_next-told (heading_tree.RedefinedAttribute p a) b g) (λ e. cc)
+    only (heading_tree.RedefinedMode p a) is g = apart_words b heading_words.Struct heading_words.Redefine h (heading_next-told (heading_tree.RedefinedMode p a) b g) (λ e. cc)
 
 pub structure_read : (room : ℕ) (b after : List MarkedToken) (a : StructureTree) → heading_next b ≡ Some heading_words.Struct → Found structure_form room b a after → Found heading_form room b (put_structure a) after
 structure_read room b after a h f = (leads_as heading_form structure_form put_structure room b (as_structure b h)).finds a after f
@@ -234,16 +234,16 @@ as_mode b h = record {
 }
   where
     only : (x : HeadingTree) → IsHeading x × (states x ≡ true) → Agrees b (spell_heading x) → (a : HeadingTree) × mode_form.IsTree a × (x ≡ put_mode a)
-    only (heading_tree.Functor a) is g = apart_words b heading_words.Mode heading_words.Func h (told (heading_tree.Functor a) b g) (λ e. cc)
-    only (heading_tree.Predicate a) is g = apart_words b heading_words.Mode heading_words.Pred h (told (heading_tree.Predicate a) b g) (λ e. cc)
-    only (heading_tree.Attribute a) is g = apart_words b heading_words.Mode heading_words.Attr h (told (heading_tree.Attribute a) b g) (λ e. cc)
+    only (heading_tree.Functor a) is g = apart_words b heading_words.Mode heading_words.Func h (heading_next-told (heading_tree.Functor a) b g) (λ e. cc)
+    only (heading_tree.Predicate a) is g = apart_words b heading_words.Mode heading_words.Pred h (heading_next-told (heading_tree.Predicate a) b g) (λ e. cc)
+    only (heading_tree.Attribute a) is g = apart_words b heading_words.Mode heading_words.Attr h (heading_next-told (heading_tree.Attribute a) b g) (λ e. cc)
     only (heading_tree.Mode a) is g = (heading_tree.Mode a, is.0, refl)
     only (heading_tree.Abbreviation a) is g = (heading_tree.Abbreviation a, is.0, refl)
-    only (heading_tree.Structure a) is g = apart_words b heading_words.Mode heading_words.Struct h (told (heading_tree.Structure a) b g) (λ e. cc)
-    only (heading_tree.RedefinedFunctor p a) is g = apart_words b heading_words.Mode heading_words.Redefine h (told (heading_tree.RedefinedFunctor p a) b g) (λ e. cc)
-    only (heading_tree.RedefinedPredicate p a) is g = apart_words b heading_words.Mode heading_words.Redefine h (told (heading_tree.RedefinedPredicate p a) b g) (λ e. cc)
-    only (heading_tree.RedefinedAttribute p a) is g = apart_words b heading_words.Mode heading_words.Redefine h (told (heading_tree.RedefinedAttribute p a) b g) (λ e. cc)
-    only (heading_tree.RedefinedMode p a) is g = apart_words b heading_words.Mode heading_words.Redefine h (told (heading_tree.RedefinedMode p a) b g) (λ e. cc)
+    only (heading_tree.Structure a) is g = apart_words b heading_words.Mode heading_words.Struct h (heading_next-told (heading_tree.Structure a) b g) (λ e. cc)
+    only (heading_tree.RedefinedFunctor p a) is g = apart_words b heading_words.Mode heading_words.Redefine h (heading_next-told (heading_tree.RedefinedFunctor p a) b g) (λ e. cc)
+    only (heading_tree.RedefinedPredicate p a) is g = apart_words b heading_words.Mode heading_words.Redefine h (heading_next-told (heading_tree.RedefinedPredicate p a) b g) (λ e. cc)
+    only (heading_tree.RedefinedAttribute p a) is g = apart_words b heading_words.Mode heading_words.Redefine h (heading_next-told (heading_tree.RedefinedAttribute p a) b g) (λ e. cc)
+    only (heading_tree.RedefinedMode p a) is g = apart_words b heading_words.Mode heading_words.Redefine h (heading_next-told (heading_tree.RedefinedMode p a) b g) (λ e. cc)
 
 pub mode_read : (room : ℕ) (b after : List MarkedToken) (a : HeadingTree) → heading_next b ≡ Some heading_words.Mode → Found mode_form room b a after → Found heading_form room b (put_mode a) after
 mode_read room b after a h f = (leads_as heading_form mode_form put_mode room b (as_mode b h)).finds a after f
@@ -264,12 +264,12 @@ as_redefinition b h = record {
 }
   where
     only : (x : HeadingTree) → IsHeading x × (states x ≡ true) → Agrees b (spell_heading x) → (a : HeadingTree) × redefined_form.IsTree a × (x ≡ put_redefinition a)
-    only (heading_tree.Functor a) is g = apart_words b heading_words.Redefine heading_words.Func h (told (heading_tree.Functor a) b g) (λ e. cc)
-    only (heading_tree.Predicate a) is g = apart_words b heading_words.Redefine heading_words.Pred h (told (heading_tree.Predicate a) b g) (λ e. cc)
-    only (heading_tree.Attribute a) is g = apart_words b heading_words.Redefine heading_words.Attr h (told (heading_tree.Attribute a) b g) (λ e. cc)
-    only (heading_tree.Mode a) is g = apart_words b heading_words.Redefine heading_words.Mode h (told (heading_tree.Mode a) b g) (λ e. cc)
-    only (heading_tree.Abbreviation a) is g = apart_words b heading_words.Redefine heading_words.Mode h (told (heading_tree.Abbreviation a) b g) (λ e. cc)
-    only (heading_tree.Structure a) is g = apart_words b heading_words.Redefine heading_words.Struct h (told (heading_tree.Structure a) b g) (λ e. cc)
+    only (heading_tree.Functor a) is g = apart_words b heading_words.Redefine heading_words.Func h (heading_next-told (heading_tree.Functor a) b g) (λ e. cc)
+    only (heading_tree.Predicate a) is g = apart_words b heading_words.Redefine heading_words.Pred h (heading_next-told (heading_tree.Predicate a) b g) (λ e. cc)
+    only (heading_tree.Attribute a) is g = apart_words b heading_words.Redefine heading_words.Attr h (heading_next-told (heading_tree.Attribute a) b g) (λ e. cc)
+    only (heading_tree.Mode a) is g = apart_words b heading_words.Redefine heading_words.Mode h (heading_next-told (heading_tree.Mode a) b g) (λ e. cc)
+    only (heading_tree.Abbreviation a) is g = apart_words b heading_words.Redefine heading_words.Mode h (heading_next-told (heading_tree.Abbreviation a) b g) (λ e. cc)
+    only (heading_tree.Structure a) is g = apart_words b heading_words.Redefine heading_words.Struct h (heading_next-told (heading_tree.Structure a) b g) (λ e. cc)
     only (heading_tree.RedefinedFunctor p a) is g = (heading_tree.RedefinedFunctor p a, is.0, refl)
     only (heading_tree.RedefinedPredicate p a) is g = (heading_tree.RedefinedPredicate p a, is.0, refl)
     only (heading_tree.RedefinedAttribute p a) is g = (heading_tree.RedefinedAttribute p a, is, refl)
@@ -294,7 +294,7 @@ abbrev some_heading : HeadingTree
 some_heading = heading_tree.Functor (record { func = nowhere; pattern = some_functor_pattern; result = None; meaning = some_meaning; semicolon = nowhere })
 
 pub no_heading : (room : ℕ) (b : List MarkedToken) → heading_next b ≡ None → Fails heading_form room b b
-no_heading room b h = fails_here heading_form room some_heading b ((tt, ((tt, tt), tt)), refl) (λ x is g. clash x (sym h ∙ told x b g))
+no_heading room b h = fails_here heading_form room some_heading b ((tt, ((tt, tt), tt)), refl) (λ x is g. clash x (sym h ∙ heading_next-told x b g))
   where
     clash : (x : HeadingTree) → None ≡ Some (word_of_heading x) → ⊥
     clash x e = cc
@@ -345,11 +345,11 @@ word_of_again (predicate_again a) = heading_words.Pred
 word_of_again (attribute_again a) = heading_words.Attr
 word_of_again (mode_again a) = heading_words.Mode
 
-pub told_again : (x : Again) (b : List MarkedToken) → Agrees b (spell_again x) → heading_next b ≡ Some (word_of_again x)
-told_again (functor_again a) b g = word_told heading_words.Func a.func _ b g
-told_again (predicate_again a) b g = word_told heading_words.Pred a.pred _ b g
-told_again (attribute_again a) b g = word_told heading_words.Attr a.attr _ b g
-told_again (mode_again a) b g = word_told heading_words.Mode a.mode _ b g
+pub heading_next-told_again : (x : Again) (b : List MarkedToken) → Agrees b (spell_again x) → heading_next b ≡ Some (word_of_again x)
+heading_next-told_again (functor_again a) b g = heading_next-word_told heading_words.Func a.func _ b g
+heading_next-told_again (predicate_again a) b g = heading_next-word_told heading_words.Pred a.pred _ b g
+heading_next-told_again (attribute_again a) b g = heading_next-word_told heading_words.Attr a.attr _ b g
+heading_next-told_again (mode_again a) b g = heading_next-word_told heading_words.Mode a.mode _ b g
 
 abbrev pub put_functor_again : FunctorHeadingTree (Option MeaningTree) → Again
 put_functor_again a = functor_again a
@@ -365,9 +365,9 @@ as_functor_again b h = record {
   where
     only : (x : Again) → IsAgain x → Agrees b (spell_again x) → (a : FunctorHeadingTree (Option MeaningTree)) × (functor_heading_form optional_meaning).IsTree a × (x ≡ put_functor_again a)
     only (functor_again a) is g = (a, is, refl)
-    only (predicate_again a) is g = apart_words b heading_words.Func heading_words.Pred h (told_again (predicate_again a) b g) (λ e. cc)
-    only (attribute_again a) is g = apart_words b heading_words.Func heading_words.Attr h (told_again (attribute_again a) b g) (λ e. cc)
-    only (mode_again a) is g = apart_words b heading_words.Func heading_words.Mode h (told_again (mode_again a) b g) (λ e. cc)
+    only (predicate_again a) is g = apart_words b heading_words.Func heading_words.Pred h (heading_next-told_again (predicate_again a) b g) (λ e. cc)
+    only (attribute_again a) is g = apart_words b heading_words.Func heading_words.Attr h (heading_next-told_again (attribute_again a) b g) (λ e. cc)
+    only (mode_again a) is g = apart_words b heading_words.Func heading_words.Mode h (heading_next-told_again (mode_again a) b g) (λ e. cc)
 
 abbrev pub put_predicate_again : PredicateHeadingTree (Option MeaningTree) → Again
 put_predicate_again a = predicate_again a
@@ -382,10 +382,10 @@ as_predicate_again b h = record {
 }
   where
     only : (x : Again) → IsAgain x → Agrees b (spell_again x) → (a : PredicateHeadingTree (Option MeaningTree)) × (predicate_heading_form optional_means).IsTree a × (x ≡ put_predicate_again a)
-    only (functor_again a) is g = apart_words b heading_words.Pred heading_words.Func h (told_again (functor_again a) b g) (λ e. cc)
+    only (functor_again a) is g = apart_words b heading_words.Pred heading_words.Func h (heading_next-told_again (functor_again a) b g) (λ e. cc)
     only (predicate_again a) is g = (a, is, refl)
-    only (attribute_again a) is g = apart_words b heading_words.Pred heading_words.Attr h (told_again (attribute_again a) b g) (λ e. cc)
-    only (mode_again a) is g = apart_words b heading_words.Pred heading_words.Mode h (told_again (mode_again a) b g) (λ e. cc)
+    only (attribute_again a) is g = apart_words b heading_words.Pred heading_words.Attr h (heading_next-told_again (attribute_again a) b g) (λ e. cc)
+    only (mode_again a) is g = apart_words b heading_words.Pred heading_words.Mode h (heading_next-told_again (mode_again a) b g) (λ e. cc)
 
 abbrev pub put_attribute_again : AttributeHeadingTree (Option MeaningTree) → Again
 put_attribute_again a = attribute_again a
@@ -400,10 +400,10 @@ as_attribute_again b h = record {
 }
   where
     only : (x : Again) → IsAgain x → Agrees b (spell_again x) → (a : AttributeHeadingTree (Option MeaningTree)) × (attribute_heading_form (stated means_form)).IsTree a × (x ≡ put_attribute_again a)
-    only (functor_again a) is g = apart_words b heading_words.Attr heading_words.Func h (told_again (functor_again a) b g) (λ e. cc)
-    only (predicate_again a) is g = apart_words b heading_words.Attr heading_words.Pred h (told_again (predicate_again a) b g) (λ e. cc)
+    only (functor_again a) is g = apart_words b heading_words.Attr heading_words.Func h (heading_next-told_again (functor_again a) b g) (λ e. cc)
+    only (predicate_again a) is g = apart_words b heading_words.Attr heading_words.Pred h (heading_next-told_again (predicate_again a) b g) (λ e. cc)
     only (attribute_again a) is g = (a, is, refl)
-    only (mode_again a) is g = apart_words b heading_words.Attr heading_words.Mode h (told_again (mode_again a) b g) (λ e. cc)
+    only (mode_again a) is g = apart_words b heading_words.Attr heading_words.Mode h (heading_next-told_again (mode_again a) b g) (λ e. cc)
 
 abbrev pub put_mode_again : ModeHeadingTree (Option MeaningTree) → Again
 put_mode_again a = mode_again a
@@ -418,9 +418,9 @@ as_mode_again b h = record {
 }
   where
     only : (x : Again) → IsAgain x → Agrees b (spell_again x) → (a : ModeHeadingTree (Option MeaningTree)) × redefined_mode_form.IsTree a × (x ≡ put_mode_again a)
-    only (functor_again a) is g = apart_words b heading_words.Mode heading_words.Func h (told_again (functor_again a) b g) (λ e. cc)
-    only (predicate_again a) is g = apart_words b heading_words.Mode heading_words.Pred h (told_again (predicate_again a) b g) (λ e. cc)
-    only (attribute_again a) is g = apart_words b heading_words.Mode heading_words.Attr h (told_again (attribute_again a) b g) (λ e. cc)
+    only (functor_again a) is g = apart_words b heading_words.Mode heading_words.Func h (heading_next-told_again (functor_again a) b g) (λ e. cc)
+    only (predicate_again a) is g = apart_words b heading_words.Mode heading_words.Pred h (heading_next-told_again (predicate_again a) b g) (λ e. cc)
+    only (attribute_again a) is g = apart_words b heading_words.Mode heading_words.Attr h (heading_next-told_again (attribute_again a) b g) (λ e. cc)
     only (mode_again a) is g = (a, is, refl)
 
 -- The word, and what stands behind it.
@@ -498,13 +498,13 @@ module _ (room : ℕ) (b : List MarkedToken) (p : Place) (c : List MarkedToken) 
   at_redefine = next redefined_form (word_form (codes "redefine")) (λ _. again_form) redefinition_apart room b b make_redefinition (begin_redefinition room b) p c found
 
   pub nothing_again : heading_next c ≡ None → Refuses redefined_form room b refusals.Refused c
-  nothing_again h = at_redefine.fails c (fails_here again_form room some_again c (tt, tt) (λ x is g. clash x (sym h ∙ told_again x c g)))
+  nothing_again h = at_redefine.fails c (fails_here again_form room some_again c (tt, tt) (λ x is g. clash x (sym h ∙ heading_next-told_again x c g)))
     where
       clash : (x : Again) → None ≡ Some (word_of_again x) → ⊥
       clash x e = cc
 
   pub struct_again : heading_next c ≡ Some heading_words.Struct → Refuses redefined_form room b refusals.Refused c
-  struct_again h = at_redefine.fails c (fails_here again_form room some_again c (tt, tt) (λ x is g. clash x (sym h ∙ told_again x c g)))
+  struct_again h = at_redefine.fails c (fails_here again_form room some_again c (tt, tt) (λ x is g. clash x (sym h ∙ heading_next-told_again x c g)))
     where
       clash : (x : Again) → Some heading_words.Struct ≡ Some (word_of_again x) → ⊥
       clash (functor_again a) e = cc
@@ -513,7 +513,7 @@ module _ (room : ℕ) (b : List MarkedToken) (p : Place) (c : List MarkedToken) 
       clash (mode_again a) e = cc
 
   pub redefine_again : heading_next c ≡ Some heading_words.Redefine → Refuses redefined_form room b refusals.Refused c
-  redefine_again h = at_redefine.fails c (fails_here again_form room some_again c (tt, tt) (λ x is g. clash x (sym h ∙ told_again x c g)))
+  redefine_again h = at_redefine.fails c (fails_here again_form room some_again c (tt, tt) (λ x is g. clash x (sym h ∙ heading_next-told_again x c g)))
     where
       clash : (x : Again) → Some heading_words.Redefine ≡ Some (word_of_again x) → ⊥
       clash (functor_again a) e = cc

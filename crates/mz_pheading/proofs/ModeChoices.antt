@@ -29,7 +29,7 @@ use Rattle.mz_ppattern.specs.Words.{word_form, word_token}
 use Rattle.mz_ppattern.specs.Forms.{mode_pattern_form}
 use Rattle.mz_pmeaning.specs.MeaningForms.{means_form}
 use Rattle.mz_pmeaning.proofs.MeaningSteps.{means_is_meant}
-use Rattle.mz_pmeaning.proofs.Steps.{next, stopped, apart_unsigned, grouped, Unsigned}
+use Rattle.mz_pmeaning.proofs.Steps.{next, stopped, apart_unsigned, append-grouped, Unsigned}
 use Rattle.mz_pheading.specs.ModeForms.{abbreviates, defines, definition_rest, mode_form, mode_meaning, mode_rest_form, optional_result, redefined_mode_form, spell_mode_rest, stated, IsModeRest, ModeRest, ReadsModeRest}
 use Rattle.mz_pheading.proofs.ModeSequences.{ends_rest, mode_found, mode_refused_3, some_mode_pattern}
 use Rattle.mz_pheading.proofs.ModeSteps.{definition_unsigned, ended, meaning_from, meaning_into, meant_apart, mode_meaning_is_meant, result_apart, result_unsigned, some_meaning, some_stated, type_apart}
@@ -175,10 +175,10 @@ ends_redefined : Ends redefined_1
 ends_redefined = ends_then (word_form (codes "mode")) (λ _. redefined_2) (λ _. ends_then mode_pattern_form (λ _. redefined_3) (λ _. ends_then optional_result redefined_4 (λ r. ends_then (mode_meaning (is_some r)) (λ _. redefined_5) (λ _. ends_key keywords.Semicolon))))
 
 redefined_spells : (k : redefined_1.Tree) → redefined_mode_form.spell (make_redefined k) ≡ redefined_1.spell k
-redefined_spells k = ap (λ z. word_token (codes "mode") k.0 ∷ z) (grouped (mode_pattern_form.spell k.1.0) (optional_result.spell k.1.1.0) ((mode_meaning (is_some k.1.1.0)).spell k.1.1.1.0) (key keywords.Semicolon k.1.1.1.1 ∷ []))
+redefined_spells k = ap (λ z. word_token (codes "mode") k.0 ∷ z) (append-grouped (mode_pattern_form.spell k.1.0) (optional_result.spell k.1.1.0) ((mode_meaning (is_some k.1.1.0)).spell k.1.1.1.0) (key keywords.Semicolon k.1.1.1.1 ∷ []))
 
 redefined_levels : (k : redefined_1.Tree) → redefined_mode_form.levels (make_redefined k) ≡ redefined_1.levels k
-redefined_levels k = ap (λ z. 0 ∷ z) (grouped (mode_pattern_form.levels k.1.0) (optional_result.levels k.1.1.0) ((mode_meaning (is_some k.1.1.0)).levels k.1.1.1.0) (0 ∷ []))
+redefined_levels k = ap (λ z. 0 ∷ z) (append-grouped (mode_pattern_form.levels k.1.0) (optional_result.levels k.1.1.0) ((mode_meaning (is_some k.1.1.0)).levels k.1.1.1.0) (0 ∷ []))
 
 pub as_redefined : (b : List MarkedToken) → Reshapes redefined_mode_form redefined_1 make_redefined b
 as_redefined b = record {

@@ -31,7 +31,7 @@ use Rattle.mz_ppattern.proofs.Sets.{Off, apart_off, head_off}
 use Rattle.mz_pmeaning.specs.MeaningForms.{means_form}
 use Rattle.mz_pheading.specs.ModeForms.{abbreviates, defines, definition_rest, levels_mode_rest, mode_form, mode_from, mode_rest_form, optional_result, result_form, spell_mode_rest, IsModeRest, IsOfMode, ModeRest}
 use Rattle.mz_pheading.proofs.ModeSteps.{definition_unsigned, some_rest, some_rest_is}
-use Rattle.mz_pmeaning.proofs.Steps.{next, stopped, grouped, off_unsigned}
+use Rattle.mz_pmeaning.proofs.Steps.{next, stopped, append-grouped, off_unsigned}
 
 -- Examples.
 abbrev pub some_type : TypeData
@@ -88,11 +88,11 @@ mode_into p m (defines o k s) is = (is.0, is.1.0)
 
 mode_spells : (p : Place) (m : ModePatternTree) (r : ModeRest) → mode_form.spell (mode_from p m r) ≡ word_token (codes "mode") p ∷ (mode_pattern_form.spell m ++ spell_mode_rest r)
 mode_spells p m (abbreviates q t s) = ap (λ z. word_token (codes "mode") p ∷ z) (append_assoc (mode_pattern_form.spell m) (fixed signs.Is q ∷ spell_type t) (key keywords.Semicolon s ∷ []))
-mode_spells p m (defines o k s) = ap (λ z. word_token (codes "mode") p ∷ z) (grouped (mode_pattern_form.spell m) (optional_result.spell o) (means_form.spell k) (key keywords.Semicolon s ∷ []))
+mode_spells p m (defines o k s) = ap (λ z. word_token (codes "mode") p ∷ z) (append-grouped (mode_pattern_form.spell m) (optional_result.spell o) (means_form.spell k) (key keywords.Semicolon s ∷ []))
 
 mode_levels : (p : Place) (m : ModePatternTree) (r : ModeRest) → mode_form.levels (mode_from p m r) ≡ 0 ∷ (mode_pattern_form.levels m ++ levels_mode_rest r)
 mode_levels p m (abbreviates q t s) = ap (λ z. 0 ∷ z) (append_assoc (mode_pattern_form.levels m) (0 ∷ (whole_type false).levels t) (0 ∷ []))
-mode_levels p m (defines o k s) = ap (λ z. 0 ∷ z) (grouped (mode_pattern_form.levels m) (optional_result.levels o) (means_form.levels k) (0 ∷ []))
+mode_levels p m (defines o k s) = ap (λ z. 0 ∷ z) (append-grouped (mode_pattern_form.levels m) (optional_result.levels o) (means_form.levels k) (0 ∷ []))
 
 pub ends_rest : Ends mode_rest_form
 ends_rest = record { filled = λ x is e. filled x e; closed = λ x t is g. never g }

@@ -231,10 +231,10 @@ module _ (M : Form MarkedToken) (meant : IsMeant M) (one : (n : ℕ) → One n M
 
 -- Redefinitions.
 again_at : (n : ℕ) (x : headings.Again) (tok : MarkedToken) (m : List MarkedToken) → headings.spell_again x ≡ tok ∷ m → OneAt n headings.again_form tok
-again_at n (headings.functor_again a) tok m e = at_as n headings.again_form (functor_heading_form optional_meaning) headings.put_functor_again tok (headings.as_functor_again (tok ∷ []) (headings.told_again (headings.functor_again a) (tok ∷ []) (heads (headings.spell_again (headings.functor_again a)) tok m e))) (functor_one optional_meaning optional_meaning_is_meant optional_meaning_one n)
-again_at n (headings.predicate_again a) tok m e = at_as n headings.again_form (predicate_heading_form optional_means) headings.put_predicate_again tok (headings.as_predicate_again (tok ∷ []) (headings.told_again (headings.predicate_again a) (tok ∷ []) (heads (headings.spell_again (headings.predicate_again a)) tok m e))) (predicate_one optional_means optional_means_is_meant optional_means_one n)
-again_at n (headings.attribute_again a) tok m e = at_as n headings.again_form (attribute_heading_form (stated means_form)) headings.put_attribute_again tok (headings.as_attribute_again (tok ∷ []) (headings.told_again (headings.attribute_again a) (tok ∷ []) (heads (headings.spell_again (headings.attribute_again a)) tok m e))) (attribute_one (stated means_form) stated_is_meant stated_one n)
-again_at n (headings.mode_again a) tok m e = at_as n headings.again_form redefined_mode_form headings.put_mode_again tok (headings.as_mode_again (tok ∷ []) (headings.told_again (headings.mode_again a) (tok ∷ []) (heads (headings.spell_again (headings.mode_again a)) tok m e))) (redefined_mode_one n)
+again_at n (headings.functor_again a) tok m e = at_as n headings.again_form (functor_heading_form optional_meaning) headings.put_functor_again tok (headings.as_functor_again (tok ∷ []) (headings.heading_next-told_again (headings.functor_again a) (tok ∷ []) (heads (headings.spell_again (headings.functor_again a)) tok m e))) (functor_one optional_meaning optional_meaning_is_meant optional_meaning_one n)
+again_at n (headings.predicate_again a) tok m e = at_as n headings.again_form (predicate_heading_form optional_means) headings.put_predicate_again tok (headings.as_predicate_again (tok ∷ []) (headings.heading_next-told_again (headings.predicate_again a) (tok ∷ []) (heads (headings.spell_again (headings.predicate_again a)) tok m e))) (predicate_one optional_means optional_means_is_meant optional_means_one n)
+again_at n (headings.attribute_again a) tok m e = at_as n headings.again_form (attribute_heading_form (stated means_form)) headings.put_attribute_again tok (headings.as_attribute_again (tok ∷ []) (headings.heading_next-told_again (headings.attribute_again a) (tok ∷ []) (heads (headings.spell_again (headings.attribute_again a)) tok m e))) (attribute_one (stated means_form) stated_is_meant stated_one n)
+again_at n (headings.mode_again a) tok m e = at_as n headings.again_form redefined_mode_form headings.put_mode_again tok (headings.as_mode_again (tok ∷ []) (headings.heading_next-told_again (headings.mode_again a) (tok ∷ []) (heads (headings.spell_again (headings.mode_again a)) tok m e))) (redefined_mode_one n)
 
 again_filled : (x : headings.Again) → headings.spell_again x ≡ [] → ⊥
 again_filled (headings.functor_again a) e = cc
@@ -251,16 +251,16 @@ redefinition_one n = one_as n redefined_form headings.redefinition_1 headings.ma
 
 -- Headings.
 heading_at : (n : ℕ) (x : HeadingTree) (tok : MarkedToken) (m : List MarkedToken) → spell_heading x ≡ tok ∷ m → OneAt n heading_form tok
-heading_at n (heading_tree.Functor a) tok m e = at_as n heading_form (functor_heading_form meaning_form) headings.put_functor tok (headings.as_functor (tok ∷ []) (headings.told (heading_tree.Functor a) (tok ∷ []) (heads (spell_heading (heading_tree.Functor a)) tok m e))) (functor_one meaning_form meaning_is_meant meaning_one n)
-heading_at n (heading_tree.Predicate a) tok m e = at_as n heading_form (predicate_heading_form means_form) headings.put_predicate tok (headings.as_predicate (tok ∷ []) (headings.told (heading_tree.Predicate a) (tok ∷ []) (heads (spell_heading (heading_tree.Predicate a)) tok m e))) (predicate_one means_form means_is_meant means_one n)
-heading_at n (heading_tree.Attribute a) tok m e = at_as n heading_form (attribute_heading_form means_form) headings.put_attribute tok (headings.as_attribute (tok ∷ []) (headings.told (heading_tree.Attribute a) (tok ∷ []) (heads (spell_heading (heading_tree.Attribute a)) tok m e))) (attribute_one means_form means_is_meant means_one n)
-heading_at n (heading_tree.Mode a) tok m e = at_as n heading_form mode_form headings.put_mode tok (headings.as_mode (tok ∷ []) (headings.told (heading_tree.Mode a) (tok ∷ []) (heads (spell_heading (heading_tree.Mode a)) tok m e))) (mode_one n)
-heading_at n (heading_tree.Abbreviation a) tok m e = at_as n heading_form mode_form headings.put_mode tok (headings.as_mode (tok ∷ []) (headings.told (heading_tree.Abbreviation a) (tok ∷ []) (heads (spell_heading (heading_tree.Abbreviation a)) tok m e))) (mode_one n)
-heading_at n (heading_tree.Structure a) tok m e = at_as n heading_form structure_form headings.put_structure tok (headings.as_structure (tok ∷ []) (headings.told (heading_tree.Structure a) (tok ∷ []) (heads (spell_heading (heading_tree.Structure a)) tok m e))) (structure_one n)
-heading_at n (heading_tree.RedefinedFunctor p a) tok m e = at_as n heading_form redefined_form headings.put_redefinition tok (headings.as_redefinition (tok ∷ []) (headings.told (heading_tree.RedefinedFunctor p a) (tok ∷ []) (heads (spell_heading (heading_tree.RedefinedFunctor p a)) tok m e))) (redefinition_one n)
-heading_at n (heading_tree.RedefinedPredicate p a) tok m e = at_as n heading_form redefined_form headings.put_redefinition tok (headings.as_redefinition (tok ∷ []) (headings.told (heading_tree.RedefinedPredicate p a) (tok ∷ []) (heads (spell_heading (heading_tree.RedefinedPredicate p a)) tok m e))) (redefinition_one n)
-heading_at n (heading_tree.RedefinedAttribute p a) tok m e = at_as n heading_form redefined_form headings.put_redefinition tok (headings.as_redefinition (tok ∷ []) (headings.told (heading_tree.RedefinedAttribute p a) (tok ∷ []) (heads (spell_heading (heading_tree.RedefinedAttribute p a)) tok m e))) (redefinition_one n)
-heading_at n (heading_tree.RedefinedMode p a) tok m e = at_as n heading_form redefined_form headings.put_redefinition tok (headings.as_redefinition (tok ∷ []) (headings.told (heading_tree.RedefinedMode p a) (tok ∷ []) (heads (spell_heading (heading_tree.RedefinedMode p a)) tok m e))) (redefinition_one n)
+heading_at n (heading_tree.Functor a) tok m e = at_as n heading_form (functor_heading_form meaning_form) headings.put_functor tok (headings.as_functor (tok ∷ []) (headings.heading_next-told (heading_tree.Functor a) (tok ∷ []) (heads (spell_heading (heading_tree.Functor a)) tok m e))) (functor_one meaning_form meaning_is_meant meaning_one n)
+heading_at n (heading_tree.Predicate a) tok m e = at_as n heading_form (predicate_heading_form means_form) headings.put_predicate tok (headings.as_predicate (tok ∷ []) (headings.heading_next-told (heading_tree.Predicate a) (tok ∷ []) (heads (spell_heading (heading_tree.Predicate a)) tok m e))) (predicate_one means_form means_is_meant means_one n)
+heading_at n (heading_tree.Attribute a) tok m e = at_as n heading_form (attribute_heading_form means_form) headings.put_attribute tok (headings.as_attribute (tok ∷ []) (headings.heading_next-told (heading_tree.Attribute a) (tok ∷ []) (heads (spell_heading (heading_tree.Attribute a)) tok m e))) (attribute_one means_form means_is_meant means_one n)
+heading_at n (heading_tree.Mode a) tok m e = at_as n heading_form mode_form headings.put_mode tok (headings.as_mode (tok ∷ []) (headings.heading_next-told (heading_tree.Mode a) (tok ∷ []) (heads (spell_heading (heading_tree.Mode a)) tok m e))) (mode_one n)
+heading_at n (heading_tree.Abbreviation a) tok m e = at_as n heading_form mode_form headings.put_mode tok (headings.as_mode (tok ∷ []) (headings.heading_next-told (heading_tree.Abbreviation a) (tok ∷ []) (heads (spell_heading (heading_tree.Abbreviation a)) tok m e))) (mode_one n)
+heading_at n (heading_tree.Structure a) tok m e = at_as n heading_form structure_form headings.put_structure tok (headings.as_structure (tok ∷ []) (headings.heading_next-told (heading_tree.Structure a) (tok ∷ []) (heads (spell_heading (heading_tree.Structure a)) tok m e))) (structure_one n)
+heading_at n (heading_tree.RedefinedFunctor p a) tok m e = at_as n heading_form redefined_form headings.put_redefinition tok (headings.as_redefinition (tok ∷ []) (headings.heading_next-told (heading_tree.RedefinedFunctor p a) (tok ∷ []) (heads (spell_heading (heading_tree.RedefinedFunctor p a)) tok m e))) (redefinition_one n)
+heading_at n (heading_tree.RedefinedPredicate p a) tok m e = at_as n heading_form redefined_form headings.put_redefinition tok (headings.as_redefinition (tok ∷ []) (headings.heading_next-told (heading_tree.RedefinedPredicate p a) (tok ∷ []) (heads (spell_heading (heading_tree.RedefinedPredicate p a)) tok m e))) (redefinition_one n)
+heading_at n (heading_tree.RedefinedAttribute p a) tok m e = at_as n heading_form redefined_form headings.put_redefinition tok (headings.as_redefinition (tok ∷ []) (headings.heading_next-told (heading_tree.RedefinedAttribute p a) (tok ∷ []) (heads (spell_heading (heading_tree.RedefinedAttribute p a)) tok m e))) (redefinition_one n)
+heading_at n (heading_tree.RedefinedMode p a) tok m e = at_as n heading_form redefined_form headings.put_redefinition tok (headings.as_redefinition (tok ∷ []) (headings.heading_next-told (heading_tree.RedefinedMode p a) (tok ∷ []) (heads (spell_heading (heading_tree.RedefinedMode p a)) tok m e))) (redefinition_one n)
 
 heading_filled : (x : HeadingTree) → spell_heading x ≡ [] → ⊥
 heading_filled (heading_tree.Functor a) e = cc

@@ -101,18 +101,18 @@ abbrev behind_first : List MarkedToken → List MarkedToken
 behind_first [] = []
 behind_first (t ∷ ts) = ts
 
-begins_so : (w : HeadingWord) (p : Place) → spell_heading (some_heading w p) ≡ word_token (heading_word w) p ∷ behind_first (spell_heading (some_heading w p))
-begins_so heading_words.Func p = refl
-begins_so heading_words.Pred p = refl
-begins_so heading_words.Attr p = refl
-begins_so heading_words.Mode p = refl
-begins_so heading_words.Struct p = refl
-begins_so heading_words.Redefine p = refl
+spell_heading-begins_so : (w : HeadingWord) (p : Place) → spell_heading (some_heading w p) ≡ word_token (heading_word w) p ∷ behind_first (spell_heading (some_heading w p))
+spell_heading-begins_so heading_words.Func p = refl
+spell_heading-begins_so heading_words.Pred p = refl
+spell_heading-begins_so heading_words.Attr p = refl
+spell_heading-begins_so heading_words.Mode p = refl
+spell_heading-begins_so heading_words.Struct p = refl
+spell_heading-begins_so heading_words.Redefine p = refl
 
 pub begun_heading : (t : MarkedToken) (w : HeadingWord) → first_of heading_word headings t ≡ Some w → Begun heading_form t
 begun_heading t w e = (
   some_heading w t.token.place,
   behind_first (spell_heading (some_heading w t.token.place)),
   some_heading_is w t.token.place,
-  begins_so w t.token.place ∙ ap (λ z. z ∷ behind_first (spell_heading (some_heading w t.token.place))) (sym (word_told (heading_word w) t (heading_hit t w e))),
+  spell_heading-begins_so w t.token.place ∙ ap (λ z. z ∷ behind_first (spell_heading (some_heading w t.token.place))) (sym (word_told (heading_word w) t (heading_hit t w e))),
 )

@@ -322,40 +322,40 @@ keyword_from n =
     (if n == 29 then keywords.Link else
     (if n == 30 then keywords.Numeral else keywords.Other)))))))))))))))))))))))))))))))
 
-back : (k : Keyword) → keyword_from (number_of k) ≡ k
+keyword_from-back : (k : Keyword) → keyword_from (number_of k) ≡ k
 unfolding keyword_from
-back keywords.And = refl
-back keywords.As = refl
-back keywords.Assume = refl
-back keywords.By = refl
-back keywords.Cases = refl
-back keywords.Consider = refl
-back keywords.Def = refl
-back keywords.Deffunc = refl
-back keywords.Defpred = refl
-back keywords.End = refl
-back keywords.From = refl
-back keywords.Given = refl
-back keywords.Hence = refl
-back keywords.Hereby = refl
-back keywords.Let = refl
-back keywords.Means = refl
-back keywords.Now = refl
-back keywords.Per = refl
-back keywords.Proof = refl
-back keywords.Reconsider = refl
-back keywords.Sch = refl
-back keywords.Such = refl
-back keywords.Suppose = refl
-back keywords.Take = refl
-back keywords.That = refl
-back keywords.Then = refl
-back keywords.Thus = refl
-back keywords.Colon = refl
-back keywords.Semicolon = refl
-back keywords.Link = refl
-back keywords.Numeral = refl
-back keywords.Other = refl
+keyword_from-back keywords.And = refl
+keyword_from-back keywords.As = refl
+keyword_from-back keywords.Assume = refl
+keyword_from-back keywords.By = refl
+keyword_from-back keywords.Cases = refl
+keyword_from-back keywords.Consider = refl
+keyword_from-back keywords.Def = refl
+keyword_from-back keywords.Deffunc = refl
+keyword_from-back keywords.Defpred = refl
+keyword_from-back keywords.End = refl
+keyword_from-back keywords.From = refl
+keyword_from-back keywords.Given = refl
+keyword_from-back keywords.Hence = refl
+keyword_from-back keywords.Hereby = refl
+keyword_from-back keywords.Let = refl
+keyword_from-back keywords.Means = refl
+keyword_from-back keywords.Now = refl
+keyword_from-back keywords.Per = refl
+keyword_from-back keywords.Proof = refl
+keyword_from-back keywords.Reconsider = refl
+keyword_from-back keywords.Sch = refl
+keyword_from-back keywords.Such = refl
+keyword_from-back keywords.Suppose = refl
+keyword_from-back keywords.Take = refl
+keyword_from-back keywords.That = refl
+keyword_from-back keywords.Then = refl
+keyword_from-back keywords.Thus = refl
+keyword_from-back keywords.Colon = refl
+keyword_from-back keywords.Semicolon = refl
+keyword_from-back keywords.Link = refl
+keyword_from-back keywords.Numeral = refl
+keyword_from-back keywords.Other = refl
 
 pub same_keyword : (a b : Keyword) → number_of a ≡ number_of b → a ≡ b
-same_keyword a b e = sym (back a) ∙ (ap keyword_from e ∙ back b)
+same_keyword a b e = sym (keyword_from-back a) ∙ (ap keyword_from e ∙ keyword_from-back b)

@@ -43,7 +43,7 @@ use Rattle.mz_pjustification.specs.Keyword.{keyword_of}
 use Rattle.mz_pjustification.specs.Words.{key, keyword, numeral_form, tokens_of, next_among, TakesKey}
 use Rattle.mz_pjustification.specs.Forms.{is_colon, number_form, begins_number, spell_part, part_form, head_form, Tail, spell_tail, levels_tail, each_tail, MayNumber, IsTail, goes_on_references, tail_form, references_form, reference_from, references_from, is_numbered, behind, scheme_number, scheme_form, scheme_from, NumbersRead, ReferencesRead}
 use Rattle.mz_pjustification.proofs.Keywords.{keyword_of-key, keyword_of-numeral, same_key}
-use Rattle.mz_pjustification.proofs.Taken.{nowhere, key_among, numeral_among, identifier_among, comma_among, first_only}
+use Rattle.mz_pjustification.proofs.Taken.{nowhere, key_among, numeral_among, tokens_of-identifier_among, comma_among, first_only}
 
 -- Sets of tokens.
 pub begun_next : (c : Sign → Keyword → Bool) (b : List MarkedToken) (s : MarkedToken) (w : List MarkedToken) → Agrees b (s ∷ w) → next_among c b ≡ true → tokens_of c s ≡ true
@@ -287,7 +287,7 @@ references_filled s e = none (sym (references_first s).2 ∙ e)
     none f = cc
 
 identifier_off : (w : Word) → tokens_of begins_number (named signs.Identifier w) ≡ true → ⊥
-identifier_off w g = never (sym (identifier_among begins_number w) ∙ g)
+identifier_off w g = never (sym (tokens_of-identifier_among begins_number w) ∙ g)
 
 only_number : (b : List MarkedToken) → next_among begins_number b ≡ true → (x : Behind) → IsBehind x → Agrees b (spell_behind x) → (k : number_and_tail.Tree) × number_and_tail.IsTree k × (x ≡ make_number k)
 only_number b h (number_behind n k) is g = ((n, k), (tt, is), refl)
@@ -354,13 +354,13 @@ numbers_refused room ns c b d e after r so_far taken h refused = passes (tail_fo
     (passes behind_form number_and_tail room make_number e e after r (begin_number room e h)
     (first_refuses number_form (λ _. tail_form true) number_apart room e after r (λ a is. (([], []), (tt, tt))) refused)))
 
-nil : {X : Type 0} (xs : List X) → xs ++ [] ≡ xs
-nil [] = refl
-nil (x ∷ xs) = ap (λ z. x ∷ z) (nil xs)
+append-nil : {X : Type 0} (xs : List X) → xs ++ [] ≡ xs
+append-nil [] = refl
+append-nil (x ∷ xs) = ap (λ z. x ∷ z) (append-nil xs)
 
 pub numbers_to_references : (room : ℕ) (ns : List (Next Comma NumberTree)) (c : Comma) (b d e : List MarkedToken) → NumbersSoFar room ns b d → TakesComma false d (Some c) e → next_among begins_number e ≡ false → NumbersRead room ns (Some c) b e
 numbers_to_references room ns c b d e so_far taken h =
-    leads_same (tail_form true) references_form room (λ s. (ns ++ [], next c s.first ∷ s.more)) (λ s. (ns, next c s.first ∷ s.more)) b e (λ s. ap (λ z. (z, next c s.first ∷ s.more)) (nil ns))
+    leads_same (tail_form true) references_form room (λ s. (ns ++ [], next c s.first ∷ s.more)) (λ s. (ns, next c s.first ∷ s.more)) b e (λ s. ap (λ z. (z, next c s.first ∷ s.more)) (append-nil ns))
     (leads_on (tail_form true) (tail_form true) references_form room (λ k. (ns ++ k.0, k.1)) (to_references c) b d e so_far
     (leads_on (tail_form true) behind_form references_form room (with_comma c) references_behind d e e (begin_behind room c d e taken) (leads_as behind_form references_form references_behind room e (as_further e h))))
 
@@ -381,7 +381,7 @@ tail_ends numbered room b after h =
 pub numbers_end : (room : ℕ) (ns : List (Next Comma NumberTree)) (b d after : List MarkedToken) → NumbersSoFar room ns b d → TakesComma false d None after → NumbersRead room ns None b after
 numbers_end room ns b d after so_far h =
     let F : List (Next Comma NumberTree) → Type 0 = λ z. Found (tail_form true) room b (z, []) after in
-    subst F (nil ns) (so_far.finds ([], []) after (tail_ends true room d after h))
+    subst F (append-nil ns) (so_far.finds ([], []) after (tail_ends true room d after h))
 
 pub shorter_number : (c : Comma) (n : NumberTree) (d e g : List MarkedToken) → TakesComma false d (Some c) e → Found number_form 0 e n g → length g < length d
 shorter_number c n d e g taken h =

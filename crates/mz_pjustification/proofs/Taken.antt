@@ -34,8 +34,8 @@ key_among c k p h = ap (λ s. c s (keyword_of (key k p))) (sign_of-key k p h) �
 pub numeral_among : (c : Sign → Keyword → Bool) (w : Word) → tokens_of c (numeral w) ≡ c signs.Other keywords.Numeral
 numeral_among c w = ap (λ s. c s (keyword_of (numeral w))) (sign_of-numeral w) ∙ ap (c signs.Other) (keyword_of-numeral w)
 
-pub identifier_among : (c : Sign → Keyword → Bool) (w : Word) → tokens_of c (named signs.Identifier w) ≡ c signs.Identifier keywords.Other
-identifier_among c w = ap (λ s. c s (keyword_of (named signs.Identifier w))) (sign_of-named signs.Identifier w refl) ∙ ap (c signs.Identifier) (keyword_of-identifier w)
+pub tokens_of-identifier_among : (c : Sign → Keyword → Bool) (w : Word) → tokens_of c (named signs.Identifier w) ≡ c signs.Identifier keywords.Other
+tokens_of-identifier_among c w = ap (λ s. c s (keyword_of (named signs.Identifier w))) (sign_of-named signs.Identifier w refl) ∙ ap (c signs.Identifier) (keyword_of-identifier w)
 
 pub fixed_among : (c : Sign → Keyword → Bool) (s : Sign) (p : Place) → is_fixed s ≡ true → tokens_of c (fixed s p) ≡ c s keywords.Other
 fixed_among c s p h = ap (λ z. c z (keyword_of (fixed s p))) (sign_of-fixed s p h) ∙ ap (c s) (keyword_of-fixed s p h)

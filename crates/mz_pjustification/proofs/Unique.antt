@@ -28,7 +28,7 @@ use Rattle.mz_pjustification.specs.Keyword.{keyword_of}
 use Rattle.mz_pjustification.specs.Words.{is_key, key, keyword, numeral_form, tokens_of}
 use Rattle.mz_pjustification.specs.Forms.{is_colon, number_form, begins_number, spell_part, part_form, head_form, Tail, spell_tail, goes_on_references, tail_form, references_form, is_numbered, scheme_number, scheme_form, premises_form, opens_premises, maybe_premises, goes_on_simple, simple_form}
 use Rattle.mz_pjustification.proofs.Keywords.{keyword_of-key, keyword_of-numeral, same_key, same_numeral}
-use Rattle.mz_pjustification.proofs.Taken.{key_among, identifier_among}
+use Rattle.mz_pjustification.proofs.Taken.{key_among, tokens_of-identifier_among}
 use Rattle.mz_pjustification.proofs.ReferenceSteps as references
 use Rattle.mz_pjustification.proofs.SimpleSteps as simple
 
@@ -103,7 +103,7 @@ behind_at n tails (references.number_behind a k) tok m e =
 behind_at n tails (references.references_behind s) tok m e =
     let f = references.references_first s in
     let same : named signs.Identifier f.0 ≡ tok = head_of (named signs.Identifier f.0) tok f.1 m (sym f.2 ∙ e) in
-    at_as n references.behind_form references_form references.references_behind tok (references.as_further (tok ∷ []) (ap (λ t. tokens_of begins_number t) (sym same) ∙ identifier_among begins_number f.0)) (references_with n tails)
+    at_as n references.behind_form references_form references.references_behind tok (references.as_further (tok ∷ []) (ap (λ t. tokens_of begins_number t) (sym same) ∙ tokens_of-identifier_among begins_number f.0)) (references_with n tails)
 
 behind_one : (n : ℕ) → ((numbered : Bool) → One n (tail_form numbered)) → One n references.behind_form
 behind_one n tails = one_from n references.behind_form (λ a b isa isb ea eb. absurd (behind_filled a ea)) (λ a b tok m isa isb ea eb. absurd (behind_filled a ea)) (λ a tok m isa e. behind_at n tails a tok m e)

@@ -19,7 +19,7 @@ use Rattle.mz_ppattern.specs.Words.{word_form, word_token}
 use Rattle.mz_pmeaning.specs.Classes.{goes_condition}
 use Rattle.mz_pmeaning.specs.CaseForms.{case_form, condition_form, otherwise_form}
 use Rattle.mz_pmeaning.proofs.Bodies.{IsBody, if_signed}
-use Rattle.mz_pmeaning.proofs.Steps.{next, stopped, apart_unsigned, unsigned_then, or_next}
+use Rattle.mz_pmeaning.proofs.Steps.{next, stopped, apart_unsigned, sign_of-unsigned_then, or_next}
 
 module _ (B : Form MarkedToken) (body : IsBody B) where
   -- case
@@ -33,7 +33,7 @@ module _ (B : Form MarkedToken) (body : IsBody B) where
   case_1 = then B (λ _. case_2)
 
   pub case_apart_1 : Apart B (λ _. case_2)
-  case_apart_1 = apart_unsigned B case_2 (goes_open any_operator) (λ a t is g. body.goes a t is g) refl (λ y t m is e. unsigned_then (word_token (codes "if")) (λ _. condition_form) if_signed y t m e)
+  case_apart_1 = apart_unsigned B case_2 (goes_open any_operator) (λ a t is g. body.goes a t is g) refl (λ y t m is e. sign_of-unsigned_then (word_token (codes "if")) (λ _. condition_form) if_signed y t m e)
 
   pub case_apart_2 : Apart (word_form (codes "if")) (λ _. case_3)
   case_apart_2 = apart_closed (word_form (codes "if")) (λ _. case_3) (λ a t. refl)

@@ -47,7 +47,7 @@ use Rattle.mz_ppattern.proofs.WordSteps.{one_found, word_own, word_same, word_to
 use Rattle.mz_pmeaning.specs.Classes.{goes_condition, goes_on_cases, goes_on_meaning, NoComma}
 use Rattle.mz_pmeaning.specs.CaseForms.{case_form, case_links, cases_form, cases_from, condition_form, further_cases, listed_cases, next_cases, optional_otherwise, otherwise_form}
 use Rattle.mz_pmeaning.proofs.Bodies.{IsBody, if_signed, otherwise_signed}
-use Rattle.mz_pmeaning.proofs.Steps.{next, stopped, apart_unsigned, unsigned_then, grouped, or_left, or_right, Unsigned}
+use Rattle.mz_pmeaning.proofs.Steps.{next, stopped, apart_unsigned, sign_of-unsigned_then, append-grouped, or_left, or_right, Unsigned}
 
 -- What goes on a condition.
 condition_on : (f : FormulaData) (s : Sign) → goes_condition f s ≡ true → goes_on_cases s ≡ true
@@ -220,14 +220,14 @@ module _ (B : Form MarkedToken) (body : IsBody B) where
   cases_spells x None = sym (append_nil (B.spell x))
   cases_spells x (Some k) =
       ap (λ z. ((B.spell x ++ word_token (codes "if") k.0 ∷ spell_formula k.1.0.0) ++ z) ++ (optional_otherwise B).spell k.1.1) (list_spells k.1.0.1) ∙
-      grouped (B.spell x) (word_token (codes "if") k.0 ∷ spell_formula k.1.0.0) (spell_chain L k.1.0.1) ((optional_otherwise B).spell k.1.1) ∙
+      append-grouped (B.spell x) (word_token (codes "if") k.0 ∷ spell_formula k.1.0.0) (spell_chain L k.1.0.1) ((optional_otherwise B).spell k.1.1) ∙
       ap (λ z. B.spell x ++ word_token (codes "if") k.0 ∷ z) (sym (append_assoc (spell_formula k.1.0.0) (spell_chain L k.1.0.1) ((optional_otherwise B).spell k.1.1)))
 
   cases_levels : (x : B.Tree) (o : Option behind_if.Tree) → (cases_form B).levels (cases_with x o) ≡ parts_of_cases.levels (x, o)
   cases_levels x None = sym (append_nil (B.levels x))
   cases_levels x (Some k) =
       ap (λ z. ((B.levels x ++ 0 ∷ levels_formula k.1.0.0) ++ z) ++ (optional_otherwise B).levels k.1.1) (list_levels k.1.0.1) ∙
-      grouped (B.levels x) (0 ∷ levels_formula k.1.0.0) (levels_chain L k.1.0.1) ((optional_otherwise B).levels k.1.1) ∙
+      append-grouped (B.levels x) (0 ∷ levels_formula k.1.0.0) (levels_chain L k.1.0.1) ((optional_otherwise B).levels k.1.1) ∙
       ap (λ z. B.levels x ++ 0 ∷ z) (sym (append_assoc (levels_formula k.1.0.0) (levels_chain L k.1.0.1) ((optional_otherwise B).levels k.1.1)))
 
   pub only_cases : (x : CasesTree B.Tree) → (cases_form B).IsTree x → (k : parts_of_cases.Tree) × parts_of_cases.IsTree k × (x ≡ make_cases k)
@@ -275,14 +275,14 @@ module _ (B : Form MarkedToken) (body : IsBody B) where
     where
       unsigned : Unsigned behind_body
       unsigned None t m is e = cc
-      unsigned (Some k) t m is e = unsigned_then (word_token (codes "if")) (λ _. behind_list) if_signed k t m e
+      unsigned (Some k) t m is e = sign_of-unsigned_then (word_token (codes "if")) (λ _. behind_list) if_signed k t m e
 
   pub listed_apart : Apart (listed_cases B) (λ _. optional_otherwise B)
   listed_apart = apart_unsigned (listed_cases B) (optional_otherwise B) goes_on_cases (λ a t is g. listed_on a t g) refl unsigned
     where
       unsigned : Unsigned (optional_otherwise B)
       unsigned None t m is e = cc
-      unsigned (Some y) t m is e = unsigned_then (word_token (codes "otherwise")) (λ _. B) otherwise_signed (y.otherwise, y.body) t m e
+      unsigned (Some y) t m is e = sign_of-unsigned_then (word_token (codes "otherwise")) (λ _. B) otherwise_signed (y.otherwise, y.body) t m e
 
   pub if_apart : Apart (word_form (codes "if")) (λ _. behind_list)
   if_apart = apart_closed (word_form (codes "if")) (λ _. behind_list) (λ a t. refl)
@@ -352,7 +352,7 @@ module _ (B : Form MarkedToken) (body : IsBody B) where
   pub cases_first : (x : CasesTree B.Tree) (t : MarkedToken) (m : List MarkedToken) → (cases_form B).IsTree x → (cases_form B).spell x ≡ t ∷ m → sign_of t ≡ signs.Other → ⊥
   cases_first (cases_tree.Plain x) t m is e h = body.first x t m is e h
   cases_first (cases_tree.Cases s o) t m is e h = first_of_body s.first.body _ t m is.0.0.0
-      (sym (grouped (B.spell s.first.body) (word_token (codes "if") s.first.if_ ∷ spell_formula s.first.condition) (flat_map (spell_next (case_form B).spell) s.more) ((optional_otherwise B).spell o)) ∙ e) h
+      (sym (append-grouped (B.spell s.first.body) (word_token (codes "if") s.first.if_ ∷ spell_formula s.first.condition) (flat_map (spell_next (case_form B).spell) s.more) ((optional_otherwise B).spell o)) ∙ e) h
 
   pub cases_some : (x : CasesTree B.Tree) → (cases_form B).IsTree x → is_empty ((cases_form B).spell x) ≡ false
   cases_some x is = not_empty ((cases_form B).spell x) (λ e. filled x is e)
@@ -368,4 +368,4 @@ module _ (B : Form MarkedToken) (body : IsBody B) where
       filled : (x : CasesTree B.Tree) → (cases_form B).IsTree x → (cases_form B).spell x ≡ [] → ⊥
       filled (cases_tree.Plain x) is e = body.filled x is e
       filled (cases_tree.Cases s o) is e = body.filled s.first.body is.0.0.0 (left_nil (B.spell s.first.body) _
-          (sym (grouped (B.spell s.first.body) (word_token (codes "if") s.first.if_ ∷ spell_formula s.first.condition) (flat_map (spell_next (case_form B).spell) s.more) ((optional_otherwise B).spell o)) ∙ e))
+          (sym (append-grouped (B.spell s.first.body) (word_token (codes "if") s.first.if_ ∷ spell_formula s.first.condition) (flat_map (spell_next (case_form B).spell) s.more) ((optional_otherwise B).spell o)) ∙ e))

@@ -31,8 +31,8 @@ off_unsigned c F none h x t m is e g = never (sym none ∙ (ap c (sym (h x t m i
 pub apart_unsigned : (A F : Form MarkedToken) (c : Sign → Bool) → ((a : A.Tree) (t : MarkedToken) → A.IsTree a → A.goes a t ≡ true → c (sign_of t) ≡ true) → c signs.Other ≡ false → Unsigned F → Apart A (λ _. F)
 apart_unsigned A F c weak none h = apart_off A F (λ t. c (sign_of t)) weak (off_unsigned c F none h)
 
-pub unsigned_then : {X : Type 0} (f : X → MarkedToken) (K : X → Form MarkedToken) → ((x : X) → sign_of (f x) ≡ signs.Other) → (y : (k : X) × (K k).Tree) (t : MarkedToken) (m : List MarkedToken) → (f y.0 ∷ []) ++ (K y.0).spell y.1 ≡ t ∷ m → sign_of t ≡ signs.Other
-unsigned_then f K h y t m e = sym (ap sign_of (head_of _ _ _ _ e)) ∙ h y.0
+pub sign_of-unsigned_then : {X : Type 0} (f : X → MarkedToken) (K : X → Form MarkedToken) → ((x : X) → sign_of (f x) ≡ signs.Other) → (y : (k : X) × (K k).Tree) (t : MarkedToken) (m : List MarkedToken) → (f y.0 ∷ []) ++ (K y.0).spell y.1 ≡ t ∷ m → sign_of t ≡ signs.Other
+sign_of-unsigned_then f K h y t m e = sym (ap sign_of (head_of _ _ _ _ e)) ∙ h y.0
 
 -- the first part may be left out
 pub unsigned_optional : (X : Form MarkedToken) (begins : MarkedToken → Bool) (F : Form MarkedToken) → Unsigned X → ((x : X.Tree) → X.IsTree x → X.spell x ≡ [] → ⊥) → Unsigned F → Unsigned (then (optional X begins) (λ _. F))
@@ -63,6 +63,6 @@ or_next true q r h g = refl
 or_next false q true h g = cc
 or_next false q false h g = cc
 
--- parts grouped to the left, and to the right
-pub grouped : {X : Type 0} (a b c d : List X) → ((a ++ b) ++ c) ++ d ≡ a ++ (b ++ (c ++ d))
-grouped a b c d = append_assoc (a ++ b) c d ∙ append_assoc a b (c ++ d)
+-- parts append-grouped to the left, and to the right
+pub append-grouped : {X : Type 0} (a b c d : List X) → ((a ++ b) ++ c) ++ d ≡ a ++ (b ++ (c ++ d))
+append-grouped a b c d = append_assoc (a ++ b) c d ∙ append_assoc a b (c ++ d)

@@ -153,9 +153,9 @@ or_next true q r h g = refl
 or_next false q true h g = cc
 or_next false q false h g = cc
 
--- parts grouped to the left, and to the right
-pub grouped : {X : Type 0} (a b c d : List X) → ((a ++ b) ++ c) ++ d ≡ a ++ (b ++ (c ++ d))
-grouped a b c d = append_assoc (a ++ b) c d ∙ append_assoc a b (c ++ d)
+-- parts append-grouped to the left, and to the right
+pub append-grouped : {X : Type 0} (a b c d : List X) → ((a ++ b) ++ c) ++ d ≡ a ++ (b ++ (c ++ d))
+append-grouped a b c d = append_assoc (a ++ b) c d ∙ append_assoc a b (c ++ d)
 
 pub field_apart_1 : Apart selectors_form (λ _. field_2)
 field_apart_1 = apart_off selectors_form field_2 on_names (λ a t is g. g) (off_one_then on_names arrow_token (λ _. field_3) (λ p g. names_off_arrow p g))
@@ -322,10 +322,10 @@ ends_structure : Ends structure_1
 ends_structure = ends_then (word_form (codes "struct")) (λ _. structure_2) (λ _. ends_then optional_ancestors (λ _. structure_3) (λ _. ends_then (name signs.Structure) (λ _. structure_4) (λ _. ends_then optional_structure_loci (λ _. structure_5) (λ _. ends_then (nested (word signs.OpenAggregate)) (λ _. structure_6) (λ _. ends_then (nested fields_form) (λ _. structure_7) (λ _. ends_then (word signs.CloseAggregate) (λ _. structure_8) (λ _. ends_class Place (key keywords.Semicolon))))))))
 
 structure_spells : (k : structure_1.Tree) → structure_form.spell (make_structure k) ≡ structure_1.spell k
-structure_spells k = ap (λ z. word_token (codes "struct") k.0 ∷ z) (grouped (optional_ancestors.spell k.1.0) (named signs.Structure k.1.1.0 ∷ optional_structure_loci.spell k.1.1.1.0) (fixed signs.OpenAggregate k.1.1.1.1.0 ∷ fields_form.spell k.1.1.1.1.1.0) (fixed signs.CloseAggregate k.1.1.1.1.1.1.0 ∷ (key keywords.Semicolon k.1.1.1.1.1.1.1 ∷ [])))
+structure_spells k = ap (λ z. word_token (codes "struct") k.0 ∷ z) (append-grouped (optional_ancestors.spell k.1.0) (named signs.Structure k.1.1.0 ∷ optional_structure_loci.spell k.1.1.1.0) (fixed signs.OpenAggregate k.1.1.1.1.0 ∷ fields_form.spell k.1.1.1.1.1.0) (fixed signs.CloseAggregate k.1.1.1.1.1.1.0 ∷ (key keywords.Semicolon k.1.1.1.1.1.1.1 ∷ [])))
 
 structure_levels : (k : structure_1.Tree) → structure_form.levels (make_structure k) ≡ structure_1.levels k
-structure_levels k = ap (λ z. 0 ∷ z) (grouped (optional_ancestors.levels k.1.0) (0 ∷ optional_structure_loci.levels k.1.1.1.0) (1 ∷ map suc (fields_form.levels k.1.1.1.1.1.0)) (0 ∷ (0 ∷ [])))
+structure_levels k = ap (λ z. 0 ∷ z) (append-grouped (optional_ancestors.levels k.1.0) (0 ∷ optional_structure_loci.levels k.1.1.1.0) (1 ∷ map suc (fields_form.levels k.1.1.1.1.1.0)) (0 ∷ (0 ∷ [])))
 
 pub as_structure : (b : List MarkedToken) → Reshapes structure_form structure_1 make_structure b
 as_structure b = record {

@@ -47,8 +47,8 @@ kind_of (patterns.Attribute x) = kinds.Attribute
 kind_of (patterns.Mode x) = kinds.Mode
 
 -- by the first token, and by the second behind an identifier
-by_first : (t : MarkedToken) (rest : List MarkedToken) (s : MarkedToken) (k : Sign) → t ≡ s → sign_of s ≡ k → kind_next (t ∷ rest) ≡ first_kind k rest
-by_first t rest s k e h = ap (λ z. first_kind z rest) (ap sign_of e ∙ h)
+kind_next-by_first : (t : MarkedToken) (rest : List MarkedToken) (s : MarkedToken) (k : Sign) → t ≡ s → sign_of s ≡ k → kind_next (t ∷ rest) ≡ first_kind k rest
+kind_next-by_first t rest s k e h = ap (λ z. first_kind z rest) (ap sign_of e ∙ h)
 
 by_second : (rest : List MarkedToken) (n : MarkedToken) (w more : List MarkedToken) (k : Sign) → more ≡ n ∷ w → Agrees rest more → sign_of n ≡ k → second_kind rest ≡ kind_behind k
 by_second rest n w more k e agrees h = go rest (subst (λ (z : List MarkedToken). Agrees rest z) e agrees)
@@ -61,22 +61,22 @@ functor_kind : (x : FunctorPatternTree) (t : MarkedToken) (rest more : List Mark
 functor_kind (functor_patterns.Symbol a) t rest more e agrees = go a.left e
   where
     go : (l : Option LociTree) → spelled.maybe spell_loci l ++ functor a.symbol a.priority ∷ spelled.maybe spell_loci a.right ≡ t ∷ more → kind_next (t ∷ rest) ≡ kinds.Functor
-    go None f = by_first t rest (functor a.symbol a.priority) signs.Functor (sym (head_of _ _ _ _ f)) (sign_of-functor a.symbol a.priority)
-    go (Some (loci_tree.One v)) f = by_first t rest (named signs.Identifier v) signs.Identifier (sym (head_of _ _ _ _ f)) (sign_of-named signs.Identifier v refl)
+    go None f = kind_next-by_first t rest (functor a.symbol a.priority) signs.Functor (sym (head_of _ _ _ _ f)) (sign_of-functor a.symbol a.priority)
+    go (Some (loci_tree.One v)) f = kind_next-by_first t rest (named signs.Identifier v) signs.Identifier (sym (head_of _ _ _ _ f)) (sign_of-named signs.Identifier v refl)
         ∙ by_second rest (functor a.symbol a.priority) (spelled.maybe spell_loci a.right) more signs.Functor (sym (tail_of _ _ _ _ f)) agrees (sign_of-functor a.symbol a.priority)
-    go (Some (loci_tree.Several p s q)) f = by_first t rest (fixed signs.Open p) signs.Open (sym (head_of _ _ _ _ f)) (sign_of-fixed signs.Open p refl)
-functor_kind (functor_patterns.Brackets p s q) t rest more e agrees = by_first t rest (named signs.LeftBracket p) signs.LeftBracket (sym (head_of _ _ _ _ e)) (sign_of-named signs.LeftBracket p refl)
-functor_kind (functor_patterns.Braces p s q) t rest more e agrees = by_first t rest (fixed signs.OpenBrace p) signs.OpenBrace (sym (head_of _ _ _ _ e)) (sign_of-fixed signs.OpenBrace p refl)
-functor_kind (functor_patterns.Squares p s q) t rest more e agrees = by_first t rest (fixed signs.OpenSquare p) signs.OpenSquare (sym (head_of _ _ _ _ e)) (sign_of-fixed signs.OpenSquare p refl)
+    go (Some (loci_tree.Several p s q)) f = kind_next-by_first t rest (fixed signs.Open p) signs.Open (sym (head_of _ _ _ _ f)) (sign_of-fixed signs.Open p refl)
+functor_kind (functor_patterns.Brackets p s q) t rest more e agrees = kind_next-by_first t rest (named signs.LeftBracket p) signs.LeftBracket (sym (head_of _ _ _ _ e)) (sign_of-named signs.LeftBracket p refl)
+functor_kind (functor_patterns.Braces p s q) t rest more e agrees = kind_next-by_first t rest (fixed signs.OpenBrace p) signs.OpenBrace (sym (head_of _ _ _ _ e)) (sign_of-fixed signs.OpenBrace p refl)
+functor_kind (functor_patterns.Squares p s q) t rest more e agrees = kind_next-by_first t rest (fixed signs.OpenSquare p) signs.OpenSquare (sym (head_of _ _ _ _ e)) (sign_of-fixed signs.OpenSquare p refl)
 
 comma_behind : (d : Bool) → kind_behind (comma_kind d) ≡ kinds.Predicate
 comma_behind true = refl
 comma_behind false = refl
 
 predicate_kind : (l : Option (Separated IdentifierTree)) (w : Word) (r : List MarkedToken) (t : MarkedToken) (rest more : List MarkedToken) → spelled.maybe (spell_separated spell_identifier) l ++ named signs.Predicate w ∷ r ≡ t ∷ more → Agrees rest more → kind_next (t ∷ rest) ≡ kinds.Predicate
-predicate_kind None w r t rest more e agrees = by_first t rest (named signs.Predicate w) signs.Predicate (sym (head_of _ _ _ _ e)) (sign_of-named signs.Predicate w refl)
+predicate_kind None w r t rest more e agrees = kind_next-by_first t rest (named signs.Predicate w) signs.Predicate (sym (head_of _ _ _ _ e)) (sign_of-named signs.Predicate w refl)
 predicate_kind (Some s) w r t rest more e agrees =
-    by_first t rest (named signs.Identifier s.first.name) signs.Identifier (sym (head_of _ _ _ _ e)) (sign_of-named signs.Identifier s.first.name refl) ∙ go s.more (tail_of _ _ _ _ e)
+    kind_next-by_first t rest (named signs.Identifier s.first.name) signs.Identifier (sym (head_of _ _ _ _ e)) (sign_of-named signs.Identifier s.first.name refl) ∙ go s.more (tail_of _ _ _ _ e)
   where
     go : (ns : List (Next Comma IdentifierTree)) → flat_map (spell_next spell_identifier) ns ++ named signs.Predicate w ∷ r ≡ more → second_kind rest ≡ kinds.Predicate
     go [] f = by_second rest (named signs.Predicate w) r more signs.Predicate (sym f) agrees (sign_of-named signs.Predicate w refl)
@@ -86,9 +86,9 @@ pub kind_told : (x : PatternTree) (t : MarkedToken) (rest more : List MarkedToke
 kind_told (patterns.Functor x) t rest more e agrees = functor_kind x t rest more e agrees
 kind_told (patterns.Predicate x) t rest more e agrees = predicate_kind x.left x.symbol _ t rest more e agrees
 kind_told (patterns.Attribute x) t rest more e agrees =
-    by_first t rest (named signs.Identifier x.subject) signs.Identifier (sym (head_of _ _ _ _ e)) (sign_of-named signs.Identifier x.subject refl)
+    kind_next-by_first t rest (named signs.Identifier x.subject) signs.Identifier (sym (head_of _ _ _ _ e)) (sign_of-named signs.Identifier x.subject refl)
     ∙ by_second rest (fixed signs.Is x.is) _ more signs.Is (sym (tail_of _ _ _ _ e)) agrees (sign_of-fixed signs.Is x.is refl)
-kind_told (patterns.Mode x) t rest more e agrees = by_first t rest (named signs.Mode x.symbol) signs.Mode (sym (head_of _ _ _ _ e)) (sign_of-named signs.Mode x.symbol refl)
+kind_told (patterns.Mode x) t rest more e agrees = kind_next-by_first t rest (named signs.Mode x.symbol) signs.Mode (sym (head_of _ _ _ _ e)) (sign_of-named signs.Mode x.symbol refl)
 
 -- each pattern has a token
 predicate_filled : (l : Option (Separated IdentifierTree)) (w : Word) (r : List MarkedToken) → spelled.maybe (spell_separated spell_identifier) l ++ named signs.Predicate w ∷ r ≡ [] → ⊥

@@ -114,16 +114,16 @@ as_functor b h = record {
   level = λ k is. refl;
 }
 
-none_left : (x : PatternTree) → Agrees [] (spell_pattern x) → kind_of x ≡ kinds.Functor
-none_left x g = go (spell_pattern x) refl g
+kind_of-none_left : (x : PatternTree) → Agrees [] (spell_pattern x) → kind_of x ≡ kinds.Functor
+kind_of-none_left x g = go (spell_pattern x) refl g
   where
     go : (w : List MarkedToken) → spell_pattern x ≡ w → Agrees [] w → kind_of x ≡ kinds.Functor
     go [] f a = absurd (pattern_filled x f)
     go (s ∷ w) f a = absurd a
 
--- a token that is no identifier decides alone
-alone : (t : MarkedToken) (rest r : List MarkedToken) → (sign_of t ≡ signs.Identifier → ⊥) → kind_next (t ∷ rest) ≡ kind_next (t ∷ r)
-alone t rest r h = go (sign_of t) h
+-- a token that is no identifier decides kind_next-alone
+kind_next-alone : (t : MarkedToken) (rest r : List MarkedToken) → (sign_of t ≡ signs.Identifier → ⊥) → kind_next (t ∷ rest) ≡ kind_next (t ∷ r)
+kind_next-alone t rest r h = go (sign_of t) h
   where
     go : (s : Sign) → (s ≡ signs.Identifier → ⊥) → first_kind s rest ≡ first_kind s r
     go signs.Identifier g = absurd (g refl)
@@ -135,19 +135,19 @@ self : (w : List MarkedToken) → Agrees w w
 self [] = tt
 self (s ∷ w) = refl
 
-told_alone : (t : MarkedToken) (rest : List MarkedToken) → (sign_of t ≡ signs.Identifier → ⊥) → kind_next (t ∷ rest) ≡ kinds.Functor → (x : PatternTree) → Agrees (t ∷ rest) (spell_pattern x) → kind_of x ≡ kinds.Functor
-told_alone t rest i h x g = go (spell_pattern x) refl g
+kind_of-told_alone : (t : MarkedToken) (rest : List MarkedToken) → (sign_of t ≡ signs.Identifier → ⊥) → kind_next (t ∷ rest) ≡ kinds.Functor → (x : PatternTree) → Agrees (t ∷ rest) (spell_pattern x) → kind_of x ≡ kinds.Functor
+kind_of-told_alone t rest i h x g = go (spell_pattern x) refl g
   where
     go : (w : List MarkedToken) → spell_pattern x ≡ w → Agrees (t ∷ rest) w → kind_of x ≡ kinds.Functor
     go [] f a = absurd (pattern_filled x f)
-    go (s ∷ w) f a = kind_at kinds.Functor t w (sym (alone t rest w i) ∙ h) x w (f ∙ ap (λ z. z ∷ w) a) (self w)
+    go (s ∷ w) f a = kind_at kinds.Functor t w (sym (kind_next-alone t rest w i) ∙ h) x w (f ∙ ap (λ z. z ∷ w) a) (self w)
 
 pub functor_leads : (room : ℕ) (b : List MarkedToken) → kind_next b ≡ kinds.Functor → Leads pattern_form functor_pattern_form room functor_pattern b b
-functor_leads room [] h = leads_as pattern_form functor_pattern_form functor_pattern room [] (as_functor [] none_left)
+functor_leads room [] h = leads_as pattern_form functor_pattern_form functor_pattern room [] (as_functor [] kind_of-none_left)
 functor_leads room (t ∷ rest) h = go (is_identifier (sign_of t)) refl
   where
     other : (sign_of t ≡ signs.Identifier → ⊥) → Leads pattern_form functor_pattern_form room functor_pattern (t ∷ rest) (t ∷ rest)
-    other i = leads_as pattern_form functor_pattern_form functor_pattern room (t ∷ rest) (as_functor (t ∷ rest) (told_alone t rest i h))
+    other i = leads_as pattern_form functor_pattern_form functor_pattern room (t ∷ rest) (as_functor (t ∷ rest) (kind_of-told_alone t rest i h))
 
     named_first : sign_of t ≡ signs.Identifier → Leads pattern_form functor_pattern_form room functor_pattern (t ∷ rest) (t ∷ rest)
     named_first i = leads_on pattern_form (begun functor_pattern_form t) functor_pattern_form room functor_pattern (λ k. k) (t ∷ rest) (t ∷ rest) (t ∷ rest)

@@ -26,52 +26,52 @@ use Rattle.mz_pjustification.proofs.Taken.{nowhere, nothing_left}
 use Rattle.mz_ppattern.specs.Words.{spells_word, is_special, marked_word, marked_arrow, is_word, is_arrow, word_token, arrow_token, TakesOne}
 
 -- What a word, and the arrow, say of the token.
-kind_told : (k : TokenKind) (p : Place) (s w : List ℕ) → spells_word w k s ≡ true → marked k p s 0 marks.NotComma ≡ word_token w p
-kind_told kinds.Reserved p s w h = ap (λ z. reserved p z) ((bytes_eq-Decides s w).0 h)
-kind_told kinds.Special p s w h = cc
-kind_told (kinds.Symbol k) p s w h = cc
-kind_told kinds.Identifier p s w h = cc
-kind_told kinds.Numeral p s w h = cc
+marked-kind_told : (k : TokenKind) (p : Place) (s w : List ℕ) → spells_word w k s ≡ true → marked k p s 0 marks.NotComma ≡ word_token w p
+marked-kind_told kinds.Reserved p s w h = ap (λ z. reserved p z) ((bytes_eq-Decides s w).0 h)
+marked-kind_told kinds.Special p s w h = cc
+marked-kind_told (kinds.Symbol k) p s w h = cc
+marked-kind_told kinds.Identifier p s w h = cc
+marked-kind_told kinds.Numeral p s w h = cc
 
 mark_told : (m : Mark) (k : TokenKind) (p : Place) (s w : List ℕ) → marked_word w m k s ≡ true → marked k p s 0 m ≡ word_token w p
-mark_told marks.NotComma k p s w h = kind_told k p s w h
+mark_told marks.NotComma k p s w h = marked-kind_told k p s w h
 mark_told marks.List k p s w h = cc
 mark_told marks.Dividing k p s w h = cc
 
-rank_told : (n : ℕ) (m : Mark) (k : TokenKind) (p : Place) (s w : List ℕ) → (if n == 0 then marked_word w m k s else false) ≡ true → marked k p s n m ≡ word_token w p
-rank_told n m k p s w h = go (n == 0) refl h
+marked-rank_told : (n : ℕ) (m : Mark) (k : TokenKind) (p : Place) (s w : List ℕ) → (if n == 0 then marked_word w m k s else false) ≡ true → marked k p s n m ≡ word_token w p
+marked-rank_told n m k p s w h = go (n == 0) refl h
   where
     go : (b : Bool) → (n == 0) ≡ b → (if b then marked_word w m k s else false) ≡ true → marked k p s n m ≡ word_token w p
     go true e g = let U : ℕ → Type 0 = λ z. marked k p s z m ≡ word_token w p in subst U (sym (eqb-true n 0 e)) (mark_told m k p s w g)
     go false e g = cc
 
 pub word_told : (w : List ℕ) (t : MarkedToken) → is_word w t ≡ true → t ≡ word_token w t.token.place
-word_told w t h = rank_told t.token.priority t.mark t.token.kind t.token.place t.token.spelling w h
+word_told w t h = marked-rank_told t.token.priority t.mark t.token.kind t.token.place t.token.spelling w h
 
 pub word_own : (w : List ℕ) (p : Place) → is_word w (word_token w p) ≡ true
 word_own w p = (bytes_eq-Decides w w).1 refl
 
-special_told : (k : TokenKind) (p : Place) (s : List ℕ) → is_special k s ≡ true → marked k p s 0 marks.NotComma ≡ arrow_token p
-special_told kinds.Reserved p s h = cc
-special_told kinds.Special p s h = ap (λ z. special p z) ((bytes_eq-Decides s (codes "->")).0 h)
-special_told (kinds.Symbol k) p s h = cc
-special_told kinds.Identifier p s h = cc
-special_told kinds.Numeral p s h = cc
+marked-special_told : (k : TokenKind) (p : Place) (s : List ℕ) → is_special k s ≡ true → marked k p s 0 marks.NotComma ≡ arrow_token p
+marked-special_told kinds.Reserved p s h = cc
+marked-special_told kinds.Special p s h = ap (λ z. special p z) ((bytes_eq-Decides s (codes "->")).0 h)
+marked-special_told (kinds.Symbol k) p s h = cc
+marked-special_told kinds.Identifier p s h = cc
+marked-special_told kinds.Numeral p s h = cc
 
 mark_arrow : (m : Mark) (k : TokenKind) (p : Place) (s : List ℕ) → marked_arrow m k s ≡ true → marked k p s 0 m ≡ arrow_token p
-mark_arrow marks.NotComma k p s h = special_told k p s h
+mark_arrow marks.NotComma k p s h = marked-special_told k p s h
 mark_arrow marks.List k p s h = cc
 mark_arrow marks.Dividing k p s h = cc
 
-rank_arrow : (n : ℕ) (m : Mark) (k : TokenKind) (p : Place) (s : List ℕ) → (if n == 0 then marked_arrow m k s else false) ≡ true → marked k p s n m ≡ arrow_token p
-rank_arrow n m k p s h = go (n == 0) refl h
+marked-rank_arrow : (n : ℕ) (m : Mark) (k : TokenKind) (p : Place) (s : List ℕ) → (if n == 0 then marked_arrow m k s else false) ≡ true → marked k p s n m ≡ arrow_token p
+marked-rank_arrow n m k p s h = go (n == 0) refl h
   where
     go : (b : Bool) → (n == 0) ≡ b → (if b then marked_arrow m k s else false) ≡ true → marked k p s n m ≡ arrow_token p
     go true e g = let U : ℕ → Type 0 = λ z. marked k p s z m ≡ arrow_token p in subst U (sym (eqb-true n 0 e)) (mark_arrow m k p s g)
     go false e g = cc
 
 pub arrow_told : (t : MarkedToken) → is_arrow t ≡ true → t ≡ arrow_token t.token.place
-arrow_told t h = rank_arrow t.token.priority t.mark t.token.kind t.token.place t.token.spelling h
+arrow_told t h = marked-rank_arrow t.token.priority t.mark t.token.kind t.token.place t.token.spelling h
 
 pub arrow_own : (p : Place) → is_arrow (arrow_token p) ≡ true
 arrow_own p = (bytes_eq-Decides (codes "->") (codes "->")).1 refl

@@ -164,15 +164,15 @@ supposes_same : (xs : SupposeList) → supposes_of (suppose_list xs) ≡ xs
 supposes_same no_supposes = refl
 supposes_same (more_supposes x xs) = ap (λ z. more_supposes x z) (supposes_same xs)
 
-joined : {X : Type 0} (r p q v w x : List X) → w ≡ x → (((r ++ p) ++ q) ++ v) ++ w ≡ r ++ ((p ++ q) ++ (v ++ x))
-joined r p q v w x e =
+append-joined : {X : Type 0} (r p q v w x : List X) → w ≡ x → (((r ++ p) ++ q) ++ v) ++ w ≡ r ++ ((p ++ q) ++ (v ++ x))
+append-joined r p q v w x e =
     ap (λ z. (z ++ v) ++ w) (append_assoc r p q) ∙ (append_assoc (r ++ (p ++ q)) v w ∙ (append_assoc r (p ++ q) (v ++ w) ∙ ap (λ z. r ++ ((p ++ q) ++ (v ++ z))) e))
 
 pub cases_spells : (o : Option Place) (k : cases_form.Tree) → spell_step (cases_from o k) ≡ reserved_if o (codes "then") ++ cases_form.spell k
-cases_spells o k = joined (reserved_if o (codes "then")) (key keywords.Per k.0.0 ∷ (key keywords.Cases k.0.1.0 ∷ spell_simple k.0.1.1.0)) (key keywords.Semicolon k.0.1.1.1 ∷ []) (spell_suppose k.1.0) (spell_suppose_list (supposes_of k.1.1)) (spell_all suppose_form k.1.1) (supposes_spelled k.1.1)
+cases_spells o k = append-joined (reserved_if o (codes "then")) (key keywords.Per k.0.0 ∷ (key keywords.Cases k.0.1.0 ∷ spell_simple k.0.1.1.0)) (key keywords.Semicolon k.0.1.1.1 ∷ []) (spell_suppose k.1.0) (spell_suppose_list (supposes_of k.1.1)) (spell_all suppose_form k.1.1) (supposes_spelled k.1.1)
 
 pub cases_levels : (o : Option Place) (k : cases_form.Tree) → levels_step (cases_from o k) ≡ levels_if o ++ cases_form.levels k
-cases_levels o k = joined (levels_if o) (0 ∷ (0 ∷ levels_simple k.0.1.1.0)) (0 ∷ []) (levels_suppose k.1.0) (levels_suppose_list (supposes_of k.1.1)) (levels_all suppose_form k.1.1) (supposes_levels k.1.1)
+cases_levels o k = append-joined (levels_if o) (0 ∷ (0 ∷ levels_simple k.0.1.1.0)) (0 ∷ []) (levels_suppose k.1.0) (levels_suppose_list (supposes_of k.1.1)) (levels_all suppose_form k.1.1) (supposes_levels k.1.1)
 
 pub cases_into : (o : Option Place) (k : cases_form.Tree) → cases_form.IsTree k → IsStep (cases_from o k)
 cases_into o k is = (is.0.1.1.0, is.1.0, supposes_into k.1.1 is.1.1)

@@ -58,9 +58,9 @@ pub key_told : (k : Keyword) (b : List MarkedToken) → is_key k ≡ true → Ke
 key_told k [] h e = absurd e
 key_told k (t ∷ rest) h e = (t, rest, refl, e)
 
-pub key_agrees : (k : Keyword) (b : List MarkedToken) (t : MarkedToken) (m : List MarkedToken) → KeyComes k b → Agrees b (t ∷ m) → keyword_of t ≡ k
-key_agrees k [] t m e g = absurd e
-key_agrees k (s ∷ b) t m e g = ap keyword_of g ∙ e
+pub keyword_of-key_agrees : (k : Keyword) (b : List MarkedToken) (t : MarkedToken) (m : List MarkedToken) → KeyComes k b → Agrees b (t ∷ m) → keyword_of t ≡ k
+keyword_of-key_agrees k [] t m e g = absurd e
+keyword_of-key_agrees k (s ∷ b) t m e g = ap keyword_of g ∙ e
 
 pub key_not : (k : Keyword) (b : List MarkedToken) (t : MarkedToken) (m : List MarkedToken) → (KeyComes k b → ⊥) → keyword_of t ≡ k → Agrees b (t ∷ m) → ⊥
 key_not k [] t m h e g = g

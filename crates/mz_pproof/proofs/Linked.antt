@@ -48,7 +48,7 @@ use Rattle.mz_pstep.proofs.Ends.{Ends, ends_then, ends_key}
 use Rattle.mz_pstep.proofs.Sequences as sequences
 use Rattle.mz_pproof.specs.Classes.{KeyComes}
 use Rattle.mz_pproof.specs.Forms.{stated_form, compact_form, compact_with, now_form, now_from, Linked, compact_linked, consider_linked, reconsider_linked, spell_linked, IsLinked, linked_form, linked_from, behind_formula, Labelled, now_labelled, formula_labelled, spell_labelled, levels_labelled, IsLabelled, labelled_form, labelled_from, statement_form, same_statement, ReadsNow, ReadsLinked, ReadsLabelled}
-use Rattle.mz_pproof.proofs.FirstTokens.{key_agrees, key_not, unit_not_other, formula_begins, no_keyword}
+use Rattle.mz_pproof.proofs.FirstTokens.{keyword_of-key_agrees, key_not, unit_not_other, formula_begins, no_keyword}
 use Rattle.mz_pproof.proofs.Blocks.{ends_closed_block}
 use Rattle.mz_pproof.proofs.Stated.{compact_begins, compact_filled, stated_off, stated_filled, ends_stated, stated_is, as_compact, some_stated}
 use Rattle.mz_pproof.proofs.Statements.{Starts, set_starts, label_starts, compact_starts, starts, set_sign, statement_filled, now_spells, now_levels, as_now, begin_then}
@@ -61,7 +61,7 @@ compact_key k b c h differ is g = go (spell_compact c) refl
     go [] e = compact_filled c e
     go (t ∷ w) e =
         let A : List MarkedToken → Type 0 = λ z. Agrees b z in
-        differ (sym (key_agrees k b t w h (subst A e g)) ∙ no_keyword t (unit_not_other t (compact_begins c t w is e)))
+        differ (sym (keyword_of-key_agrees k b t w h (subst A e g)) ∙ no_keyword t (unit_not_other t (compact_begins c t w is e)))
 
 -- `consider` and `reconsider`
 ends_consider : Ends consider_form
@@ -74,7 +74,7 @@ ends_reconsider = ends_then (keyword keywords.Reconsider) (λ _. sequences.recon
 only_consider : (b : List MarkedToken) → KeyComes keywords.Consider b → (x : Linked) → IsLinked x → Agrees b (spell_linked x) → (k : consider_form.Tree) × consider_form.IsTree k × (x ≡ consider_linked k)
 only_consider b h (compact_linked c) is g = absurd (compact_key keywords.Consider b c h (λ e. cc) is g)
 only_consider b h (consider_linked k) is g = (k, is, refl)
-only_consider b h (reconsider_linked k) is g = absurd (clash (sym (keyword_of-key keywords.Reconsider k.0 refl) ∙ key_agrees keywords.Consider b (key keywords.Reconsider k.0) _ h g))
+only_consider b h (reconsider_linked k) is g = absurd (clash (sym (keyword_of-key keywords.Reconsider k.0 refl) ∙ keyword_of-key_agrees keywords.Consider b (key keywords.Reconsider k.0) _ h g))
   where
     clash : keywords.Reconsider ≡ keywords.Consider → ⊥
     clash e = cc
@@ -91,7 +91,7 @@ as_consider b h = record {
 only_reconsider : (b : List MarkedToken) → KeyComes keywords.Reconsider b → (x : Linked) → IsLinked x → Agrees b (spell_linked x) → (k : reconsider_form.Tree) × reconsider_form.IsTree k × (x ≡ reconsider_linked k)
 only_reconsider b h (compact_linked c) is g = absurd (compact_key keywords.Reconsider b c h (λ e. cc) is g)
 only_reconsider b h (reconsider_linked k) is g = (k, is, refl)
-only_reconsider b h (consider_linked k) is g = absurd (clash (sym (keyword_of-key keywords.Consider k.0 refl) ∙ key_agrees keywords.Reconsider b (key keywords.Consider k.0) _ h g))
+only_reconsider b h (consider_linked k) is g = absurd (clash (sym (keyword_of-key keywords.Consider k.0 refl) ∙ keyword_of-key_agrees keywords.Reconsider b (key keywords.Consider k.0) _ h g))
   where
     clash : keywords.Consider ≡ keywords.Reconsider → ⊥
     clash e = cc
@@ -145,7 +145,7 @@ formula_key k b f v h differ is g = go (spell_formula f) refl
     go [] e = formula_filled f is e
     go (t ∷ w) e =
         let A : List MarkedToken → Type 0 = λ z. Agrees b (z ++ v) in
-        differ (sym (key_agrees k b t (w ++ v) h (subst A e g)) ∙ no_keyword t (unit_not_other t (formula_begins f t w is e)))
+        differ (sym (keyword_of-key_agrees k b t (w ++ v) h (subst A e g)) ∙ no_keyword t (unit_not_other t (formula_begins f t w is e)))
 
 only_now_labelled : (b : List MarkedToken) → KeyComes keywords.Now b → (x : Labelled) → IsLabelled x → Agrees b (spell_labelled x) → (k : now_form.Tree) × now_form.IsTree k × (x ≡ now_labelled k)
 only_now_labelled b h (now_labelled k) is g = (k, is, refl)
@@ -228,8 +228,8 @@ labelled_levels : (l : LabelTree) (k : Labelled) → IsLabelled k → levels_sta
 labelled_levels l (now_labelled k) is = ap (λ z. levels_label l ++ z) (now_levels k)
 labelled_levels l (formula_labelled k) is = (as_compact []).level (record { label = Some l; formula = k.0 }, k.1) (is.0, is.1)
 
-colon_other : (n : MarkedToken) → keyword_of n ≡ keywords.Colon → sign_of n ≡ signs.Other
-colon_other n h = ap sign_of (told_key keywords.Colon n refl h) ∙ sign_of-key keywords.Colon n.token.place refl
+sign_of-colon_other : (n : MarkedToken) → keyword_of n ≡ keywords.Colon → sign_of n ≡ signs.Other
+sign_of-colon_other n h = ap sign_of (told_key keywords.Colon n refl h) ∙ sign_of-key keywords.Colon n.token.place refl
 
 -- no formula has a colon behind an identifier at its front, nor stands one behind it
 plain_off : (f : FormulaData) (k : (stated_form f).Tree) (t n : MarkedToken) (m : List MarkedToken) → IsFormula false f → sign_of t ≡ signs.Identifier → keyword_of n ≡ keywords.Colon → spell_formula f ++ (stated_form f).spell k ≡ t ∷ (n ∷ m) → ⊥
@@ -242,7 +242,7 @@ plain_off f k t n m is h g e = go (spell_formula f) refl
         stated_off f (λ s k. is_colon k) refl refl refl refl refl k.0 k.1.0 k.1.1 n m rest (ap is_colon g)
     go (s ∷ (r ∷ w)) i =
         let whole : s ∷ (r ∷ (w ++ (stated_form f).spell k)) ≡ t ∷ (n ∷ m) = ap (λ z. z ++ (stated_form f).spell k) (sym i) ∙ e in
-        no_other f s r w is (ap sign_of (head_of _ _ _ _ whole) ∙ h) (ap sign_of (head_of _ _ _ _ (tail_of _ _ _ _ whole)) ∙ colon_other n g) i
+        no_other f s r w is (ap sign_of (head_of _ _ _ _ whole) ∙ h) (ap sign_of (head_of _ _ _ _ (tail_of _ _ _ _ whole)) ∙ sign_of-colon_other n g) i
 
 set_not_named : signs.Mode ≡ signs.Identifier → ⊥
 set_not_named e = cc

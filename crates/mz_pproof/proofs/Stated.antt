@@ -311,8 +311,8 @@ may_from : (a : PropositionTree) (j : JustData) (cs : List EqualityStepTree) →
 may_from a j [] h = tt
 may_from a j (c ∷ cs) h = rw (h.0, h.1) refl
 
-four : {X : Type 0} (v w x y z : List X) → x ≡ y → ((v ++ w) ++ x) ++ z ≡ v ++ (w ++ (y ++ z))
-four v w x y z e = append_assoc (v ++ w) x z ∙ (append_assoc v w (x ++ z) ∙ ap (λ q. v ++ (w ++ (q ++ z))) e)
+append-four : {X : Type 0} (v w x y z : List X) → x ≡ y → ((v ++ w) ++ x) ++ z ≡ v ++ (w ++ (y ++ z))
+append-four v w x y z e = append_assoc (v ++ w) x z ∙ (append_assoc v w (x ++ z) ∙ ap (λ q. v ++ (w ++ (q ++ z))) e)
 
 pub stated_is : (a : PropositionTree) (b : JustData) (c : List EqualityStepTree) (d : Place) → IsCompact (StatedCompact a b c d) → (stated_form a.formula).IsTree (b, (c, d))
 stated_is a b c d is = (is.1, ((all_from c is.2, may_from a b c is.3), tt))
@@ -326,10 +326,10 @@ ends_compact = ends_then proposition_form behind_proposition (λ a. ends_stated 
 pub as_compact : (b : List MarkedToken) → Reshapes compact_form parts_of_compact make_compact b
 as_compact b = record {
   into = λ k is. (is.0, is.1.0, all_into k.1.1.0 is.1.1.0.0, may_into k.0 k.1.0 k.1.1.0 is.1.1.0.1);
-  spells = λ k is. four (spell_proposition k.0) (spell_just k.1.0) (flat_map spell_equality_step k.1.1.0) (spell_all equality_step_form k.1.1.0) (key keywords.Semicolon k.1.1.1 ∷ []) (all_spelled k.1.1.0);
+  spells = λ k is. append-four (spell_proposition k.0) (spell_just k.1.0) (flat_map spell_equality_step k.1.1.0) (spell_all equality_step_form k.1.1.0) (key keywords.Semicolon k.1.1.1 ∷ []) (all_spelled k.1.1.0);
   only = λ x is g. only_compact x is;
   goes = λ k t is g. absurd (ends_compact.closed k t is g);
-  level = λ k is. four (levels_proposition k.0) (levels_just k.1.0) (flat_map levels_equality_step k.1.1.0) (levels_all equality_step_form k.1.1.0) (0 ∷ []) (all_levels k.1.1.0);
+  level = λ k is. append-four (levels_proposition k.0) (levels_just k.1.0) (flat_map levels_equality_step k.1.1.0) (levels_all equality_step_form k.1.1.0) (0 ∷ []) (all_levels k.1.1.0);
 }
 
 begin_compact : (room : ℕ) (b : List MarkedToken) → Leads compact_form parts_of_compact room make_compact b b
@@ -356,7 +356,7 @@ pub compact_begins : (x : CompactData) (t : MarkedToken) (m : List MarkedToken) 
 compact_begins (StatedCompact a b c d) t m is e = go (spell_proposition a) refl
   where
     whole : spell_proposition a ++ (stated_form a.formula).spell (b, (c, d)) ≡ t ∷ m
-    whole = sym (four (spell_proposition a) (spell_just b) (flat_map spell_equality_step c) (spell_all equality_step_form c) (key keywords.Semicolon d ∷ []) (all_spelled c)) ∙ e
+    whole = sym (append-four (spell_proposition a) (spell_just b) (flat_map spell_equality_step c) (spell_all equality_step_form c) (key keywords.Semicolon d ∷ []) (all_spelled c)) ∙ e
 
     go : (w : List MarkedToken) → spell_proposition a ≡ w → begins_unit (sign_of t) ≡ true
     go [] g = absurd (not_empty_proposition a.label a.formula is.0 g)

@@ -46,26 +46,26 @@ use Rattle.mz_pproof.proofs.Blocks.{ends_closed_block}
 use Rattle.mz_pproof.proofs.Stated.{compact_begins, compact_filled}
 
 -- Spelling that groups to the left, from one that groups to the right.
-three : {X : Type 0} (v w x : List X) → (v ++ w) ++ x ≡ v ++ (w ++ x)
-three v w x = append_assoc v w x
+append-three : {X : Type 0} (v w x : List X) → (v ++ w) ++ x ≡ v ++ (w ++ x)
+append-three v w x = append_assoc v w x
 
-four : {X : Type 0} (v w x y : List X) → ((v ++ w) ++ x) ++ y ≡ v ++ (w ++ (x ++ y))
-four v w x y = append_assoc (v ++ w) x y ∙ append_assoc v w (x ++ y)
+append-four : {X : Type 0} (v w x y : List X) → ((v ++ w) ++ x) ++ y ≡ v ++ (w ++ (x ++ y))
+append-four v w x y = append_assoc (v ++ w) x y ∙ append_assoc v w (x ++ y)
 
-five : {X : Type 0} (v w x y z : List X) → (((v ++ w) ++ x) ++ y) ++ z ≡ v ++ (w ++ (x ++ (y ++ z)))
-five v w x y z = append_assoc ((v ++ w) ++ x) y z ∙ four v w x (y ++ z)
+append-five : {X : Type 0} (v w x y z : List X) → (((v ++ w) ++ x) ++ y) ++ z ≡ v ++ (w ++ (x ++ (y ++ z)))
+append-five v w x y z = append_assoc ((v ++ w) ++ x) y z ∙ append-four v w x (y ++ z)
 
 -- behind a `then`, or without one
 pub linked_spells : (o : Option Place) (k : Linked) → spell_statement (linked_from o k) ≡ reserved_if o (codes "then") ++ spell_linked k
 linked_spells o (compact_linked c) = refl
-linked_spells o (consider_linked k) = five (reserved_if o (codes "then")) (key keywords.Consider k.0 ∷ spell_declarations k.1.0) (spell.spell_such k.1.1.0) (spell.spell_simple k.1.1.1.0) (key keywords.Semicolon k.1.1.1.1 ∷ [])
+linked_spells o (consider_linked k) = append-five (reserved_if o (codes "then")) (key keywords.Consider k.0 ∷ spell_declarations k.1.0) (spell.spell_such k.1.1.0) (spell.spell_simple k.1.1.1.0) (key keywords.Semicolon k.1.1.1.1 ∷ [])
 linked_spells o (reconsider_linked k) =
-    five (reserved_if o (codes "then")) (key keywords.Reconsider k.0 ∷ spell_separated spell.spell_retyped k.1.0) (key keywords.As k.1.1.0 ∷ spell_type k.1.1.1.0) (spell.spell_simple k.1.1.1.1.0) (key keywords.Semicolon k.1.1.1.1.1 ∷ [])
+    append-five (reserved_if o (codes "then")) (key keywords.Reconsider k.0 ∷ spell_separated spell.spell_retyped k.1.0) (key keywords.As k.1.1.0 ∷ spell_type k.1.1.1.0) (spell.spell_simple k.1.1.1.1.0) (key keywords.Semicolon k.1.1.1.1.1 ∷ [])
 
 pub linked_levels : (o : Option Place) (k : Linked) → levels_statement (linked_from o k) ≡ levels_if o ++ levels_linked k
 linked_levels o (compact_linked c) = refl
-linked_levels o (consider_linked k) = five (levels_if o) (0 ∷ levels_declarations k.1.0) (levels.levels_such k.1.1.0) (levels.levels_simple k.1.1.1.0) (0 ∷ [])
-linked_levels o (reconsider_linked k) = five (levels_if o) (0 ∷ levels_separated levels.levels_retyped k.1.0) (0 ∷ levels_type k.1.1.1.0) (levels.levels_simple k.1.1.1.1.0) (0 ∷ [])
+linked_levels o (consider_linked k) = append-five (levels_if o) (0 ∷ levels_declarations k.1.0) (levels.levels_such k.1.1.0) (levels.levels_simple k.1.1.1.0) (0 ∷ [])
+linked_levels o (reconsider_linked k) = append-five (levels_if o) (0 ∷ levels_separated levels.levels_retyped k.1.0) (0 ∷ levels_type k.1.1.1.0) (levels.levels_simple k.1.1.1.1.0) (0 ∷ [])
 
 pub linked_into : (o : Option Place) (k : Linked) → IsLinked k → IsStatement (linked_from o k)
 linked_into o (compact_linked c) is = is
@@ -102,8 +102,8 @@ At k t x = keyword_of t ≡ k → Starts (keyword_of t) t x
 at : (k : Keyword) (t : MarkedToken) (x : StatementData) → keyword_of t ≡ k → Starts k t x → Starts (keyword_of t) t x
 at k t x e s = let S : Keyword → Type 0 = λ z. Starts z t x in subst S (sym e) s
 
-keyed : (k : Keyword) (p : Place) (t : MarkedToken) (v m : List MarkedToken) → is_key k ≡ true → key k p ∷ v ≡ t ∷ m → keyword_of t ≡ k
-keyed k p t v m h e = sym (ap keyword_of (head_of _ _ _ _ e)) ∙ keyword_of-key k p h
+keyword_of-keyed : (k : Keyword) (p : Place) (t : MarkedToken) (v m : List MarkedToken) → is_key k ≡ true → key k p ∷ v ≡ t ∷ m → keyword_of t ≡ k
+keyword_of-keyed k p t v m h e = sym (ap keyword_of (head_of _ _ _ _ e)) ∙ keyword_of-key k p h
 
 identifier_not_other : signs.Identifier ≡ signs.Other → ⊥
 identifier_not_other e = cc
@@ -126,24 +126,24 @@ set_sign t h = go (is_mode (sign_of t)) refl
     go false e = absurd (never (sym (ap (λ z. z && bytes_eq t.token.spelling (codes "set")) e) ∙ h))
 
 consider_at : (o : Option Place) (k : consider_form.Tree) (t : MarkedToken) (m : List MarkedToken) → consider_form.IsTree k → spell_statement (linked_from o (consider_linked k)) ≡ t ∷ m → Starts (keyword_of t) t (linked_from o (consider_linked k))
-consider_at (Some p) k t m is e = at keywords.Then t (linked_from (Some p) (consider_linked k)) (keyed keywords.Then p t _ m refl e) (then_starts t p (consider_linked k) is)
-consider_at None k t m is e = at keywords.Consider t (linked_from None (consider_linked k)) (keyed keywords.Consider k.0 t _ m refl e) (consider_starts t k is)
+consider_at (Some p) k t m is e = at keywords.Then t (linked_from (Some p) (consider_linked k)) (keyword_of-keyed keywords.Then p t _ m refl e) (then_starts t p (consider_linked k) is)
+consider_at None k t m is e = at keywords.Consider t (linked_from None (consider_linked k)) (keyword_of-keyed keywords.Consider k.0 t _ m refl e) (consider_starts t k is)
 
 reconsider_at : (o : Option Place) (k : reconsider_form.Tree) (t : MarkedToken) (m : List MarkedToken) → reconsider_form.IsTree k → spell_statement (linked_from o (reconsider_linked k)) ≡ t ∷ m → Starts (keyword_of t) t (linked_from o (reconsider_linked k))
-reconsider_at (Some p) k t m is e = at keywords.Then t (linked_from (Some p) (reconsider_linked k)) (keyed keywords.Then p t _ m refl e) (then_starts t p (reconsider_linked k) is)
-reconsider_at None k t m is e = at keywords.Reconsider t (linked_from None (reconsider_linked k)) (keyed keywords.Reconsider k.0 t _ m refl e) (reconsider_starts t k is)
+reconsider_at (Some p) k t m is e = at keywords.Then t (linked_from (Some p) (reconsider_linked k)) (keyword_of-keyed keywords.Then p t _ m refl e) (then_starts t p (reconsider_linked k) is)
+reconsider_at None k t m is e = at keywords.Reconsider t (linked_from None (reconsider_linked k)) (keyword_of-keyed keywords.Reconsider k.0 t _ m refl e) (reconsider_starts t k is)
 
 pub starts : (x : StatementData) (t : MarkedToken) (m : List MarkedToken) → IsStatement x → spell_statement x ≡ t ∷ m → Starts (keyword_of t) t x
-starts (CompactStatement (Some p) c) t m is e = at keywords.Then t (CompactStatement (Some p) c) (keyed keywords.Then p t _ m refl e) (then_starts t p (compact_linked c) is)
+starts (CompactStatement (Some p) c) t m is e = at keywords.Then t (CompactStatement (Some p) c) (keyword_of-keyed keywords.Then p t _ m refl e) (then_starts t p (compact_linked c) is)
 starts (CompactStatement None c) t m is e = let g = compact_begins c t m is e in at keywords.Other t (CompactStatement None c) (no_keyword t (unit_not_other t g)) (compact_starts t c is g)
-starts (NowStatement None a b c d) t m is e = at keywords.Now t (NowStatement None a b c d) (keyed keywords.Now a t _ m refl e) (now_starts t ((a, (b, c)), d) ((tt, (is, tt)), tt))
+starts (NowStatement None a b c d) t m is e = at keywords.Now t (NowStatement None a b c d) (keyword_of-keyed keywords.Now a t _ m refl e) (now_starts t ((a, (b, c)), d) ((tt, (is, tt)), tt))
 starts (NowStatement (Some l) a b c d) t m is e =
     let g : sign_of t ≡ signs.Identifier = sym (ap sign_of (head_of _ _ _ _ e)) ∙ sign_of-named signs.Identifier l.name refl in
     at keywords.Other t (NowStatement (Some l) a b c d) (no_keyword t (λ h. identifier_not_other (sym g ∙ h))) (label_starts t l ((a, (b, c)), d) ((tt, (is, tt)), tt) g)
 starts (IntroductionStatement (introductions.Consider a)) t m is e = consider_at a.then (a.consider, (a.declarations, (a.such, (a.simple, a.semicolon)))) t m (tt, (is.0, (is.1, (is.2, tt)))) e
 starts (IntroductionStatement (introductions.Reconsider a)) t m is e = reconsider_at a.then (a.reconsider, (a.retyped, (a.as_, (a.ty, (a.simple, a.semicolon))))) t m (tt, (is.0, (tt, (is.1, (is.2, tt))))) e
-starts (IntroductionStatement (introductions.Deffunc a)) t m is e = at keywords.Deffunc t (IntroductionStatement (introductions.Deffunc a)) (keyed keywords.Deffunc a.deffunc t _ m refl e) (deffunc_starts t a is)
-starts (IntroductionStatement (introductions.Defpred a)) t m is e = at keywords.Defpred t (IntroductionStatement (introductions.Defpred a)) (keyed keywords.Defpred a.defpred t _ m refl e) (defpred_starts t a is)
+starts (IntroductionStatement (introductions.Deffunc a)) t m is e = at keywords.Deffunc t (IntroductionStatement (introductions.Deffunc a)) (keyword_of-keyed keywords.Deffunc a.deffunc t _ m refl e) (deffunc_starts t a is)
+starts (IntroductionStatement (introductions.Defpred a)) t m is e = at keywords.Defpred t (IntroductionStatement (introductions.Defpred a)) (keyword_of-keyed keywords.Defpred a.defpred t _ m refl e) (defpred_starts t a is)
 starts (IntroductionStatement (introductions.Set a)) t m is e =
     let g : is_set t ≡ true = sym (ap is_set (head_of _ _ _ _ e)) ∙ set_own a.set in
     at keywords.Other t (IntroductionStatement (introductions.Set a)) (no_keyword t (λ h. mode_not_other (sym (set_sign t g) ∙ h))) (set_starts t a is g)
@@ -276,7 +276,7 @@ as_set b h = record {
   level = λ k is. refl;
 }
 
--- where one of the three words comes
+-- where one of the append-three words comes
 pub set_left : (b : List MarkedToken) → comes begins_definition b ≡ true → (KeyComes keywords.Deffunc b → ⊥) → (KeyComes keywords.Defpred b → ⊥) → comes is_set b ≡ true
 set_left [] h f p = absurd (never h)
 set_left (t ∷ b) h f p = go (keyword_of t) refl

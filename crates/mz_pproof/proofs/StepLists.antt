@@ -222,15 +222,15 @@ per_is _ e = cc
 put_cases_into : (o : Option Place) (k : cases_form.Tree) → cases_form.IsTree k → AreSteps (put_cases o k)
 put_cases_into o k is = (cases_into o k is, tt, tt)
 
-nil_right : {X : Type 0} (v : List X) → v ++ [] ≡ v
-nil_right [] = refl
-nil_right (x ∷ v) = ap (λ z. x ∷ z) (nil_right v)
+append-nil_right : {X : Type 0} (v : List X) → v ++ [] ≡ v
+append-nil_right [] = refl
+append-nil_right (x ∷ v) = ap (λ z. x ∷ z) (append-nil_right v)
 
 pub put_cases_spells : (o : Option Place) (k : cases_form.Tree) → spell_step_list (put_cases o k) ≡ reserved_if o (codes "then") ++ cases_form.spell k
-put_cases_spells o k = nil_right (spell_step (cases_from o k)) ∙ cases_spells o k
+put_cases_spells o k = append-nil_right (spell_step (cases_from o k)) ∙ cases_spells o k
 
 put_cases_levels : (o : Option Place) (k : cases_form.Tree) → levels_step_list (put_cases o k) ≡ levels_if o ++ cases_form.levels k
-put_cases_levels o k = nil_right (levels_step (cases_from o k)) ∙ cases_levels o k
+put_cases_levels o k = append-nil_right (levels_step (cases_from o k)) ∙ cases_levels o k
 
 -- without a `then`
 only_per : (p : Place) (x : StepList) (m : List MarkedToken) → AreSteps x → spell_step_list x ≡ key keywords.Per p ∷ m → (k : cases_form.Tree) × cases_form.IsTree k × (x ≡ put_cases None k)

@@ -115,9 +115,9 @@ module _ (t : MarkedToken) (rest : List MarkedToken) (left : Left (t ∷ rest)) 
       (k.0, (k.1, subst A (sym (sym (linked_spells None k.0) ∙ (ap spell_statement (sym k.2) ∙ e))) refl), k.2)
 
 -- the identifier nests nothing
-first_of : (v w : List ℕ) → (v ≡ [] → ⊥) → get_or (v ++ w) 0 0 ≡ get_or v 0 0
-first_of [] w h = absurd (h refl)
-first_of (n ∷ v) w h = refl
+get_or-first_of : (v w : List ℕ) → (v ≡ [] → ⊥) → get_or (v ++ w) 0 0 ≡ get_or v 0 0
+get_or-first_of [] w h = absurd (h refl)
+get_or-first_of (n ∷ v) w h = refl
 
 left_nil : {X : Type 0} (v w : List X) → v ++ w ≡ [] → v ≡ []
 left_nil [] w e = refl
@@ -136,8 +136,8 @@ compact_level (Some l) f b c d t is h g = refl
 compact_level None f b c d t is h g =
     let v = levels_formula f in
     let some = no_levels f is in
-    first_of ((v ++ levels_just b) ++ flat_map levels_equality_step c) (0 ∷ []) (λ e. some (left_nil v (levels_just b) (left_nil (v ++ levels_just b) (flat_map levels_equality_step c) e))) ∙
-    (first_of (v ++ levels_just b) (flat_map levels_equality_step c) (λ e. some (left_nil v (levels_just b) e)) ∙ (first_of v (levels_just b) some ∙ formula_level f t is h (go (spell_formula f) refl)))
+    get_or-first_of ((v ++ levels_just b) ++ flat_map levels_equality_step c) (0 ∷ []) (λ e. some (left_nil v (levels_just b) (left_nil (v ++ levels_just b) (flat_map levels_equality_step c) e))) ∙
+    (get_or-first_of (v ++ levels_just b) (flat_map levels_equality_step c) (λ e. some (left_nil v (levels_just b) e)) ∙ (get_or-first_of v (levels_just b) some ∙ formula_level f t is h (go (spell_formula f) refl)))
   where
     go : (w : List MarkedToken) → spell_formula f ≡ w → Agrees (t ∷ []) (spell_formula f)
     go [] e = absurd (formula_filled f is e)

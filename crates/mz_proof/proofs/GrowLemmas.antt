@@ -187,22 +187,22 @@ grows_into_now c = let g = grows_itself c in record {
 }
 
 -- what leaving a block gives
-took : {X : Type 0} (xs ys : List X) → take (length xs) (xs ++ ys) ≡ xs
-took [] [] = refl
-took [] (y ∷ ys) = refl
-took (x ∷ xs) ys = ap (λ zs. x ∷ zs) (took xs ys)
+take-took : {X : Type 0} (xs ys : List X) → take (length xs) (xs ++ ys) ≡ xs
+take-took [] [] = refl
+take-took [] (y ∷ ys) = refl
+take-took (x ∷ xs) ys = ap (λ zs. x ∷ zs) (take-took xs ys)
 
-cut : {X : Type 0} (xs zs : List X) → (ys : List X) × (zs ≡ xs ++ ys) → take (length xs) zs ≡ xs
-cut xs zs p = ap (take (length xs)) p.1 ∙ took xs p.0
+take-cut : {X : Type 0} (xs zs : List X) → (ys : List X) × (zs ≡ xs ++ ys) → take (length xs) zs ≡ xs
+take-cut xs zs p = ap (take (length xs)) p.1 ∙ take-took xs p.0
 
 pub restored-grown : (c d : Context) → Grows c d → restored d (outside_of c) ≡ c
 restored-grown c d g =
-    let constants = cut c.constants d.constants g.constants in
-    let reserved = cut c.reserved d.reserved g.reserved in
-    let labelled = cut c.labelled d.labelled g.labelled in
-    let functors = cut c.functors d.functors g.functors in
-    let predicates = cut c.predicates d.predicates g.predicates in
-    let letters = cut c.letters d.letters g.letters in
+    let constants = take-cut c.constants d.constants g.constants in
+    let reserved = take-cut c.reserved d.reserved g.reserved in
+    let labelled = take-cut c.labelled d.labelled g.labelled in
+    let functors = take-cut c.functors d.functors g.functors in
+    let predicates = take-cut c.predicates d.predicates g.predicates in
+    let letters = take-cut c.letters d.letters g.letters in
     λ i. record {
       article = g.article i;
       counts = g.counts i;

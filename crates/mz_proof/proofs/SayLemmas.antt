@@ -40,8 +40,8 @@ use Rattle.mz_proof.specs.Grown.{Grows}
 use Rattle.mz_proof.proofs.GrowLemmas.{grows_more, grows_into_now, restored-grown, goes_all_grow}
 
 -- as many equations as sides
-pub told_as_many : (e : Environment) (c : Context) (b : Block) (first : Place) (linked concluded : Bool) (p : PropositionTree) (ks : List EqualityStepTree) (l m : Left) (y : Result Begun ProofFault) (x : Begun) → OnMade y (Begins e c b first linked concluded p ks l m) → y ≡ Ok x → length x.compact.said.further ≡ length ks
-told_as_many e c b first linked concluded p ks l m y x h ey =
+pub length-told_as_many : (e : Environment) (c : Context) (b : Block) (first : Place) (linked concluded : Bool) (p : PropositionTree) (ks : List EqualityStepTree) (l m : Left) (y : Result Begun ProofFault) (x : Begun) → OnMade y (Begins e c b first linked concluded p ks l m) → y ≡ Ok x → length x.compact.said.further ≡ length ks
+length-told_as_many e c b first linked concluded p ks l m y x h ey =
     let g : IsBegun e c b first linked concluded p ks l m x = on_ok (Begins e c b first linked concluded p ks l m) y x ey h in
     further-length e c first l m p ks (Ok x.compact) g.is_read x.compact refl
 

@@ -32,7 +32,7 @@ use Rattle.mz_performing.specs.Splits.{SplitEnds, AreTaken, TakesCases}
 use Rattle.mz_proof.specs.Case.{IsTaken, TakesCase}
 use Rattle.mz_proof.specs.Grown.{Grows}
 use Rattle.mz_proof.proofs.JustifyLemmas.{made_so}
-use Rattle.mz_proof.proofs.StepLemmas.{gone}
+use Rattle.mz_proof.proofs.StepLemmas.{drop-gone}
 use Rattle.mz_proof.proofs.GrowLemmas.{grows_more, grows_stated, restored-grown}
 
 -- a case
@@ -143,7 +143,7 @@ told_stop {X} Y e at c d t items i all l m from n ss snew sold snew' os ps old n
 
 pub told_end : (e : Environment) (at : Extent) (c d : Context) (items : List SupposeData) (i : ℕ) (all : SupposeList) (l from : Left) (ss sold : List Statement) (os old : List Obligation) → length items ≤ i → CasingAt e at d (drop i items) l ss os c all from sold old → AreTaken (Supposes e at c all from) l sold ss old os
 told_end e at c d items i all l from ss sold os old le g =
-    let none : Supposes e at c all from (cases_behind g.0.made g.0.suppositions (Made [] (no_cases l))) = g.0.goes_on (Made [] (no_cases l)) (subst (λ xs. Supposes e at c (supposes_of xs) l (Made [] (no_cases l))) (sym (gone items i le)) (wa.no_case c l)) in
+    let none : Supposes e at c all from (cases_behind g.0.made g.0.suppositions (Made [] (no_cases l))) = g.0.goes_on (Made [] (no_cases l)) (subst (λ xs. Supposes e at c (supposes_of xs) l (Made [] (no_cases l))) (sym (drop-gone items i le)) (wa.no_case c l)) in
     record {
       made = g.0.made;
       suppositions = g.0.suppositions;

@@ -92,11 +92,11 @@ pub record Going (e : Environment) (at : Extent) (s : State) (rest : List StepDa
   pub are_last : os ≡ old ++ made
   pub goes_on : (o : Walked State) → GoesAll e at s (steps_of rest) o → GoesAll e at from (steps_of all) (behind made o)
 
-pub gone : {X : Type 0} (xs : List X) (i : ℕ) → length xs ≤ i → drop i xs ≡ []
-gone [] zero h = refl
-gone [] (suc i) h = refl
-gone (x ∷ xs) zero h = absurd (omega (arith, h))
-gone (x ∷ xs) (suc i) h = gone xs i (omega (arith, h))
+pub drop-gone : {X : Type 0} (xs : List X) (i : ℕ) → length xs ≤ i → drop i xs ≡ []
+drop-gone [] zero h = refl
+drop-gone [] (suc i) h = refl
+drop-gone (x ∷ xs) zero h = absurd (omega (arith, h))
+drop-gone (x ∷ xs) (suc i) h = drop-gone xs i (omega (arith, h))
 
 pub told_begun : (e : Environment) (at : Extent) (s : State) (items all : List StepData) (os : List Obligation) → items ≡ all → Going e at s (drop 0 items) os s all os
 told_begun e at s items all os ei = record { made = []; are_last = sym (append-nil os); goes_on = λ o h. subst (GoesAll e at s (steps_of all)) (sym (behind_none o)) (subst (λ xs. GoesAll e at s (steps_of xs) o) ei h) }
@@ -124,4 +124,4 @@ told_stop {X} Y e at s t u from items all i d first os ps old new y f lt ed ef h
 
 pub told_end : (e : Environment) (at : Extent) (s from : State) (items all : List StepData) (i : ℕ) (os old : List Obligation) → length items ≤ i → Going e at s (drop i items) os from all old → IsBrought (λ qs. GoesAll e at from (steps_of all) (Made qs s)) old os
 told_end e at s from items all i os old le g =
-    record { made = g.made; is_made = subst (λ xs. GoesAll e at from (steps_of all) (Made xs s)) (append-nil g.made) (g.goes_on (Made [] s) (subst (λ xs. GoesAll e at s (steps_of xs) (Made [] s)) (sym (gone items i le)) (wa.no_more s))); are_last = g.are_last }
+    record { made = g.made; is_made = subst (λ xs. GoesAll e at from (steps_of all) (Made xs s)) (append-nil g.made) (g.goes_on (Made [] s) (subst (λ xs. GoesAll e at s (steps_of xs) (Made [] s)) (sym (drop-gone items i le)) (wa.no_more s))); are_last = g.are_last }

@@ -40,8 +40,8 @@ equals_own p = ap (λ s. is_predicate s && bytes_eq (codes "=") (codes "=")) (eq
 pub equals_same : (p q : Place) → equals_sign p ≡ equals_sign q → p ≡ q
 equals_same p q e = ap (λ t. t.token.place) e
 
-pub equals_predicate : (t : MarkedToken) → is_equals t ≡ true → sign_of t ≡ signs.Predicate
-equals_predicate t h = predicate_is (sign_of t) (both_true (is_predicate (sign_of t)) (bytes_eq t.token.spelling (codes "=")) h).0
+pub sign_of-equals_predicate : (t : MarkedToken) → is_equals t ≡ true → sign_of t ≡ signs.Predicate
+sign_of-equals_predicate t h = predicate_is (sign_of t) (both_true (is_predicate (sign_of t)) (bytes_eq t.token.spelling (codes "=")) h).0
 
 pub equals_told : (t : MarkedToken) → is_equals t ≡ true → t ≡ equals_sign t.token.place
 equals_told t h =

@@ -45,7 +45,7 @@ use Rattle.mz_pjustification.proofs.Taken.{nowhere, or_goes}
 use Rattle.mz_pproposition.proofs.PropositionSteps.{both_true}
 use Rattle.mz_pstep.specs.Words.{is_predicate, is_equals, equals_form, named_next, TakesEquals}
 use Rattle.mz_pstep.specs.Forms.{named_term_form, goes_on_named, retyped_form, taken_form}
-use Rattle.mz_pstep.proofs.Equals.{equals_own, equals_same, equals_predicate, equals_told}
+use Rattle.mz_pstep.proofs.Equals.{equals_own, equals_same, sign_of-equals_predicate, equals_told}
 
 -- No predicate symbol stands behind an identifier that begins a term.
 after_name : (b : BaseData) (v : List MarkedToken) (t n : MarkedToken) (more : List MarkedToken) → sign_of n ≡ signs.Predicate → Opens signs.Identifier b → spell_base b ++ v ≡ t ∷ (n ∷ more) → (last_of start b ≡ operand) × (v ≡ n ∷ more)
@@ -166,7 +166,7 @@ pub term_on : (t : MarkedToken) → goes_on_term (sign_of t) ≡ true → goes_o
 term_on t g = or_left (goes_on_term (sign_of t)) (is_predicate (sign_of t)) g
 
 pub equals_on : (t : MarkedToken) → is_equals t ≡ true → goes_on_named (sign_of t) ≡ true
-equals_on t g = or_right (goes_on_term (sign_of t)) (is_predicate (sign_of t)) (ap is_predicate (equals_predicate t g))
+equals_on t g = or_right (goes_on_term (sign_of t)) (is_predicate (sign_of t)) (ap is_predicate (sign_of-equals_predicate t g))
 
 pub retyped_goes : (w : Word) (o : Option (Place × TermData)) (t : MarkedToken) → parts_of_retyped.goes (w, o) t ≡ true → goes_on_named (sign_of t) ≡ true
 retyped_goes w None t g = or_goes (is_equals t) false true (goes_on_named (sign_of t)) (equals_on t) (λ h. absurd (never h)) g
@@ -241,7 +241,7 @@ pub seconds_named : (t n : MarkedToken) → sign_of t ≡ signs.Identifier → i
 seconds_named t n h g = record {
   into = λ k is. is;
   spells = λ k is. refl;
-  only = λ x m is e. only_named_taken t n h (equals_predicate n g) x m is e;
+  only = λ x m is e. only_named_taken t n h (sign_of-equals_predicate n g) x m is e;
   short = λ x is e. equals_on n g;
   empty = λ x is e. absurd (taken_filled x is e);
   long = λ k is. (named signs.Identifier k.name, equals_sign k.equals, spell_term k.term, refl);

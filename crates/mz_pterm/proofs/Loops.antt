@@ -34,9 +34,9 @@ use Rattle.mz_pterm.specs.Forms.{operand_form, base_form, selected_with, alone_s
 use Rattle.mz_pterm.proofs.Operands.{unprefixed, run_of, some_terms, list_of, linked_terms, some_functor}
 use Rattle.mz_pterm.proofs.Steps.{begin_base, begin_single, begin_group, begin_term, begin_terms, take_identifier, take_structure}
 
-nil : {X : Type 0} (xs : List X) → xs ++ [] ≡ xs
-nil [] = refl
-nil (x ∷ xs) = ap (λ z. x ∷ z) (nil xs)
+append-nil : {X : Type 0} (xs : List X) → xs ++ [] ≡ xs
+append-nil [] = refl
+append-nil (x ∷ xs) = ap (λ z. x ∷ z) (append-nil xs)
 
 pub map_push : {X Y : Type 0} (f : X → Y) (v w : List X) (p : X) → w ≡ v ++ p ∷ [] → map f w ≡ map f v ++ f p ∷ []
 map_push f v w p e = ap (map f) e ∙ go v
@@ -81,14 +81,14 @@ prefixed_step field behind room v w p u q b c d so_far e next =
     })
 
 -- an operand of these prefixes and this base
-operand_seen : (v : Vec PrefixNode Global) (x : Box BaseNode Global) (o : OperandData) → o ≡ unprefixed (base_in x) → onto (map prefix_of v.items) o ≡ operand_of (record { prefixes = v; base = x })
-operand_seen v x o e = ap (onto (map prefix_of v.items)) e ∙ (ap (λ z. record { prefixes = z; base = base_in x }) (prefixes_all (map prefix_of v.items)) ∙ sym (operand_of-is (record { prefixes = v; base = x })))
+onto-operand_seen : (v : Vec PrefixNode Global) (x : Box BaseNode Global) (o : OperandData) → o ≡ unprefixed (base_in x) → onto (map prefix_of v.items) o ≡ operand_of (record { prefixes = v; base = x })
+onto-operand_seen v x o e = ap (onto (map prefix_of v.items)) e ∙ (ap (λ z. record { prefixes = z; base = base_in x }) (prefixes_all (map prefix_of v.items)) ∙ sym (operand_of-is (record { prefixes = v; base = x })))
 
 pub alone_end : (field behind : Bool) (room : ℕ) (v : Vec PrefixNode Global) (p : Place) (u : Word) (x : Box BaseNode Global) (b c after : List MarkedToken) → Prefixed field behind room (map prefix_of v.items) b c → base_in x ≡ SelectorBase p u → IsSelected field behind room c after (Some (selecteds.Alone p u)) →
     Found (operand_form field false) room b (operand_of (record { prefixes = v; base = x })) after
 alone_end field behind room v p u x b c after so_far e h =
     let F : OperandData → Type 0 = λ z. Found (operand_form field false) room b z after in
-    subst F (operand_seen v x (selected_with p u alone_selection) (ap unprefixed (sym e))) (so_far.leads.finds (selected_with p u alone_selection) after h)
+    subst F (onto-operand_seen v x (selected_with p u alone_selection) (ap unprefixed (sym e))) (so_far.leads.finds (selected_with p u alone_selection) after h)
 
 -- no selector comes next, and a base is read
 pub base_leads : (field behind : Bool) (room : ℕ) (so_far : List PrefixData) (b c d : List MarkedToken) → Prefixed field behind room so_far b c → IsSelected field behind room c d None →
@@ -101,7 +101,7 @@ pub base_end : (field behind : Bool) (room : ℕ) (v : Vec PrefixNode Global) (x
     Found (operand_form field false) room b (operand_of (record { prefixes = v; base = x })) after
 base_end field behind room v x b c d after so_far none h =
     let F : OperandData → Type 0 = λ z. Found (operand_form field false) room b z after in
-    subst F (operand_seen v x (unprefixed (base_in x)) refl) ((base_leads field behind room (map prefix_of v.items) b c d so_far none).finds (base_in x) after h)
+    subst F (onto-operand_seen v x (unprefixed (base_in x)) refl) ((base_leads field behind room (map prefix_of v.items) b c d so_far none).finds (base_in x) after h)
 
 -- The pieces of a term.
 abbrev pub pieces_onto : List PieceData → PieceList → PieceList
@@ -266,12 +266,12 @@ pub last_at_start : (o : OperandNode) (several : Bool) → is_several (base_in o
 last_at_start o several e = ap (λ z. last_with (is_several z.base)) (operand_of-is o) ∙ ap last_with e
 
 -- one term, and no comma behind it
-pub single_seen : (p q : Place) (t : TermNode) (v : Vec (Next Place TermNode) Global) → v.items ≡ [] → bracketed_of (record { «open» = p; terms = record { first = t; more = v }; close = q }) ≡ one_bracketed (p, (term_of t, q))
-single_seen p q t v e = ap (λ z. (p, (ListTerms (term_of t) (next_terms_of (map next_term_of z)), q))) e
+pub bracketed_of-single_seen : (p q : Place) (t : TermNode) (v : Vec (Next Place TermNode) Global) → v.items ≡ [] → bracketed_of (record { «open» = p; terms = record { first = t; more = v }; close = q }) ≡ one_bracketed (p, (term_of t, q))
+bracketed_of-single_seen p q t v e = ap (λ z. (p, (ListTerms (term_of t) (next_terms_of (map next_term_of z)), q))) e
 
 -- several terms in parentheses
-pub several_group : (a : Place) (ts : Chain Place TermNode) (b : Place) (empty : Bool) → (empty ≡ true → ts.more.items ≡ []) → (ts.more.items ≡ [] → empty ≡ true) → not empty ≡ is_several (base_of (bases.Group a ts b))
-several_group a ts b empty left right = go ts.more.items refl empty refl ∙ ap is_several (sym (base_of-group a ts b))
+pub not-several_group : (a : Place) (ts : Chain Place TermNode) (b : Place) (empty : Bool) → (empty ≡ true → ts.more.items ≡ []) → (ts.more.items ≡ [] → empty ≡ true) → not empty ≡ is_several (base_of (bases.Group a ts b))
+not-several_group a ts b empty left right = go ts.more.items refl empty refl ∙ ap is_several (sym (base_of-group a ts b))
   where
     go : (ns : List (Next Place TermNode)) → ts.more.items ≡ ns → (e : Bool) → empty ≡ e → not empty ≡ is_several (GroupBase a (ListTerms (term_of ts.first) (next_terms_of (map next_term_of ts.more.items))) b)
     go [] f e g = ap not (right f) ∙ ap (λ z. is_several (GroupBase a (ListTerms (term_of ts.first) (next_terms_of (map next_term_of z))) b)) (sym f)

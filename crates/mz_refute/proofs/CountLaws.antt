@@ -159,9 +159,9 @@ flag_count : (b : Bool) (k h : Head) (args : List ℕ) → count_for h (sign_ent
 flag_count true k h args = let x = if_length {X = List ℕ × ℕ} (same_head k h) (args, 0) [] in omega (arith, x)
 flag_count false k h args = refl
 
-no_flag : (b : Bool) (k h : Head) (args : List ℕ) → same_head k h ≡ false → count_for h (sign_entry b k args) ≡ 0
-no_flag true k h args e = if_none {X = List ℕ × ℕ} (same_head k h) (args, 0) [] e
-no_flag false k h args e = refl
+count_for-no_flag : (b : Bool) (k h : Head) (args : List ℕ) → same_head k h ≡ false → count_for h (sign_entry b k args) ≡ 0
+count_for-no_flag true k h args e = if_none {X = List ℕ × ℕ} (same_head k h) (args, 0) [] e
+count_for-no_flag false k h args e = refl
 
 picked_length : {X Y : Type 0} (f : X → Y) (q : X → Bool) (b : Bool) (bs : List Bool) (x : X) (xs : List X) → length (picked f q (b ∷ bs) (x ∷ xs)) ≡ (if b && q x then 1 else 0) + length (picked f q bs xs)
 picked_length f q b bs x xs = if_length (b && q x) (f x) (picked f q bs xs)
@@ -207,7 +207,7 @@ no_equations h f classes (b ∷ bs) [] = refl
 no_equations h f classes (b ∷ bs) (e ∷ es) =
     let args : List ℕ = slice_index classes e.left ∷ slice_index classes e.right ∷ [] in
     let x = count-append h (sign_entry b Disequal args) (equation_entries classes bs es) in
-    omega (arith, x, no_flag b Disequal h args f, no_equations h f classes bs es)
+    omega (arith, x, count_for-no_flag b Disequal h args f, no_equations h f classes bs es)
 
 count_differ : (ts : List Term) (classes : List ℕ) (bs : List Bool) (es : List GroundEquation) → count_for Disequal (equation_entries classes bs es) ≡ length (picked (equation_terms ts) any_equation bs es)
 count_differ ts classes [] es = refl

@@ -73,8 +73,8 @@ told_nothing table next e = subst (λ (t : Table). Grown table t []) (sym e) (gr
 
 pub ruleset grow_rules = (told_entry, told_as, told_nothing, grown_both)
 
-add_one : (i : ℕ) → i + 1 ≡ suc i
-add_one i = omega arith
+sum-add_one : (i : ℕ) → i + 1 ≡ suc i
+sum-add_one i = omega arith
 
 terms_suc : (classes vs : List ℕ) (ts : List GroundTerm) (i : ℕ) (t : GroundTerm) (v : ℕ) → slice_get ts i ≡ Some t → slice_get vs i ≡ Some v → term_entries classes (take (suc i) vs) (take (suc i) ts) ≡ term_entries classes (take i vs) (take i ts) ++ term_entry classes v t ∷ []
 terms_suc classes [] ts i t v a b = cc
@@ -87,7 +87,7 @@ terms_suc classes (w ∷ vs) (u ∷ ts) (suc i) t v a b = ap (λ es. term_entry 
 
 -- the entries of one more
 pub terms_more : (classes vs : List ℕ) (ts : List GroundTerm) (i : ℕ) (t : GroundTerm) (v : ℕ) → slice_get ts i ≡ Some t → slice_get vs i ≡ Some v → term_entries classes (take (i + 1) vs) (take (i + 1) ts) ≡ term_entries classes (take i vs) (take i ts) ++ term_entry classes v t ∷ []
-terms_more classes vs ts i t v a b = ap (λ n. term_entries classes (take n vs) (take n ts)) (add_one i) ∙ terms_suc classes vs ts i t v a b
+terms_more classes vs ts i t v a b = ap (λ n. term_entries classes (take n vs) (take n ts)) (sum-add_one i) ∙ terms_suc classes vs ts i t v a b
 
 atoms_suc : (classes : List ℕ) (ps ns : List Bool) (os : List GroundAtom) (i : ℕ) (p n : Bool) (a : GroundAtom) → slice_get ps i ≡ Some p → slice_get ns i ≡ Some n → slice_get os i ≡ Some a → atom_entries classes (take (suc i) ps) (take (suc i) ns) (take (suc i) os) ≡ atom_entries classes (take i ps) (take i ns) (take i os) ++ (sign_entry p (Holds a.sym) (map (slice_index classes) a.args) ++ sign_entry n (Fails a.sym) (map (slice_index classes) a.args))
 atoms_suc classes [] ns os i p n a x y z = cc
@@ -130,12 +130,12 @@ terms_turn first table next classes ts i t v a b c d =
 
 pub atoms_turn : (first table next : Table) (classes : List ℕ) (ps ns : List Bool) (os : List GroundAtom) (i : ℕ) (p n : Bool) (a : GroundAtom) → Grown first table (atom_entries classes (take i ps) (take i ns) (take i os)) → Grown table next (sign_entry p (Holds a.sym) (map (slice_index classes) a.args) ++ sign_entry n (Fails a.sym) (map (slice_index classes) a.args)) → slice_get ps i ≡ Some p → slice_get ns i ≡ Some n → slice_get os i ≡ Some a → Grown first next (atom_entries classes (take (i + 1) ps) (take (i + 1) ns) (take (i + 1) os))
 atoms_turn first table next classes ps ns os i p n a x y u v w =
-    subst (λ (es : List Entry). Grown first next es) (sym (ap (λ k. atom_entries classes (take k ps) (take k ns) (take k os)) (add_one i) ∙ atoms_suc classes ps ns os i p n a u v w))
+    subst (λ (es : List Entry). Grown first next es) (sym (ap (λ k. atom_entries classes (take k ps) (take k ns) (take k os)) (sum-add_one i) ∙ atoms_suc classes ps ns os i p n a u v w))
     (grown_both first table next (atom_entries classes (take i ps) (take i ns) (take i os)) (sign_entry p (Holds a.sym) (map (slice_index classes) a.args) ++ sign_entry n (Fails a.sym) (map (slice_index classes) a.args)) x y)
 
 pub equations_turn : (first table next : Table) (classes : List ℕ) (bs : List Bool) (es : List GroundEquation) (i : ℕ) (b : Bool) (e : GroundEquation) → Grown first table (equation_entries classes (take i bs) (take i es)) → Grown table next (sign_entry b Disequal (slice_index classes e.left ∷ slice_index classes e.right ∷ [])) → slice_get bs i ≡ Some b → slice_get es i ≡ Some e → Grown first next (equation_entries classes (take (i + 1) bs) (take (i + 1) es))
 equations_turn first table next classes bs es i b e x y u v =
-    subst (λ (xs : List Entry). Grown first next xs) (sym (ap (λ k. equation_entries classes (take k bs) (take k es)) (add_one i) ∙ equations_suc classes bs es i b e u v))
+    subst (λ (xs : List Entry). Grown first next xs) (sym (ap (λ k. equation_entries classes (take k bs) (take k es)) (sum-add_one i) ∙ equations_suc classes bs es i b e u v))
     (grown_both first table next (equation_entries classes (take i bs) (take i es)) (sign_entry b Disequal (slice_index classes e.left ∷ slice_index classes e.right ∷ [])) x y)
 
 pub told_terms : (first table next : Table) (classes : List ℕ) (ts : List GroundTerm) (i : ℕ) (t : GroundTerm) (v : ℕ) → Grown first table (term_entries classes (take i classes) (take i ts)) → Grown table next (term_entry classes v t ∷ []) → slice_get ts i ≡ Some t → v ≡ slice_index classes i → i < length classes → Grown first next (term_entries classes (take (i + 1) classes) (take (i + 1) ts))

@@ -52,15 +52,15 @@ entry_after before (x ∷ es) (suc i) e j q h =
     let y = length-append before (term_of_entry before x ∷ []) in
     entry_after (before ++ term_of_entry before x ∷ []) es i e j (omega (arith, q, y)) h
 
-same_at : (b ts : List Term) (j : ℕ) → ((k : ℕ) → k < j → slice_get b k ≡ slice_get ts k) → (e : GroundTerm) → ((s : Sym) (args : List ℕ) → e ≡ node.App s args → (k : ℕ) → Contains args k → k < j) → term_of_entry b e ≡ term_of_entry ts e
-same_at b ts j h (node.Const n) f = refl
-same_at b ts j h (node.App s args) f = ap (λ us. App s (terms_of us)) (map_equal (term_at b) (term_at ts) args (λ k m. ap term_or_zero (h k (f s args refl k m))))
+term_of_entry-same_at : (b ts : List Term) (j : ℕ) → ((k : ℕ) → k < j → slice_get b k ≡ slice_get ts k) → (e : GroundTerm) → ((s : Sym) (args : List ℕ) → e ≡ node.App s args → (k : ℕ) → Contains args k → k < j) → term_of_entry b e ≡ term_of_entry ts e
+term_of_entry-same_at b ts j h (node.Const n) f = refl
+term_of_entry-same_at b ts j h (node.App s args) f = ap (λ us. App s (terms_of us)) (map_equal (term_at b) (term_at ts) args (λ k m. ap term_or_zero (h k (f s args refl k m))))
 
 -- the term at a place is that of the entry
 pub ground_entry : (d : Disjunct) (cs : List Clause) (g : Ground) → IsGround d cs g → (i : ℕ) (e : GroundTerm) → slice_get g.terms i ≡ Some e → slice_get (ground_terms g) i ≡ Some (term_of_entry (ground_terms g) e)
 ground_entry d cs g h i e k =
     let p = entry_after [] g.terms i e i (omega arith) k in
-    p.is ∙ ap (λ z. Some z) (same_at p.before (ground_terms g) i p.same e (λ s args q j m. h.earlier i j s args (k ∙ ap (λ z. Some z) q) m))
+    p.is ∙ ap (λ z. Some z) (term_of_entry-same_at p.before (ground_terms g) i p.same e (λ s args q j m. h.earlier i j s args (k ∙ ap (λ z. Some z) q) m))
 
 pub place_term : (d : Disjunct) (cs : List Clause) (g : Ground) → (i : ℕ) (t : Term) → slice_get (ground_terms g) i ≡ Some t → term_at (ground_terms g) i ≡ t
 place_term d cs g i t h = ap term_or_zero h

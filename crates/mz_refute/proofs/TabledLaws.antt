@@ -126,8 +126,8 @@ term_means d cs g classes positive negative disequal h i (node.App s args) v k c
 atom_args : (d : Disjunct) (cs : List Clause) (g : Ground) (classes : List ℕ) (positive negative disequal : List Bool) → HoldsFacts d cs g classes positive negative disequal → (k : ℕ) (a : GroundAtom) → slice_get g.atoms k ≡ Some a → map (slice_index classes) a.args ≡ map (class_in (ground_terms g) classes) (map (term_at (ground_terms g)) a.args)
 atom_args d cs g classes positive negative disequal h k a e = args_classes d cs g classes positive negative disequal h a.args (λ j m. h.ground.atoms_within a j (get_member g.atoms k a e) m)
 
-differ_args : (d : Disjunct) (cs : List Clause) (g : Ground) (classes : List ℕ) (positive negative disequal : List Bool) → HoldsFacts d cs g classes positive negative disequal → (k : ℕ) (e : GroundEquation) → slice_get g.equations k ≡ Some e → (slice_index classes e.left ∷ slice_index classes e.right ∷ []) ≡ (class_in (ground_terms g) classes (term_at (ground_terms g) e.left) ∷ class_in (ground_terms g) classes (term_at (ground_terms g) e.right) ∷ [])
-differ_args d cs g classes positive negative disequal h k e m =
+cons-differ_args : (d : Disjunct) (cs : List Clause) (g : Ground) (classes : List ℕ) (positive negative disequal : List Bool) → HoldsFacts d cs g classes positive negative disequal → (k : ℕ) (e : GroundEquation) → slice_get g.equations k ≡ Some e → (slice_index classes e.left ∷ slice_index classes e.right ∷ []) ≡ (class_in (ground_terms g) classes (term_at (ground_terms g) e.left) ∷ class_in (ground_terms g) classes (term_at (ground_terms g) e.right) ∷ [])
+cons-differ_args d cs g classes positive negative disequal h k e m =
     let w = h.ground.equations_within e (get_member g.equations k e m) in
     λ i. class_index d cs g classes positive negative disequal h e.left w.0 i ∷ class_index d cs g classes positive negative disequal h e.right w.1 i ∷ []
 
@@ -152,7 +152,7 @@ said d cs g classes positive negative disequal h Q k =
             ]
         | inr y ↦
             let z = equation_found Q classes disequal g.equations y in
-            record { entry = differ_entry classes z.equation; means = (term_at (ground_terms g) z.equation.left, term_at (ground_terms g) z.equation.right, (h.differ z.place z.equation z.at).0 z.has, differ_args d cs g classes positive negative disequal h z.place z.equation z.at); fact = z.fact }
+            record { entry = differ_entry classes z.equation; means = (term_at (ground_terms g) z.equation.left, term_at (ground_terms g) z.equation.right, (h.differ z.place z.equation z.at).0 z.has, cons-differ_args d cs g classes positive negative disequal h z.place z.equation z.at); fact = z.fact }
       ]
     ]
 
@@ -296,7 +296,7 @@ differ_row d cs g classes positive negative disequal h table k v w c f =
     let P : List ℕ × ℕ → Type 0 = λ p. p.0 ≡ class_in (ground_terms g) classes v ∷ class_in (ground_terms g) classes w ∷ [] in
     rows_find table (entries_of g classes positive negative disequal) k Disequal P
     (in_equations (λ e. (same_head e.head Disequal ≡ true) × P (e.args, e.value)) g classes positive negative disequal
-    (equation_find (λ e. (same_head e.head Disequal ≡ true) × P (e.args, e.value)) classes disequal g.equations a.place a.equation a.at ((h.differ a.place a.equation a.at).1 x) (refl, differ_args d cs g classes positive negative disequal h a.place a.equation a.at ∙ z)))
+    (equation_find (λ e. (same_head e.head Disequal ≡ true) × P (e.args, e.value)) classes disequal g.equations a.place a.equation a.at ((h.differ a.place a.equation a.at).1 x) (refl, cons-differ_args d cs g classes positive negative disequal h a.place a.equation a.at ∙ z)))
 
 differ_rows : (d : Disjunct) (cs : List Clause) (g : Ground) (classes : List ℕ) (positive negative disequal : List Bool) → HoldsFacts d cs g classes positive negative disequal → (table : Table) → HasEntries table (entries_of g classes positive negative disequal) → (v w : Term) → Fact d cs (Eq false v w) → SomeOf (λ r. r.args.items ≡ class_in (ground_terms g) classes v ∷ class_in (ground_terms g) classes w ∷ []) (rows_of table Disequal) ⊎ SomeOf (λ r. r.args.items ≡ class_in (ground_terms g) classes w ∷ class_in (ground_terms g) classes v ∷ []) (rows_of table Disequal)
 differ_rows d cs g classes positive negative disequal h table k v w f =

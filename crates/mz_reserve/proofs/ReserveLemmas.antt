@@ -21,32 +21,32 @@ use Rattle.mz_tree_part.specs.declared.reserve.SegmentTree.{SegmentTree}
 use Rattle.mz_reserve.specs.Reserve.{reserved_for, reserved_behind, with_reserved, Reserves, no_more, type_refused, reserved, come_to}
 
 -- the first identifier and then the others
-both_maps : (ty : SoftType) (ws : List (Next Comma IdentifierTree)) → map (reserved_behind ty) ws ≡ map (reserved_for ty) (map tree_of ws)
-both_maps ty [] = refl
-both_maps ty (w ∷ ws) = ap (λ xs. reserved_for ty w.tree ∷ xs) (both_maps ty ws)
+map-both_maps : (ty : SoftType) (ws : List (Next Comma IdentifierTree)) → map (reserved_behind ty) ws ≡ map (reserved_for ty) (map tree_of ws)
+map-both_maps ty [] = refl
+map-both_maps ty (w ∷ ws) = ap (λ xs. reserved_for ty w.tree ∷ xs) (map-both_maps ty ws)
 
 pub pushed : (old one new : List ReservedVariable) (ty : SoftType) (ws : Separated IdentifierTree) → one ≡ old ++ reserved_for ty ws.first ∷ [] → new ≡ one ++ map (reserved_behind ty) ws.more →
     new ≡ old ++ map (reserved_for ty) (members ws)
 pushed old one new ty ws e f =
-    f ∙ ap (λ xs. one ++ xs) (both_maps ty ws.more) ∙ ap (λ xs. xs ++ map (reserved_for ty) (map tree_of ws.more)) e ∙ append_assoc old (reserved_for ty ws.first ∷ []) (map (reserved_for ty) (map tree_of ws.more))
+    f ∙ ap (λ xs. one ++ xs) (map-both_maps ty ws.more) ∙ ap (λ xs. xs ++ map (reserved_for ty) (map tree_of ws.more)) e ∙ append_assoc old (reserved_for ty ws.first ∷ []) (map (reserved_for ty) (map tree_of ws.more))
 
 -- further identifiers, one after another
-from_here : (ty : SoftType) (xs : List (Next Comma IdentifierTree)) (i : ℕ) (x : Next Comma IdentifierTree) → i < length xs → x ≡ get_or xs i x → map (reserved_behind ty) (drop i xs) ≡ reserved_behind ty x ∷ map (reserved_behind ty) (drop (i + 1) xs)
-from_here ty xs i x lt e =
+map-from_here : (ty : SoftType) (xs : List (Next Comma IdentifierTree)) (i : ℕ) (x : Next Comma IdentifierTree) → i < length xs → x ≡ get_or xs i x → map (reserved_behind ty) (drop i xs) ≡ reserved_behind ty x ∷ map (reserved_behind ty) (drop (i + 1) xs)
+map-from_here ty xs i x lt e =
     let next : suc i ≡ i + 1 = omega arith in
     ap (map (reserved_behind ty)) (drop-cons xs i x lt ∙ (ap (λ y. y ∷ drop (suc i) xs) (sym e) ∙ ap (λ k. x ∷ drop k xs) next))
 
-pub told_push : (ty : SoftType) (xs : List (Next Comma IdentifierTree)) (i : ℕ) (x : Next Comma IdentifierTree) (v : ReservedVariable) (out new whole : List ReservedVariable) → i < length xs → x ≡ get_or xs i x → v ≡ reserved_behind ty x → new ≡ out ++ v ∷ [] →
+pub append-told_push : (ty : SoftType) (xs : List (Next Comma IdentifierTree)) (i : ℕ) (x : Next Comma IdentifierTree) (v : ReservedVariable) (out new whole : List ReservedVariable) → i < length xs → x ≡ get_or xs i x → v ≡ reserved_behind ty x → new ≡ out ++ v ∷ [] →
     out ++ map (reserved_behind ty) (drop i xs) ≡ whole → new ++ map (reserved_behind ty) (drop (i + 1) xs) ≡ whole
-told_push ty xs i x v out new whole lt at is en so =
+append-told_push ty xs i x v out new whole lt at is en so =
     let rest = map (reserved_behind ty) (drop (i + 1) xs) in
-    ap (λ ys. ys ++ rest) (en ∙ ap (λ w. out ++ w ∷ []) is) ∙ (append_assoc out (reserved_behind ty x ∷ []) rest ∙ (ap (λ ys. out ++ ys) (sym (from_here ty xs i x lt at)) ∙ so))
+    ap (λ ys. ys ++ rest) (en ∙ ap (λ w. out ++ w ∷ []) is) ∙ (append_assoc out (reserved_behind ty x ∷ []) rest ∙ (ap (λ ys. out ++ ys) (sym (map-from_here ty xs i x lt at)) ∙ so))
 
 pub told_pushed : (ty : SoftType) (xs : List (Next Comma IdentifierTree)) (i : ℕ) (out whole : List ReservedVariable) → i ≡ length xs → out ++ map (reserved_behind ty) (drop i xs) ≡ whole → out ≡ whole
 told_pushed ty xs i out whole e so =
     sym (append-nil out) ∙ (ap (λ ys. out ++ map (reserved_behind ty) ys) (sym (drop-length xs)) ∙ (ap (λ k. out ++ map (reserved_behind ty) (drop k xs)) (sym e) ∙ so))
 
-pub ruleset push_rules = (told_push, told_pushed)
+pub ruleset push_rules = (append-told_push, told_pushed)
 
 -- answers
 

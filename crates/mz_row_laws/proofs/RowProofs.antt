@@ -108,8 +108,8 @@ no_adjectives [] e = refl
 no_adjectives (a ∷ more) e = cc
 
 -- a type without adjectives is that of its radix
-bare_alone : (mode : SoftType) → is_bare mode ≡ true → record { adjectives = []; radix = mode.radix } ≡ mode
-bare_alone mode e =
+record-bare_alone : (mode : SoftType) → is_bare mode ≡ true → record { adjectives = []; radix = mode.radix } ≡ mode
+record-bare_alone mode e =
     ap (λ (xs : List Adjective). record { adjectives = xs; radix = mode.radix }) (no_adjectives mode.adjectives (and_parts (is_empty mode.adjectives) (not (is_of_any_object mode.radix.sym)) e).0)
 
 -- a redefinition whose mode has all loci and no adjectives
@@ -119,7 +119,7 @@ new_parent loci mode (Some ty) r h =
     let both : ((is_bare mode && is_mode mode.radix.sym.kind && has_loci loci mode) ≡ true) × (row loci mode.radix.sym mode.radix.args ty ≡ r) = in_where (is_bare mode && is_mode mode.radix.sym.kind && has_loci loci mode) (row loci mode.radix.sym mode.radix.args ty) r h in
     let parts : ((is_bare mode && is_mode mode.radix.sym.kind) ≡ true) × (has_loci loci mode ≡ true) = and_parts (is_bare mode && is_mode mode.radix.sym.kind) (has_loci loci mode) both.0 in
     let bare : is_bare mode ≡ true = (and_parts (is_bare mode) (is_mode mode.radix.sym.kind) parts.0).0 in
-    subst (λ (m : SoftType). HasParent (groups_clauses (mode_parent_groups loci m ty)) r) (bare_alone mode bare)
+    subst (λ (m : SoftType). HasParent (groups_clauses (mode_parent_groups loci m ty)) r) (record-bare_alone mode bare)
     (subst (λ (q : Row). HasParent (mode_row_clauses (row loci mode.radix.sym mode.radix.args ty)) q) both.1 (itself_parent (row loci mode.radix.sym mode.radix.args ty) parts.1))
 
 modes_parent : (item : Item) (r : Row) → Contains (mode_rows item) r → HasParent (typing_clauses item) r

@@ -21,11 +21,11 @@ use Rattle.mz_turns.specs.Row.{Row, Waiting, Missing, is_settled, is_waiting, ro
 use Rattle.mz_turns.specs.Dependencies.{place_of, direct_rows, start_of, start_row}
 use Rattle.mz_turns.specs.Machine.{and_then, all_settled}
 use Rattle.mz_turns.specs.Order.{IsOrder, ends, goes}
-use Rattle.mz_turns.proofs.RowLemmas.{same_article, put_same, put_other, start_waits, at_start}
+use Rattle.mz_turns.proofs.RowLemmas.{same_article, row_at-put_same, row_at-put_other, start_waits, at_start}
 use Rattle.mz_turns.proofs.NameLemmas.{AreArticles, in_none, contained, article_at, place_is, articles_of}
 use Rattle.mz_rows.specs.Table.{is_ready}
 use Rattle.mz_rows.specs.Order.{judged_rows, BeginsOrder}
-use Rattle.mz_rows.proofs.ReadyLemmas.{waiting_is, ready_is, weight_put}
+use Rattle.mz_rows.proofs.ReadyLemmas.{waiting_is, ready_is, sum-weight_put}
 use Rattle.mz_rows.proofs.StoredLemmas.{some_article}
 use Rattle.mz_rows.proofs.ReachLemmas.{AreReached, reached_of}
 use Rattle.mz_rows.proofs.ProgressLemmas.{Wait, names_settled, all_settled_rows, none_ready}
@@ -42,22 +42,22 @@ settled_alike rows others s (d ∷ ds) = λ i. and_then (s.settled d i) (settled
 put_settled_if : (rows others : List Row) (r : ℕ) (x y : Row) → r < length rows → r < length others → is_settled x ≡ is_settled y → WaitsAlike rows others → (q : ℕ) → (q ≡ r) ⊎ (q ≡ r → ⊥) → is_settled (row_at (slice_set others r y) q) ≡ is_settled (row_at (slice_set rows r x) q)
 put_settled_if rows others r x y l m same s q (inl e) =
     ap (λ k. is_settled (row_at (slice_set others r y) k)) e
-    ∙ (ap is_settled (put_same others r y m) ∙ (sym same ∙ (sym (ap is_settled (put_same rows r x l)) ∙ ap (λ k. is_settled (row_at (slice_set rows r x) k)) (sym e))))
-put_settled_if rows others r x y l m same s q (inr n) = ap is_settled (put_other others r q y n) ∙ (s.settled q ∙ ap is_settled (sym (put_other rows r q x n)))
+    ∙ (ap is_settled (row_at-put_same others r y m) ∙ (sym same ∙ (sym (ap is_settled (row_at-put_same rows r x l)) ∙ ap (λ k. is_settled (row_at (slice_set rows r x) k)) (sym e))))
+put_settled_if rows others r x y l m same s q (inr n) = ap is_settled (row_at-put_other others r q y n) ∙ (s.settled q ∙ ap is_settled (sym (row_at-put_other rows r q x n)))
 
 true_is_not_false : {b : Bool} → b ≡ true → b ≡ false → ⊥
 true_is_not_false p q = cc
 
-put_waits_if : (rows others : List Row) (r : ℕ) (x y : Row) → r < length rows → is_settled x ≡ true → WaitsAlike rows others → (q : ℕ) → (q ≡ r) ⊎ (q ≡ r → ⊥) → is_settled (row_at (slice_set rows r x) q) ≡ false → row_at (slice_set others r y) q ≡ row_at (slice_set rows r x) q
-put_waits_if rows others r x y l sx s q (inl e) un =
-    absurd (true_is_not_false (ap (λ k. is_settled (row_at (slice_set rows r x) k)) e ∙ (ap is_settled (put_same rows r x l) ∙ sx)) un)
-put_waits_if rows others r x y l sx s q (inr n) un =
-    put_other others r q y n ∙ (s.waits q (sym (ap is_settled (put_other rows r q x n)) ∙ un) ∙ sym (put_other rows r q x n))
+row_at-put_waits_if : (rows others : List Row) (r : ℕ) (x y : Row) → r < length rows → is_settled x ≡ true → WaitsAlike rows others → (q : ℕ) → (q ≡ r) ⊎ (q ≡ r → ⊥) → is_settled (row_at (slice_set rows r x) q) ≡ false → row_at (slice_set others r y) q ≡ row_at (slice_set rows r x) q
+row_at-put_waits_if rows others r x y l sx s q (inl e) un =
+    absurd (true_is_not_false (ap (λ k. is_settled (row_at (slice_set rows r x) k)) e ∙ (ap is_settled (row_at-put_same rows r x l) ∙ sx)) un)
+row_at-put_waits_if rows others r x y l sx s q (inr n) un =
+    row_at-put_other others r q y n ∙ (s.waits q (sym (ap is_settled (row_at-put_other rows r q x n)) ∙ un) ∙ sym (row_at-put_other rows r q x n))
 
 put_alike : (rows others : List Row) (r : ℕ) (x y : Row) → r < length rows → r < length others → is_settled x ≡ true → is_settled y ≡ true → WaitsAlike rows others → WaitsAlike (slice_set rows r x) (slice_set others r y)
 put_alike rows others r x y l m sx sy s = record {
   settled = λ q. put_settled_if rows others r x y l m (sx ∙ sym sy) s q (cases_eq q r);
-  waits = λ q un. put_waits_if rows others r x y l sx s q (cases_eq q r) un;
+  waits = λ q un. row_at-put_waits_if rows others r x y l sx s q (cases_eq q r) un;
 }
 
 alike_itself : (rows : List Row) → WaitsAlike rows rows
@@ -87,9 +87,9 @@ from_one c rows r rs a whole at w set o =
 -- rows of which none is settled wait, after one is settled too
 wait_if : (c : List Article) (rows : List Row) (r : ℕ) (x : Row) → r < length rows → is_settled x ≡ true → Wait c rows → (q : ℕ) (a : Article) → slice_get c q ≡ Some a → (q ≡ r) ⊎ (q ≡ r → ⊥) → is_settled (row_at (slice_set rows r x) q) ≡ false → (row_at (slice_set rows r x) q ≡ Waiting) × (start_row a ≡ Waiting)
 wait_if c rows r x l sx wait q a at (inl e) un =
-    absurd (true_is_not_false (ap (λ k. is_settled (row_at (slice_set rows r x) k)) e ∙ (ap is_settled (put_same rows r x l) ∙ sx)) un)
+    absurd (true_is_not_false (ap (λ k. is_settled (row_at (slice_set rows r x) k)) e ∙ (ap is_settled (row_at-put_same rows r x l) ∙ sx)) un)
 wait_if c rows r x l sx wait q a at (inr n) un =
-    let o = put_other rows r q x n in
+    let o = row_at-put_other rows r q x n in
     let w = wait q a at (sym (ap is_settled o) ∙ un) in
     (o ∙ w.0, w.1)
 
@@ -119,16 +119,16 @@ HasOrder c rows = (rs : List ℕ) × IsOrder c rows rs × ((r : ℕ) → Contain
 
 unsettled_before : (rows : List Row) (r q : ℕ) → r < length rows → is_settled (row_at (slice_set rows r Missing) q) ≡ false → (q ≡ r) ⊎ (q ≡ r → ⊥) → is_settled (row_at rows q) ≡ false
 unsettled_before rows r q l un (inl e) =
-    absurd (true_is_not_false (ap (λ k. is_settled (row_at (slice_set rows r Missing) k)) e ∙ ap is_settled (put_same rows r Missing l)) un)
-unsettled_before rows r q l un (inr n) = sym (ap is_settled (put_other rows r q Missing n)) ∙ un
+    absurd (true_is_not_false (ap (λ k. is_settled (row_at (slice_set rows r Missing) k)) e ∙ ap is_settled (row_at-put_same rows r Missing l)) un)
+unsettled_before rows r q l un (inr n) = sym (ap is_settled (row_at-put_other rows r q Missing n)) ∙ un
 
 unsettled_first : (rows : List Row) (r q : ℕ) (rs : List ℕ) → r < length rows → row_at rows r ≡ Waiting → ((k : ℕ) → Contains rs k → is_settled (row_at (slice_set rows r Missing) k) ≡ false) → (q ≡ r) ⊎ Contains rs q → is_settled (row_at rows q) ≡ false
 unsettled_first rows r q rs l w later (inl e) = ap (λ k. is_settled (row_at rows k)) e ∙ ap is_settled w
 unsettled_first rows r q rs l w later (inr h) = unsettled_before rows r q l (later q h) (cases_eq q r)
 
-one_fewer : (c : List Article) (rows : List Row) (r : ℕ) (a : Article) → length rows ≡ length c → slice_get c r ≡ Some a → row_at rows r ≡ Waiting → sum_by wait_weight (slice_set rows r Missing) + 1 ≡ sum_by wait_weight rows
-one_fewer c rows r a whole at w =
-    let s : sum_by wait_weight (slice_set rows r Missing) + 1 ≡ sum_by wait_weight rows + 0 = weight_put wait_weight rows r Missing Waiting (at_length c rows r a whole at) w in
+sum-one_fewer : (c : List Article) (rows : List Row) (r : ℕ) (a : Article) → length rows ≡ length c → slice_get c r ≡ Some a → row_at rows r ≡ Waiting → sum_by wait_weight (slice_set rows r Missing) + 1 ≡ sum_by wait_weight rows
+sum-one_fewer c rows r a whole at w =
+    let s : sum_by wait_weight (slice_set rows r Missing) + 1 ≡ sum_by wait_weight rows + 0 = sum-weight_put wait_weight rows r Missing Waiting (at_length c rows r a whole at) w in
     omega (arith, s)
 
 finish_if : (c : List Article) → AreArticles c → AreReached c → (n : ℕ) (rows : List Row) → length rows ≡ length c → Wait c rows → sum_by wait_weight rows ≤ n → ((after : List Row) → length after ≡ length c → Wait c after → suc (sum_by wait_weight after) ≤ n → HasOrder c after) → FindsReady c rows (length c) → HasOrder c rows
@@ -138,7 +138,7 @@ finish_if c articles reached n rows whole wait le more (inr h) =
     let r = h.0 in
     let ready = ready_is c rows r h.1 in
     let a = ready.article in
-    let fewer = one_fewer c rows r a whole ready.is_at ready.waits in
+    let fewer = sum-one_fewer c rows r a whole ready.is_at ready.waits in
     let o = more (slice_set rows r Missing) (set_length c rows r Missing whole) (wait_put c rows r Missing (at_length c rows r a whole ready.is_at) refl wait) (omega (arith, fewer, le)) in
     let l = at_length c rows r a whole ready.is_at in
     (r ∷ o.0, from_one c rows r o.0 a whole ready.is_at ready.waits ready.settled o.1, λ q h. unsettled_first rows r q o.0 l ready.waits o.2 (first_or_later r q o.0 h))
@@ -172,15 +172,15 @@ start_taken c = record {
 }
 
 settled_put : (rows : List Row) (r q : ℕ) → r < length rows → is_settled (row_at rows q) ≡ true → (q ≡ r) ⊎ (q ≡ r → ⊥) → is_settled (row_at (slice_set rows r Missing) q) ≡ true
-settled_put rows r q l h (inl e) = ap (λ k. is_settled (row_at (slice_set rows r Missing) k)) e ∙ ap is_settled (put_same rows r Missing l)
-settled_put rows r q l h (inr n) = ap is_settled (put_other rows r q Missing n) ∙ h
+settled_put rows r q l h (inl e) = ap (λ k. is_settled (row_at (slice_set rows r Missing) k)) e ∙ ap is_settled (row_at-put_same rows r Missing l)
+settled_put rows r q l h (inr n) = ap is_settled (row_at-put_other rows r q Missing n) ∙ h
 
 settled_push : (c : List Article) (taken : List Name) (n m : Name) (rows : List Row) → ((k : Name) → Contains taken k → is_settled (row_at rows (place_of c k)) ≡ true) → is_settled (row_at rows (place_of c n)) ≡ true → Contains taken m ⊎ (n ≡ m) → is_settled (row_at rows (place_of c m)) ≡ true
 settled_push c taken n m rows h own (inl k) = h m k
 settled_push c taken n m rows h own (inr e) = subst (λ x. is_settled (row_at rows (place_of c x)) ≡ true) e own
 
-untaken_put : (c : List Article) (rows : List Row) (r q : ℕ) (b : Article) → r < length rows → row_at rows q ≡ start_row b → (q ≡ r → ⊥) → row_at (slice_set rows r Missing) q ≡ start_row b
-untaken_put c rows r q b l h n = put_other rows r q Missing n ∙ h
+row_at-untaken_put : (c : List Article) (rows : List Row) (r q : ℕ) (b : Article) → r < length rows → row_at rows q ≡ start_row b → (q ≡ r → ⊥) → row_at (slice_set rows r Missing) q ≡ start_row b
+row_at-untaken_put c rows r q b l h n = row_at-put_other rows r q Missing n ∙ h
 
 same_name : (c : List Article) (q r : ℕ) (a b : Article) → slice_get c q ≡ Some b → slice_get c r ≡ Some a → q ≡ r → a.name ≡ b.name
 same_name c q r a b bt at e = ap (λ x. x.name) (same_article c r a b at (ap (slice_get c) (sym e) ∙ bt))
@@ -194,8 +194,8 @@ taken_put c taken n rows a t at named =
       whole = set_length c rows r Missing t.whole;
       settled = λ m h. settled_push c taken n m (slice_set rows r Missing)
           (λ k i. settled_put rows r (place_of c k) l (t.settled k i) (cases_eq (place_of c k) r))
-          (ap is_settled (put_same rows r Missing l)) (Contains-push_cases taken n m h);
-      untaken = λ q b bt free. untaken_put c rows r q b l
+          (ap is_settled (row_at-put_same rows r Missing l)) (Contains-push_cases taken n m h);
+      untaken = λ q b bt free. row_at-untaken_put c rows r q b l
           (t.untaken q b bt (λ k. free (Contains-append_left taken (n ∷ []) b.name k)))
           (λ e. free (subst (λ x. Contains (taken ++ n ∷ []) x) (sym named ∙ same_name c q r a b bt at e) (Contains-push taken n)));
       wait = wait_put c rows r Missing l refl t.wait;
@@ -258,8 +258,8 @@ untaken_at : (c : List Article) → AreArticles c → (taken : List Name) (rows 
 untaken_at c articles taken rows t r a at un has =
     true_is_not_false (t.settled a.name has) (ap (λ k. is_settled (row_at rows k)) (place_is c articles r a at) ∙ un)
 
-filtered : (c : List Article) (n : Name) (ns : List Name) (rest : List ℕ) (b : Bool) → is_waiting (row_at (map start_row c) (place_of c n)) ≡ b → judged_rows c (n ∷ ns) ++ rest ≡ (if b then place_of c n ∷ judged_rows c ns else judged_rows c ns) ++ rest
-filtered c n ns rest b e = ap (λ t. (if t then place_of c n ∷ judged_rows c ns else judged_rows c ns) ++ rest) e
+append-filtered : (c : List Article) (n : Name) (ns : List Name) (rest : List ℕ) (b : Bool) → is_waiting (row_at (map start_row c) (place_of c n)) ≡ b → judged_rows c (n ∷ ns) ++ rest ≡ (if b then place_of c n ∷ judged_rows c ns else judged_rows c ns) ++ rest
+append-filtered c n ns rest b e = ap (λ t. (if t then place_of c n ∷ judged_rows c ns else judged_rows c ns) ++ rest) e
 
 along_if : (c : List Article) (taken ns : List Name) (n : Name) (rows : List Row) (a : Article) → IsTaken c taken rows → slice_get c (place_of c n) ≡ Some a → a.name ≡ n → (Contains taken n → ⊥) → all_settled rows (direct_rows c a) ≡ true → ((after : List Row) → IsTaken c (taken ++ n ∷ []) after → ContinuesFrom c (taken ++ n ∷ []) ns after) → (b : Bool) → is_waiting (row_at (map start_row c) (place_of c n)) ≡ b → ContinuesFrom c taken (n ∷ ns) rows
 along_if c taken ns n rows a t at named free set more true e =
@@ -267,13 +267,13 @@ along_if c taken ns n rows a t at named free set more true e =
     let own : row_at rows r ≡ start_row a = t.untaken r a at (λ h. free (subst (λ x. Contains taken x) named h)) in
     let w : row_at rows r ≡ Waiting = own ∙ (sym (at_start c r a at) ∙ waiting_is (row_at (map start_row c) r) e) in
     let o = more (slice_set rows r Missing) (taken_put c taken n rows a t at named) in
-    (o.0, subst (λ rs. IsOrder c rows rs) (sym (filtered c n ns o.0 true e)) (from_one c rows r (judged_rows c ns ++ o.0) a t.whole at w set o.1), λ q b h bt has. o.2 q b h bt (subst (λ ms. Contains ms b.name) (sym (append_assoc taken (n ∷ []) ns)) has))
+    (o.0, subst (λ rs. IsOrder c rows rs) (sym (append-filtered c n ns o.0 true e)) (from_one c rows r (judged_rows c ns ++ o.0) a t.whole at w set o.1), λ q b h bt has. o.2 q b h bt (subst (λ ms. Contains ms b.name) (sym (append_assoc taken (n ∷ []) ns)) has))
 along_if c taken ns n rows a t at named free set more false e =
     let r = place_of c n in
     let own : row_at rows r ≡ start_row a = t.untaken r a at (λ h. free (subst (λ x. Contains taken x) named h)) in
     let done : is_settled (row_at rows r) ≡ true = ap is_settled own ∙ start_or a.text (is_cyclic a) (ap is_waiting (sym (at_start c r a at)) ∙ e) in
     let o = more rows (taken_settled c taken n rows t done) in
-    (o.0, subst (λ rs. IsOrder c rows rs) (sym (filtered c n ns o.0 false e)) o.1, λ q b h bt has. o.2 q b h bt (subst (λ ms. Contains ms b.name) (sym (append_assoc taken (n ∷ []) ns)) has))
+    (o.0, subst (λ rs. IsOrder c rows rs) (sym (append-filtered c n ns o.0 false e)) o.1, λ q b h bt has. o.2 q b h bt (subst (λ ms. Contains ms b.name) (sym (append_assoc taken (n ∷ []) ns)) has))
 
 along : (c : List Article) → AreArticles c → AreReached c → ((a : Article) → Contains c a → IsDirect a.dependencies a.direct) → (taken ns : List Name) → Takes c taken ns → (rows : List Row) → IsTaken c taken rows → ContinuesFrom c taken ns rows
 along c articles reached direct taken ns (end taken1 none) rows t =

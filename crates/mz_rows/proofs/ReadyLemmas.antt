@@ -98,5 +98,5 @@ blocked_by c rows r d b n h at named =
     record { article = bad.article; is_at = bad.is_at; waits = bad.waits; settled = bad.settled; row = d; unaccepted = bad.unaccepted; other = b; other_at = at; named = named }
 
 -- sums after one row is put
-pub weight_put : (f : Row → ℕ) (rows : List Row) (r : ℕ) (x y : Row) → r < length rows → row_at rows r ≡ y → sum_by f (slice_set rows r x) + f y ≡ sum_by f rows + f x
-weight_put f rows r x y l e = subst (λ z. sum_by f (slice_set rows r x) + f z ≡ sum_by f rows + f x) e (sum_by-set f rows r x Waiting l)
+pub sum-weight_put : (f : Row → ℕ) (rows : List Row) (r : ℕ) (x y : Row) → r < length rows → row_at rows r ≡ y → sum_by f (slice_set rows r x) + f y ≡ sum_by f rows + f x
+sum-weight_put f rows r x y l e = subst (λ z. sum_by f (slice_set rows r x) + f z ≡ sum_by f rows + f x) e (sum_by-set f rows r x Waiting l)

@@ -177,21 +177,21 @@ set_same [] i = refl
 set_same (s ∷ ss) zero = refl
 set_same (s ∷ ss) (suc i) = ap (λ xs. s ∷ xs) (set_same ss i)
 
-next_is : (i : ℕ) → suc i ≡ i + 1
-next_is i = omega arith
+suc-next_is : (i : ℕ) → suc i ≡ i + 1
+suc-next_is i = omega arith
 
 -- the next one is claimed, and waits then, or isn't
 pub freed_next_claimed : (ss before after : List Standing) (i : ℕ) → i < length ss → before ≡ freed_to i ss → is_claimed_state (standing_state (standing_at before i)) ≡ true → after ≡ slice_set before i Waiting → after ≡ freed_to (i + 1) ss
 freed_next_claimed ss before after i w e claimed put =
     let at : standing_at before i ≡ standing_at ss i = ap (λ xs. standing_at xs i) e ∙ standing_at-freed_to ss i in
     let one : standing_freed (standing_at ss i) ≡ Waiting = ap standing_freed (sym at) ∙ freed_claimed (standing_at before i) claimed in
-    put ∙ ((λ j. slice_set (e j) i (sym one j)) ∙ (freed_to-next ss i w ∙ ap (λ n. freed_to n ss) (next_is i)))
+    put ∙ ((λ j. slice_set (e j) i (sym one j)) ∙ (freed_to-next ss i w ∙ ap (λ n. freed_to n ss) (suc-next_is i)))
 
 pub freed_next_other : (ss before : List Standing) (i : ℕ) → i < length ss → before ≡ freed_to i ss → is_claimed_state (standing_state (standing_at before i)) ≡ false → before ≡ freed_to (i + 1) ss
 freed_next_other ss before i w e claimed =
     let at : standing_at before i ≡ standing_at ss i = ap (λ xs. standing_at xs i) e ∙ standing_at-freed_to ss i in
     let one : standing_freed (standing_at ss i) ≡ standing_at before i = ap standing_freed (sym at) ∙ freed_if (standing_at before i) claimed in
-    sym (set_same before i) ∙ ((λ j. slice_set (e j) i (sym one j)) ∙ (freed_to-next ss i w ∙ ap (λ n. freed_to n ss) (next_is i)))
+    sym (set_same before i) ∙ ((λ j. slice_set (e j) i (sym one j)) ∙ (freed_to-next ss i w ∙ ap (λ n. freed_to n ss) (suc-next_is i)))
 
 pub freed_whole : (ss : List Standing) (n : ℕ) → length ss ≤ n → freed_to n ss ≡ map standing_freed ss
 freed_whole ss n h = (λ j. map standing_freed (take_all n ss h j) ++ drop_all n ss h j) ∙ append-nil (map standing_freed ss)

@@ -25,8 +25,8 @@ use Rattle.mz_rows.proofs.StandingLemmas.{length-rows_from, rows_from-set, rows_
 pub stored_length : (c : List Article) (links : List (List ℕ)) (ss : List Standing) (es : List Entry) (library : List Export) → IsStored c links ss es library → length (rows_from ss es) ≡ length c
 stored_length c links ss es library k = length-rows_from ss es ∙ k.whole
 
-pub stored_entries : (c : List Article) (links : List (List ℕ)) (ss : List Standing) (es : List Entry) (library : List Export) → IsStored c links ss es library → length es ≡ length c
-stored_entries c links ss es library k = ap length k.entries ∙ length-entries_of c (rows_from ss es) (stored_length c links ss es library k)
+pub length-stored_entries : (c : List Article) (links : List (List ℕ)) (ss : List Standing) (es : List Entry) (library : List Export) → IsStored c links ss es library → length es ≡ length c
+length-stored_entries c links ss es library k = ap length k.entries ∙ length-entries_of c (rows_from ss es) (stored_length c links ss es library k)
 
 -- an article at each row
 pub some_article : (c : List Article) (r : ℕ) → r < length c → (a : Article) × (slice_get c r ≡ Some a)
@@ -40,7 +40,7 @@ rows_put ss es r s e x h same = rows_from-set_both ss es r s e h ∙ ap (slice_s
 
 put_at : (c : List Article) (links : List (List ℕ)) (ss : List Standing) (es : List Entry) (library after : List Export) (r : ℕ) (a : Article) (s : Standing) (e : Entry) (x : Row) → IsStored c links ss es library → slice_get c r ≡ Some a → row_from s e.faults ≡ x → e ≡ entry_of a.name x → after ≡ library_of (slice_set (rows_from ss es) r x) → IsStored c links (slice_set ss r s) (slice_set es r e) after × (rows_from (slice_set ss r s) (slice_set es r e) ≡ slice_set (rows_from ss es) r x)
 put_at c links ss es library after r a s e x k at same told has =
-    let w : r < length es = subst (λ n. r < n) (sym (stored_entries c links ss es library k)) (slice_get_within c r a at) in
+    let w : r < length es = subst (λ n. r < n) (sym (length-stored_entries c links ss es library k)) (slice_get_within c r a at) in
     let put = rows_put ss es r s e x w same in (
       record {
         linked = k.linked;

@@ -20,16 +20,16 @@ length-scope : (a b : ℕ → ℕ) (scope : List ℕ) → length (map a scope) �
 length-scope a b [] = refl
 length-scope a b (i ∷ scope) = ap suc (length-scope a b scope)
 
-flagged : (p : ℕ → Bool) (a b : ℕ → ℕ) (scope : List ℕ) (j : ℕ) → ((i : ℕ) → p i ≡ true → a i ≡ b i) → flag_at (map p scope) j ≡ true → slice_get (map a scope) j ≡ slice_get (map b scope) j
-flagged p a b [] j h k = refl
-flagged p a b (i ∷ scope) zero h k = ap (λ x. Some x) (h i k)
-flagged p a b (i ∷ scope) (suc j) h k = flagged p a b scope j h k
+slice_get-flagged : (p : ℕ → Bool) (a b : ℕ → ℕ) (scope : List ℕ) (j : ℕ) → ((i : ℕ) → p i ≡ true → a i ≡ b i) → flag_at (map p scope) j ≡ true → slice_get (map a scope) j ≡ slice_get (map b scope) j
+slice_get-flagged p a b [] j h k = refl
+slice_get-flagged p a b (i ∷ scope) zero h k = ap (λ x. Some x) (h i k)
+slice_get-flagged p a b (i ∷ scope) (suc j) h k = slice_get-flagged p a b scope j h k
 
 kept_same : (p : ℕ → Bool) (a b : ℕ → ℕ) (scope : List ℕ) → ((i : ℕ) → p i ≡ true → a i ≡ b i) → SameKept (map p scope) 0 0 (map a scope) (map b scope)
 kept_same p a b scope h i k le =
     elim (leb_tells (suc i) 0) [
       | inl t ↦ absurd (omega (arith, t.1))
-      | inr f ↦ flagged p a b scope (i - 0) h (or_other (nat_lt i 0) (flag_at (map p scope) (i - 0)) f.0 k)
+      | inr f ↦ slice_get-flagged p a b scope (i - 0) h (or_other (nat_lt i 0) (flag_at (map p scope) (i - 0)) f.0 k)
     ]
 
 -- classes that agree at the places that are kept

@@ -57,12 +57,12 @@ pub start_reached : (k : Known) (s : State) → IsWithin s → IsReached k s s
 start_reached k s w = record { there = λ x. x; back = λ x. x; within = w; size = omega arith }
 
 -- the last goal is taken
-popped : (gs less : List code.Goal) (g : code.Goal) → gs ≡ less ++ g ∷ [] → map goal_of gs ≡ map goal_of less ++ goal_of g ∷ []
-popped gs less g e = ap (map goal_of) e ∙ map-append goal_of less (g ∷ [])
+map-popped : (gs less : List code.Goal) (g : code.Goal) → gs ≡ less ++ g ∷ [] → map goal_of gs ≡ map goal_of less ++ goal_of g ∷ []
+map-popped gs less g e = ap (map goal_of) e ∙ map-append goal_of less (g ∷ [])
 
 pub pop_reached : (k : Known) (s : State) (gs less : List code.Goal) (g : code.Goal) (e : Assignment) → IsReached k s (map goal_of gs, e) → gs ≡ less ++ g ∷ [] → IsReached k s (goal_of g ∷ map goal_of less, e)
 pop_reached k s gs less g e r q =
-    let p : IsPermutation (map goal_of gs) (goal_of g ∷ map goal_of less) = subst (λ (hs : List Goal). IsPermutation hs (goal_of g ∷ map goal_of less)) (sym (popped gs less g q)) (IsPermutation-to_front (map goal_of less) (goal_of g)) in
+    let p : IsPermutation (map goal_of gs) (goal_of g ∷ map goal_of less) = subst (λ (hs : List Goal). IsPermutation hs (goal_of g ∷ map goal_of less)) (sym (map-popped gs less g q)) (IsPermutation-to_front (map goal_of less) (goal_of g)) in
     let same : sizes (goal_of g ∷ map goal_of less) ≡ sizes (map goal_of gs) = sizes_permuted (map goal_of gs) (goal_of g ∷ map goal_of less) p in
     let le : sizes (map goal_of gs) ≤ sizes s.0 = r.size in
     record {
@@ -74,7 +74,7 @@ pop_reached k s gs less g e r q =
 
 pub pop_sizes : (gs less : List code.Goal) (g : code.Goal) → gs ≡ less ++ g ∷ [] → sizes (map goal_of gs) ≡ sizes (goal_of g ∷ map goal_of less)
 pop_sizes gs less g q =
-    let x : sizes (map goal_of gs) ≡ sizes (map goal_of less ++ goal_of g ∷ []) = ap sizes (popped gs less g q) in
+    let x : sizes (map goal_of gs) ≡ sizes (map goal_of less ++ goal_of g ∷ []) = ap sizes (map-popped gs less g q) in
     let y : sizes (map goal_of less ++ goal_of g ∷ []) ≡ sizes (map goal_of less) + sizes (goal_of g ∷ []) = sizes-append (map goal_of less) (goal_of g ∷ []) in
     omega (arith, x, y)
 
@@ -194,26 +194,26 @@ pub none_solves : (k : Known) (s : State) (c : Choice) (p : Parts) → IsChoice 
 none_solves k s c p h a n x = n (h.branches.back (map goal_of p.near.items) (near_below k s c p h a) (chosen_parts k s c p h a x).0)
 
 -- one branch after another
-joined_full : (p : Parts) (b next : Branch) (near : List code.Goal) → near ≡ p.near.items → state_of next ≡ (map goal_of b.goals.items ++ map goal_of near, b.assignment) → state_of next ≡ (map goal_of b.goals.items ++ map goal_of p.near.items, b.assignment)
-joined_full p b next near q w = w ∙ ap (λ (gs : List code.Goal). (map goal_of b.goals.items ++ map goal_of gs, b.assignment)) q
+state_of-joined_full : (p : Parts) (b next : Branch) (near : List code.Goal) → near ≡ p.near.items → state_of next ≡ (map goal_of b.goals.items ++ map goal_of near, b.assignment) → state_of next ≡ (map goal_of b.goals.items ++ map goal_of p.near.items, b.assignment)
+state_of-joined_full p b next near q w = w ∙ ap (λ (gs : List code.Goal). (map goal_of b.goals.items ++ map goal_of gs, b.assignment)) q
 
 pub joined_facts : (k : Known) (s : State) (c : Choice) (p : Parts) (b next : Branch) (near : List code.Goal) (items : List Branch) (i : ℕ) → IsChoice k s c → AreParts (goal_of c.goal) c.assignment (map goal_of c.rest.items) p → items ≡ c.branches.items → i < length items → b ≡ get_or items i b → near ≡ p.near.items → state_of next ≡ (map goal_of b.goals.items ++ map goal_of near, b.assignment) → (sizes (map goal_of next.goals.items) < sizes s.0) × IsWithin (state_of next)
 joined_facts k s c p b next near items i h a e lt at q w =
     let small : State → Type 0 = IsSmaller c.assignment (size_of (goal_of c.goal)) in
     let m : IsSmaller c.assignment (size_of (goal_of c.goal)) (state_of b) = all_at small state_of items i b lt at (subst (λ (xs : List Branch). AllByRecursion small (map state_of xs)) (sym e) h.branches.each) in
-    let full = joined_full p b next near q w in
+    let full = state_of-joined_full p b next near q w in
     (subst (λ (t : State). sizes t.0 < sizes s.0) (sym full) (joined_smaller k s c p (state_of b) h a m), subst (λ (t : State). IsWithin t) (sym full) (joined_within k s c p (state_of b) h a m))
 
 pub next_solves : (k : Known) (s : State) (c : Choice) (p : Parts) (b next : Branch) (near : List code.Goal) (items : List Branch) (i : ℕ) → IsChoice k s c → AreParts (goal_of c.goal) c.assignment (map goal_of c.rest.items) p → items ≡ c.branches.items → i < length items → b ≡ get_or items i b → near ≡ p.near.items → state_of next ≡ (map goal_of b.goals.items ++ map goal_of near, b.assignment) → Solvable k (map goal_of p.far.items) c.assignment → Solvable k (map goal_of next.goals.items) next.assignment → Solvable k s.0 s.1
 next_solves k s c p b next near items i h a e lt at q w f x =
-    let full = joined_full p b next near q w in
+    let full = state_of-joined_full p b next near q w in
     found_solves k s c p h a f
     (subst (λ (xs : List Branch). SomeOf (λ t. Solvable k (t.0 ++ map goal_of p.near.items) t.1) (map state_of xs)) e
     (some_at (λ t. Solvable k (t.0 ++ map goal_of p.near.items) t.1) state_of items i b lt at (subst (λ (t : State). Solvable k t.0 t.1) full x)))
 
 pub next_fails : (k : Known) (p : Parts) (b next : Branch) (near : List code.Goal) (items : List Branch) (i : ℕ) → i < length items → b ≡ get_or items i b → near ≡ p.near.items → state_of next ≡ (map goal_of b.goals.items ++ map goal_of near, b.assignment) → (Solvable k (map goal_of next.goals.items) next.assignment → ⊥) → (SomeOf (λ t. Solvable k (t.0 ++ map goal_of p.near.items) t.1) (map state_of (take i items)) → ⊥) → SomeOf (λ t. Solvable k (t.0 ++ map goal_of p.near.items) t.1) (map state_of (take (i + 1) items)) → ⊥
 next_fails k p b next near items i lt at q w n m x =
-    let full = joined_full p b next near q w in
+    let full = state_of-joined_full p b next near q w in
     none_so_far (λ t. Solvable k (t.0 ++ map goal_of p.near.items) t.1) state_of items i b lt at (λ y. n (subst (λ (t : State). Solvable k t.0 t.1) (sym full) y)) m x
 
 take_past : {X : Type 0} (xs : List X) (i : ℕ) → length xs ≤ i → take i xs ≡ xs

@@ -106,8 +106,8 @@ pub told_one_deep : (a b n : ℕ) (x : Bool) → (n ≡ 0 → ⊥) → x ≡ nat
 told_one_deep a b n x h ex k = told_inside (max a b) n false h (sym (le_of_max a b (n - 1) ∙ ap (λ c. c && nat_le b (n - 1)) (sym ex ∙ k)))
 
 -- two parts
-pub told_both : (a b n : ℕ) → (nat_le a n && nat_le b n) ≡ nat_le (max a b) n
-told_both a b n = sym (le_of_max a b n)
+pub and-told_both : (a b n : ℕ) → (nat_le a n && nat_le b n) ≡ nat_le (max a b) n
+and-told_both a b n = sym (le_of_max a b n)
 
 pub ruleset term_rules = (deep_term, told_one, told_inside)
 

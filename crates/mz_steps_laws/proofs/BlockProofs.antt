@@ -160,20 +160,20 @@ taken [] [] = refl
 taken [] (y ∷ ys) = refl
 taken (x ∷ xs) ys = ap (λ zs. x ∷ zs) (taken xs ys)
 
-cut : {X : Type 0} (xs ys : List X) → (zs : List X) × (ys ≡ xs ++ zs) → take (length xs) ys ≡ xs
-cut xs ys p = ap (take (length xs)) p.1 ∙ taken xs p.0
+take-cut : {X : Type 0} (xs ys : List X) → (zs : List X) × (ys ≡ xs ++ zs) → take (length xs) ys ≡ xs
+take-cut xs ys p = ap (take (length xs)) p.1 ∙ taken xs p.0
 
 pub block_law : BlockLaw
 block_law c d whole g = λ i. record {
   article = g.article i;
   counts = g.counts i;
-  constants = (ap trimmed (cut c.constants d.constants g.constants) ∙ whole) i;
-  reserved = cut c.reserved d.reserved g.reserved i;
-  labelled = cut c.labelled d.labelled g.labelled i;
+  constants = (ap trimmed (take-cut c.constants d.constants g.constants) ∙ whole) i;
+  reserved = take-cut c.reserved d.reserved g.reserved i;
+  labelled = take-cut c.labelled d.labelled g.labelled i;
   previous = c.previous;
-  functors = cut c.functors d.functors g.functors i;
-  predicates = cut c.predicates d.predicates g.predicates i;
-  letters = cut c.letters d.letters g.letters i;
+  functors = take-cut c.functors d.functors g.functors i;
+  predicates = take-cut c.predicates d.predicates g.predicates i;
+  letters = take-cut c.letters d.letters g.letters i;
   thesis = c.thesis;
   it = g.it_is i;
   arguments = g.arguments i;

@@ -20,8 +20,8 @@ bool_cases : (b : Bool) → (b ≡ true) ⊎ (b ≡ false)
 bool_cases true = inl refl
 bool_cases false = inr refl
 
-one_more : {T : Type 0} (p : T → Bool) (xs : List T) (x : T) (b : Bool) → p x ≡ b → filter p (xs ++ x ∷ []) ≡ filter p xs ++ cond b (x ∷ []) []
-one_more p xs x b e = filter-append p xs (x ∷ []) ∙ ap (λ c. filter p xs ++ cond c (x ∷ []) []) e
+filter-one_more : {T : Type 0} (p : T → Bool) (xs : List T) (x : T) (b : Bool) → p x ≡ b → filter p (xs ++ x ∷ []) ≡ filter p xs ++ cond b (x ∷ []) []
+filter-one_more p xs x b e = filter-append p xs (x ∷ []) ∙ ap (λ c. filter p xs ++ cond c (x ∷ []) []) e
 
 pub grouped_more : {K T : Type 0} (cmp : K → K → Ordering) (has : K → T → Bool) → ((k q : K) → eq_by_cmp cmp k q ≡ true → (x : T) → has k x ≡ has q x) → (xs : List T) (x : T) (k : K) (old mid new : BTreeMap K (Vec (Arc T Global) Global)) (g : Vec (Arc T Global) Global) (before : List T) → AreGrouped cmp has xs old → ((q : K) → has q x ≡ eq_by_cmp cmp k q) → before ≡ group_at cmp old k → ((q : K) → get cmp mid q ≡ cond (eq_by_cmp cmp k q) None (get cmp old q)) → map arc_value g.items ≡ before ++ x ∷ [] → ((q : K) → get cmp new q ≡ cond (eq_by_cmp cmp k q) (Some g) (get cmp mid q)) → AreGrouped cmp has (xs ++ x ∷ []) new
 grouped_more cmp has respects xs x k old mid new g before a is b others all put q =
@@ -29,10 +29,10 @@ grouped_more cmp has respects xs x k old mid new g before a is b others all put 
       | inl e ↦
           let found : get cmp new q ≡ Some g = put q ∙ ap (λ c. cond c (Some g) (get cmp mid q)) e in
           let group : before ≡ filter (has q) xs = b ∙ (a k ∙ filter_alike (has k) (has q) (respects k q e) xs) in
-          ap values_in found ∙ (all ∙ (ap (λ ys. ys ++ x ∷ []) group ∙ sym (one_more (has q) xs x true (is q ∙ e))))
+          ap values_in found ∙ (all ∙ (ap (λ ys. ys ++ x ∷ []) group ∙ sym (filter-one_more (has q) xs x true (is q ∙ e))))
       | inr e ↦
           let found : get cmp new q ≡ get cmp old q = put q ∙ (ap (λ c. cond c (Some g) (get cmp mid q)) e ∙ (others q ∙ ap (λ c. cond c None (get cmp old q)) e)) in
-          ap values_in found ∙ (a q ∙ (sym (append-nil (filter (has q) xs)) ∙ sym (one_more (has q) xs x false (is q ∙ e))))
+          ap values_in found ∙ (a q ∙ (sym (append-nil (filter (has q) xs)) ∙ sym (filter-one_more (has q) xs x false (is q ∙ e))))
     ]
 
 -- the same by the shared entries themselves

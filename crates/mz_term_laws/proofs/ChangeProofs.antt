@@ -223,9 +223,9 @@ letter_law least c l w h =
     }
 
 -- nothing is put into a context
-nothing_at : (n : ℕ) → numbered [] n ≡ None
-nothing_at zero = refl
-nothing_at (suc n) = refl
+numbered-nothing_at : (n : ℕ) → numbered [] n ≡ None
+numbered-nothing_at zero = refl
+numbered-nothing_at (suc n) = refl
 
 not_there : {X : Type 0} (xs : List X) (x : X) → xs ≡ [] → Contains xs x → ⊥
 not_there {X} xs x e c = let i : Contains [] x = subst (λ (ys : List X). Contains ys x) e c in let lt = i.1 in omega arith
@@ -236,7 +236,7 @@ not_any o x e h = none_some x (sym e ∙ h)
 pub empty_law : EmptyLaw
 empty_law least c w =
     record {
-      constants = λ n k e le. absurd (none_some k (sym (nothing_at n) ∙ (ap (λ ks. numbered ks n) (sym w.constants) ∙ e)));
+      constants = λ n k e le. absurd (none_some k (sym (numbered-nothing_at n) ∙ (ap (λ ks. numbered ks n) (sym w.constants) ∙ e)));
       reserved = λ v i f. absurd (not_there c.reserved v w.reserved i);
       labelled = λ p i f. absurd (not_there c.labelled p w.labelled i);
       previous = λ s e f. absurd (not_any c.previous s w.previous e);

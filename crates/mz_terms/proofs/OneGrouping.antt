@@ -70,33 +70,33 @@ only_nothing from steps (as_nothing h k) = sym k
 only_nothing from steps (as_operand h k) = cc
 only_nothing from steps (as_split s) = absurd (not_empty s.before s.behind (Symbol s.rank s.after) (sym s.is))
 
-only_operand : (from : ℕ) (steps : List Step) → GroupedAs from (Operand ∷ []) steps → Take from ∷ [] ≡ steps
-only_operand from steps (as_nothing h k) = cc
-only_operand from steps (as_operand h k) = sym k
-only_operand from steps (as_split s) = absurd (not_operand s.before s.behind s.rank s.after (sym s.is))
+cons-only_operand : (from : ℕ) (steps : List Step) → GroupedAs from (Operand ∷ []) steps → Take from ∷ [] ≡ steps
+cons-only_operand from steps (as_nothing h k) = cc
+cons-only_operand from steps (as_operand h k) = sym k
+cons-only_operand from steps (as_split s) = absurd (not_operand s.before s.behind s.rank s.after (sym s.is))
 
-joined : (from : ℕ) (before others behind rest : List Part) (ls ms rs ns : List Step) → before ≡ others → behind ≡ rest → ls ≡ ms → rs ≡ ns →
+append-joined : (from : ℕ) (before others behind rest : List Part) (ls ms rs ns : List Step) → before ≡ others → behind ≡ rest → ls ≡ ms → rs ≡ ns →
     ls ++ rs ++ Apply (from + length before) (nat_lt 0 (length before)) (nat_lt 0 (length behind)) ∷ [] ≡ ms ++ ns ++ Apply (from + length others) (nat_lt 0 (length others)) (nat_lt 0 (length rest)) ∷ []
-joined from before others behind rest ls ms rs ns e f g h =
+append-joined from before others behind rest ls ms rs ns e f g h =
     ap (λ xs. xs ++ rs ++ Apply (from + length before) (nat_lt 0 (length before)) (nat_lt 0 (length behind)) ∷ []) g
     ∙ (ap (λ xs. ms ++ xs ++ Apply (from + length before) (nat_lt 0 (length before)) (nat_lt 0 (length behind)) ∷ []) h
     ∙ (ap (λ xs. ms ++ ns ++ Apply (from + length xs) (nat_lt 0 (length xs)) (nat_lt 0 (length behind)) ∷ []) e
     ∙ ap (λ xs. ms ++ ns ++ Apply (from + length others) (nat_lt 0 (length others)) (nat_lt 0 (length xs)) ∷ []) f))
 
-split_once : (from : ℕ) (before behind : List Part) (rank : ℕ) (after : Bool) (ls rs more : List Step) → head_of from (before ++ Symbol rank after ∷ behind) ≡ Some (record { place = from + length before; rank = rank; after = after }) →
+append-split_once : (from : ℕ) (before behind : List Part) (rank : ℕ) (after : Bool) (ls rs more : List Step) → head_of from (before ++ Symbol rank after ∷ behind) ≡ Some (record { place = from + length before; rank = rank; after = after }) →
     ((ms : List Step) → Grouped from before ms → ls ≡ ms) → ((ns : List Step) → Grouped (from + suc (length before)) behind ns → rs ≡ ns) → GroupedAs from (before ++ Symbol rank after ∷ behind) more →
     ls ++ rs ++ Apply (from + length before) (nat_lt 0 (length before)) (nat_lt 0 (length behind)) ∷ [] ≡ more
-split_once from before behind rank after ls rs more h f g (as_nothing e t) = absurd (not_empty before behind (Symbol rank after) e)
-split_once from before behind rank after ls rs more h f g (as_operand e t) = absurd (not_operand before behind rank after e)
-split_once from before behind rank after ls rs more h f g (as_split s) =
+append-split_once from before behind rank after ls rs more h f g (as_nothing e t) = absurd (not_empty before behind (Symbol rank after) e)
+append-split_once from before behind rank after ls rs more h f g (as_operand e t) = absurd (not_operand before behind rank after e)
+append-split_once from before behind rank after ls rs more h f g (as_split s) =
     let at : from + length before ≡ from + length s.before = same_place _ _ _ h s.head in
     let same : Same before s.before behind s.behind = same_length before s.before behind s.behind (Symbol rank after) (Symbol s.rank s.after) s.is (omega (arith, at)) in
     let front : ls ≡ s.ls = f s.ls (subst (λ xs. Grouped from xs s.ls) (sym same.front) s.left) in
     let back : rs ≡ s.rs = g s.rs (subst (λ xs. Grouped (from + suc (length xs)) behind s.rs) (sym same.front) (subst (λ xs. Grouped (from + suc (length s.before)) xs s.rs) (sym same.back) s.right)) in
-    joined from before s.before behind s.behind ls s.ls rs s.rs same.front same.back front back ∙ sym s.all
+    append-joined from before s.before behind s.behind ls s.ls rs s.rs same.front same.back front back ∙ sym s.all
 
 pub one_grouping : (from : ℕ) (run : List Part) (steps more : List Step) → Grouped from run steps → Grouped from run more → steps ≡ more
 one_grouping from run steps more (gr.nothing f) k = only_nothing from more (grouped_as from [] more k)
-one_grouping from run steps more (gr.operand f) k = only_operand from more (grouped_as from (Operand ∷ []) more k)
+one_grouping from run steps more (gr.operand f) k = cons-only_operand from more (grouped_as from (Operand ∷ []) more k)
 one_grouping from run steps more (gr.headed f before behind rank after ls rs h g r) k =
-    split_once from before behind rank after ls rs more h (λ ms q. one_grouping from before ls ms g q) (λ ns q. one_grouping (from + suc (length before)) behind rs ns r q) (grouped_as from (before ++ Symbol rank after ∷ behind) more k)
+    append-split_once from before behind rank after ls rs more h (λ ms q. one_grouping from before ls ms g q) (λ ns q. one_grouping (from + suc (length before)) behind rs ns r q) (grouped_as from (before ++ Symbol rank after ∷ behind) more k)

@@ -224,8 +224,8 @@ same_further : (p q : PieceData) (ps qs : List PieceData) → RunTerm p (pieces_
 unfolding further_pieces
 same_further p q ps qs h = sym (piece_list-of ps) ∙ (ap further_pieces h ∙ piece_list-of qs)
 
-same_run : (p q : PieceData) (ps qs : List PieceData) → RunTerm p (pieces_of ps) ≡ RunTerm q (pieces_of qs) → p ∷ ps ≡ q ∷ qs
-same_run p q ps qs h = ap (λ x. x ∷ ps) (same_first p q ps qs h) ∙ ap (λ xs. q ∷ xs) (same_further p q ps qs h)
+cons-same_run : (p q : PieceData) (ps qs : List PieceData) → RunTerm p (pieces_of ps) ≡ RunTerm q (pieces_of qs) → p ∷ ps ≡ q ∷ qs
+cons-same_run p q ps qs h = ap (λ x. x ∷ ps) (same_first p q ps qs h) ∙ ap (λ xs. q ∷ xs) (same_further p q ps qs h)
 
 same_some : (o : Option Place) (p q : Place) → o ≡ Some p → o ≡ Some q → p ≡ q
 same_some o p q h k = cc
@@ -233,14 +233,14 @@ same_some o p q h k = cc
 neighbours_once : (e : Environment) (c : Context) (least : ℕ) (p : PieceData) (ps : List PieceData) (first : Place) (o : Result Term Refusal) → first_place (spell_term (RunTerm p (pieces_of ps))) ≡ Some first → has_neighbours (parts_of e (p ∷ ps)) ≡ true → TermAs e c least (RunTerm p (pieces_of ps)) o → Err (NoNotation first) ≡ o
 neighbours_once e c least p ps first o ef h (as_neighbours q qs at et ea k eo) = ap (λ x. Err (NoNotation x)) (same_some _ first at ef ea) ∙ sym eo
 neighbours_once e c least p ps first o ef h (as_run q qs at steps x et ea k g j eo) =
-    absurd (not_both (has_neighbours (parts_of e (q ∷ qs))) k (subst (λ xs. has_neighbours (parts_of e xs) ≡ true) (same_run p q ps qs et) h))
+    absurd (not_both (has_neighbours (parts_of e (q ∷ qs))) k (subst (λ xs. has_neighbours (parts_of e xs) ≡ true) (cons-same_run p q ps qs et) h))
 
-run_once : (e : Environment) (c : Context) (least : ℕ) (p : PieceData) (ps : List PieceData) (first : Place) (steps : List Step) (x : Result (List RunValue) Refusal) (o : Result Term Refusal) → first_place (spell_term (RunTerm p (pieces_of ps))) ≡ Some first → has_neighbours (parts_of e (p ∷ ps)) ≡ false → Grouped 0 (parts_of e (p ∷ ps)) steps →
+term_behind-run_once : (e : Environment) (c : Context) (least : ℕ) (p : PieceData) (ps : List PieceData) (first : Place) (steps : List Step) (x : Result (List RunValue) Refusal) (o : Result Term Refusal) → first_place (spell_term (RunTerm p (pieces_of ps))) ≡ Some first → has_neighbours (parts_of e (p ∷ ps)) ≡ false → Grouped 0 (parts_of e (p ∷ ps)) steps →
     ((y : Result (List RunValue) Refusal) → Runs e c least first (p ∷ ps) steps [] y → x ≡ y) → TermAs e c least (RunTerm p (pieces_of ps)) o → term_behind first x ≡ o
-run_once e c least p ps first steps x o ef h g f (as_neighbours q qs at et ea k eo) =
-    absurd (not_both (has_neighbours (parts_of e (p ∷ ps))) h (subst (λ xs. has_neighbours (parts_of e xs) ≡ true) (sym (same_run p q ps qs et)) k))
-run_once e c least p ps first steps x o ef h g f (as_run q qs at more y et ea k j r eo) =
-    let run : q ∷ qs ≡ p ∷ ps = sym (same_run p q ps qs et) in
+term_behind-run_once e c least p ps first steps x o ef h g f (as_neighbours q qs at et ea k eo) =
+    absurd (not_both (has_neighbours (parts_of e (p ∷ ps))) h (subst (λ xs. has_neighbours (parts_of e xs) ≡ true) (sym (cons-same_run p q ps qs et)) k))
+term_behind-run_once e c least p ps first steps x o ef h g f (as_run q qs at more y et ea k j r eo) =
+    let run : q ∷ qs ≡ p ∷ ps = sym (cons-same_run p q ps qs et) in
     let here : at ≡ first = sym (same_some _ first at ef ea) in
     let grouped : Grouped 0 (parts_of e (p ∷ ps)) more = subst (λ xs. Grouped 0 (parts_of e xs) more) run j in
     let steps_same : more ≡ steps = sym (one_grouping 0 (parts_of e (p ∷ ps)) steps more g grouped) in
@@ -312,12 +312,12 @@ apart : (w : Word) (n : ℕ) (ps : PrefixList) (b : BaseData) → FunctorPiece w
 unfolding is_functor
 apart w n ps b h = let e : true ≡ false = ap is_functor h in not_both true e refl
 
-operand_once : (e : Environment) (c : Context) (least : ℕ) (first : Place) (ps : List PrefixData) (b : BaseData) (at : Place) (vs : List RunValue) (x : Result (List Term) Refusal) (o : Result (List RunValue) Refusal) → first_place (spell_piece (OperandPiece (prefixs_of ps) b)) ≡ Some at → ((y : Result (List Term) Refusal) → ReadsOperand e c least ps b y → x ≡ y) → PieceAs e c least first (OperandPiece (prefixs_of ps) b) vs o → put_terms at vs x ≡ o
-operand_once e c least first ps b at vs x o ef f (as_operand qs d there y ex ea h eo) =
+put_terms-operand_once : (e : Environment) (c : Context) (least : ℕ) (first : Place) (ps : List PrefixData) (b : BaseData) (at : Place) (vs : List RunValue) (x : Result (List Term) Refusal) (o : Result (List RunValue) Refusal) → first_place (spell_piece (OperandPiece (prefixs_of ps) b)) ≡ Some at → ((y : Result (List Term) Refusal) → ReadsOperand e c least ps b y → x ≡ y) → PieceAs e c least first (OperandPiece (prefixs_of ps) b) vs o → put_terms at vs x ≡ o
+put_terms-operand_once e c least first ps b at vs x o ef f (as_operand qs d there y ex ea h eo) =
     let one : ReadsOperand e c least ps d y = subst (λ xs. ReadsOperand e c least xs d y) (sym (same_operands ps qs b d ex)) h in
     let two : ReadsOperand e c least ps b y = subst (λ z. ReadsOperand e c least ps z y) (sym (same_bases (prefixs_of ps) (prefixs_of qs) b d ex)) one in
     ap (put_terms at vs) (f y two) ∙ (ap (λ z. put_terms z vs y) (same_some _ at there ef ea) ∙ sym eo)
-operand_once e c least first ps b at vs x o ef f (as_symbol w n ex eo) = absurd (apart w n (prefixs_of ps) b (sym ex))
+put_terms-operand_once e c least first ps b at vs x o ef f (as_symbol w n ex eo) = absurd (apart w n (prefixs_of ps) b (sym ex))
 
 symbol_once : (e : Environment) (c : Context) (least : ℕ) (first : Place) (w : Word) (n : ℕ) (vs : List RunValue) (o : Result (List RunValue) Refusal) → PieceAs e c least first (FunctorPiece w n) vs o → Err (NoNotation first) ≡ o
 symbol_once e c least first w n vs o (as_operand qs d there y ex ea h eo) = absurd (apart w n (prefixs_of qs) d ex)
@@ -388,9 +388,9 @@ mutual
   pub one_term : (e : Environment) (c : Context) (least : ℕ) (t : TermData) (o : Result Term Refusal) → ReadsTerm e c least t o → (p : Result Term Refusal) → ReadsTerm e c least t p → o ≡ p
   one_term e c least t o (te.neighbours q qs first ef h) p k = neighbours_once e c least q qs first p ef h (term_as e c least (RunTerm q (pieces_of qs)) p k)
   one_term e c least t o (te.run_refused q qs first steps r ef h g j) p k =
-      run_once e c least q qs first steps (Err r) p ef h g (λ y l. one_runs e c least first (q ∷ qs) steps [] (Err r) j y l) (term_as e c least (RunTerm q (pieces_of qs)) p k)
+      term_behind-run_once e c least q qs first steps (Err r) p ef h g (λ y l. one_runs e c least first (q ∷ qs) steps [] (Err r) j y l) (term_as e c least (RunTerm q (pieces_of qs)) p k)
   one_term e c least t o (te.run_read q qs first steps vs ef h g j) p k =
-      run_once e c least q qs first steps (Ok vs) p ef h g (λ y l. one_runs e c least first (q ∷ qs) steps [] (Ok vs) j y l) (term_as e c least (RunTerm q (pieces_of qs)) p k)
+      term_behind-run_once e c least q qs first steps (Ok vs) p ef h g (λ y l. one_runs e c least first (q ∷ qs) steps [] (Ok vs) j y l) (term_as e c least (RunTerm q (pieces_of qs)) p k)
 
   one_runs : (e : Environment) (c : Context) (least : ℕ) (first : Place) (run : List PieceData) (steps : List Step) (vs : List RunValue) (o : Result (List RunValue) Refusal) → Runs e c least first run steps vs o → (p : Result (List RunValue) Refusal) → Runs e c least first run steps vs p → o ≡ p
   one_runs e c least first run steps vs o (te.no_step f l us) p k = sym (runs_as e c least f l [] us p k)
@@ -421,7 +421,7 @@ mutual
 
   one_piece : (e : Environment) (c : Context) (least : ℕ) (first : Place) (x : PieceData) (vs : List RunValue) (o : Result (List RunValue) Refusal) → TakesPiece e c least first x vs o → (p : Result (List RunValue) Refusal) → TakesPiece e c least first x vs p → o ≡ p
   one_piece e c least first x vs o (te.takes_operand f ps b at us y ef h) p k =
-      operand_once e c least f ps b at us y p ef (λ z l. one_operand e c least ps b y h z l) (piece_as e c least f (OperandPiece (prefixs_of ps) b) us p k)
+      put_terms-operand_once e c least f ps b at us y p ef (λ z l. one_operand e c least ps b y h z l) (piece_as e c least f (OperandPiece (prefixs_of ps) b) us p k)
   one_piece e c least first x vs o (te.takes_symbol f w n us) p k = symbol_once e c least f w n us p (piece_as e c least f (FunctorPiece w n) us p k)
 
   one_operand : (e : Environment) (c : Context) (least : ℕ) (ps : List PrefixData) (b : BaseData) (o : Result (List Term) Refusal) → ReadsOperand e c least ps b o → (p : Result (List Term) Refusal) → ReadsOperand e c least ps b p → o ≡ p

@@ -37,8 +37,8 @@ told_takes e symbol xs b ex eb = eb ∙ (ap (list_any (has_argument symbol)) ex 
 
 pub ruleset takes_rules = (told_takes)
 
-pub told_next : (e : Environment) (before after : Neighbour) (out more whole : List Part) (node : PieceNode) (rest others : List PieceNode) → rest ≡ node ∷ others → more ≡ out ++ part_of e before (piece_of node) ∷ [] → after ≡ neighbour_of e (piece_of node) → out ++ parts_behind e before (map piece_of rest) ≡ whole → more ++ parts_behind e after (map piece_of others) ≡ whole
-told_next e before after out more whole node rest others er em ea so =
+pub append-told_next : (e : Environment) (before after : Neighbour) (out more whole : List Part) (node : PieceNode) (rest others : List PieceNode) → rest ≡ node ∷ others → more ≡ out ++ part_of e before (piece_of node) ∷ [] → after ≡ neighbour_of e (piece_of node) → out ++ parts_behind e before (map piece_of rest) ≡ whole → more ++ parts_behind e after (map piece_of others) ≡ whole
+append-told_next e before after out more whole node rest others er em ea so =
     let one : out ++ parts_behind e before (map piece_of (node ∷ others)) ≡ whole = ap (λ xs. out ++ parts_behind e before (map piece_of xs)) (sym er) ∙ so in
     ap (λ xs. xs ++ parts_behind e after (map piece_of others)) em ∙ (append_assoc out (part_of e before (piece_of node) ∷ []) (parts_behind e after (map piece_of others))
     ∙ (ap (λ b. out ++ part_of e before (piece_of node) ∷ parts_behind e b (map piece_of others)) ea ∙ one))
@@ -50,4 +50,4 @@ append_nil (x ∷ xs) = ap (λ ys. x ∷ ys) (append_nil xs)
 pub told_all : (e : Environment) (before : Neighbour) (out whole : List Part) (rest : List PieceNode) → length rest ≡ 0 → out ++ parts_behind e before (map piece_of rest) ≡ whole → out ≡ whole
 told_all e before out whole rest er so = sym (ap (λ xs. out ++ parts_behind e before (map piece_of xs)) (empty rest er) ∙ append_nil out) ∙ so
 
-pub ruleset run_rules = (told_next, told_all)
+pub ruleset run_rules = (append-told_next, told_all)

@@ -28,13 +28,13 @@ map_last : (xs : List PrefixNode) (x : PrefixNode) → map prefix_of (xs ++ x �
 map_last [] x = refl
 map_last (y ∷ ys) x = ap (λ zs. prefix_of y ∷ zs) (map_last ys x)
 
-last_first : (rest before : List PrefixNode) (last : PrefixNode) → rest ≡ before ++ last ∷ [] → reverse (map prefix_of rest) ≡ prefix_of last ∷ reverse (map prefix_of before)
-last_first rest before last er = ap (λ xs. reverse (map prefix_of xs)) er ∙ (ap reverse (map_last before last) ∙ reverse-append (map prefix_of before) (prefix_of last ∷ []))
+reverse-last_first : (rest before : List PrefixNode) (last : PrefixNode) → rest ≡ before ++ last ∷ [] → reverse (map prefix_of rest) ≡ prefix_of last ∷ reverse (map prefix_of before)
+reverse-last_first rest before last er = ap (λ xs. reverse (map prefix_of xs)) er ∙ (ap reverse (map_last before last) ∙ reverse-append (map prefix_of before) (prefix_of last ∷ []))
 
 -- the prefix that is the last one
 pub prefixed_as : (e : Environment) (c : Context) (rest before : List PrefixNode) (last other : PrefixNode) (x : PrefixData) (ts : List Term) (o : Result (List Term) Refusal) → rest ≡ before ++ last ∷ [] → last ≡ other → prefix_of other ≡ x → Prefixed e c (x ∷ reverse (map prefix_of before)) ts o → Prefixed e c (reverse (map prefix_of rest)) ts o
 prefixed_as e c rest before last other x ts o er el ex h =
-    subst (λ ps. Prefixed e c ps ts o) (sym (last_first rest before last er ∙ ap (λ p. p ∷ reverse (map prefix_of before)) (ap prefix_of el ∙ ex))) h
+    subst (λ ps. Prefixed e c ps ts o) (sym (reverse-last_first rest before last er ∙ ap (λ p. p ∷ reverse (map prefix_of before)) (ap prefix_of el ∙ ex))) h
 
 -- what the rest gives, all gives
 abbrev pub Gives : Environment → Context → List PrefixNode → List Term → List PrefixNode → List Term → Type 0

@@ -111,61 +111,61 @@ told_goes_on e c least first run rest others steps s vs us o er h eo g q k =
 pub ruleset run_rules = (told_no_step, told_stops, told_goes_on)
 
 -- the piece at a place of the run
-got : (xs : List PieceNode) (k : ℕ) (x : PieceNode) → k < length xs → x ≡ get_or xs k x → slice_get (map piece_of xs) k ≡ Some (piece_of x)
-got [] k x lt at = absurd (omega (arith, lt))
-got (y ∷ ys) zero x lt at = ap (λ z. Some (piece_of z)) (sym at)
-got (y ∷ ys) (suc k) x lt at = got ys k x (omega (arith, lt)) at
+slice_get-got : (xs : List PieceNode) (k : ℕ) (x : PieceNode) → k < length xs → x ≡ get_or xs k x → slice_get (map piece_of xs) k ≡ Some (piece_of x)
+slice_get-got [] k x lt at = absurd (omega (arith, lt))
+slice_get-got (y ∷ ys) zero x lt at = ap (λ z. Some (piece_of z)) (sym at)
+slice_get-got (y ∷ ys) (suc k) x lt at = slice_get-got ys k x (omega (arith, lt)) at
 
-later : (p : PieceData) (ps : List PieceData) (k : ℕ) (o : Option PieceData) → (k ≡ 0 → ⊥) → slice_get ps (k - 1) ≡ o → slice_get (p ∷ ps) k ≡ o
-later p ps zero o h e = absurd (h refl)
-later p ps (suc k) o h e = let less : suc k - 1 ≡ k = omega arith in subst (λ n. slice_get ps n ≡ o) less e
+slice_get-later : (p : PieceData) (ps : List PieceData) (k : ℕ) (o : Option PieceData) → (k ≡ 0 → ⊥) → slice_get ps (k - 1) ≡ o → slice_get (p ∷ ps) k ≡ o
+slice_get-later p ps zero o h e = absurd (h refl)
+slice_get-later p ps (suc k) o h e = let less : suc k - 1 ≡ k = omega arith in subst (λ n. slice_get ps n ≡ o) less e
 
-past : (xs : List PieceNode) (k : ℕ) → length xs ≤ k → slice_get (map piece_of xs) k ≡ None
-past [] k h = refl
-past (x ∷ xs) zero h = absurd (omega (arith, h))
-past (x ∷ xs) (suc k) h = past xs k (omega (arith, h))
+slice_get-past : (xs : List PieceNode) (k : ℕ) → length xs ≤ k → slice_get (map piece_of xs) k ≡ None
+slice_get-past [] k h = refl
+slice_get-past (x ∷ xs) zero h = absurd (omega (arith, h))
+slice_get-past (x ∷ xs) (suc k) h = slice_get-past xs k (omega (arith, h))
 
-zeroth : (p : PieceData) (ps : List PieceData) (k : ℕ) → k ≡ 0 → slice_get (p ∷ ps) k ≡ Some p
-zeroth p ps zero h = refl
-zeroth p ps (suc k) h = absurd (omega (arith, h))
+slice_get-zeroth : (p : PieceData) (ps : List PieceData) (k : ℕ) → k ≡ 0 → slice_get (p ∷ ps) k ≡ Some p
+slice_get-zeroth p ps zero h = refl
+slice_get-zeroth p ps (suc k) h = absurd (omega (arith, h))
 
 step_as : (e : Environment) (c : Context) (least : ℕ) (first : Place) (run : List PieceData) (s t : Step) (vs : List RunValue) (o : Result (List RunValue) Refusal) → s ≡ t → RunsStep e c least first run t vs o → RunsStep e c least first run s vs o
 step_as e c least first run s t vs o es h = subst (λ x. RunsStep e c least first run x vs o) (sym es) h
 
 pub told_takes_first : (e : Environment) (c : Context) (least : ℕ) (first : Place) (p : PieceNode) (ps : List PieceNode) (s : Step) (k : ℕ) (vs : List RunValue) (o : Result (List RunValue) Refusal) → s ≡ Take k → k ≡ 0 → TakesPiece e c least first (piece_of p) vs o → RunsStep e c least first (piece_of p ∷ map piece_of ps) s vs o
-told_takes_first e c least first p ps s k vs o es ek h = step_as e c least first _ s (Take k) vs o es (te.takes first _ k (piece_of p) vs o (zeroth (piece_of p) (map piece_of ps) k ek) h)
+told_takes_first e c least first p ps s k vs o es ek h = step_as e c least first _ s (Take k) vs o es (te.takes first _ k (piece_of p) vs o (slice_get-zeroth (piece_of p) (map piece_of ps) k ek) h)
 
 pub told_takes_past : (e : Environment) (c : Context) (least : ℕ) (first : Place) (p : PieceNode) (ps : List PieceNode) (s : Step) (k : ℕ) (vs : List RunValue) → s ≡ Take k → (k ≡ 0 → ⊥) → length ps ≤ k - 1 → RunsStep e c least first (piece_of p ∷ map piece_of ps) s vs (Err (NoNotation first))
 told_takes_past e c least first p ps s k vs es ek h =
-    step_as e c least first _ s (Take k) vs (Err (NoNotation first)) es (te.takes_nothing first _ k vs (later (piece_of p) (map piece_of ps) k None ek (past ps (k - 1) h)))
+    step_as e c least first _ s (Take k) vs (Err (NoNotation first)) es (te.takes_nothing first _ k vs (slice_get-later (piece_of p) (map piece_of ps) k None ek (slice_get-past ps (k - 1) h)))
 
 pub told_takes_later : (e : Environment) (c : Context) (least : ℕ) (first : Place) (p x : PieceNode) (ps : List PieceNode) (s : Step) (k : ℕ) (vs : List RunValue) (o : Result (List RunValue) Refusal) → s ≡ Take k → (k ≡ 0 → ⊥) → k - 1 < length ps → x ≡ get_or ps (k - 1) x → TakesPiece e c least first (piece_of x) vs o → RunsStep e c least first (piece_of p ∷ map piece_of ps) s vs o
 told_takes_later e c least first p x ps s k vs o es ek lt at h =
-    step_as e c least first _ s (Take k) vs o es (te.takes first _ k (piece_of x) vs o (later (piece_of p) (map piece_of ps) k (Some (piece_of x)) ek (got ps (k - 1) x lt at)) h)
+    step_as e c least first _ s (Take k) vs o es (te.takes first _ k (piece_of x) vs o (slice_get-later (piece_of p) (map piece_of ps) k (Some (piece_of x)) ek (slice_get-got ps (k - 1) x lt at)) h)
 
 pub told_applies_first : (e : Environment) (c : Context) (least : ℕ) (first : Place) (p : PieceNode) (ps : List PieceNode) (s : Step) (k : ℕ) (left right : Bool) (vs : List RunValue) (o : Result (List RunValue) Refusal) → s ≡ Apply k left right → k ≡ 0 → AppliesPiece e c first left right (piece_of p) vs o → RunsStep e c least first (piece_of p ∷ map piece_of ps) s vs o
 told_applies_first e c least first p ps s k left right vs o es ek h =
-    step_as e c least first _ s (Apply k left right) vs o es (te.applies first _ k left right (piece_of p) vs o (zeroth (piece_of p) (map piece_of ps) k ek) h)
+    step_as e c least first _ s (Apply k left right) vs o es (te.applies first _ k left right (piece_of p) vs o (slice_get-zeroth (piece_of p) (map piece_of ps) k ek) h)
 
 pub told_applies_past : (e : Environment) (c : Context) (least : ℕ) (first : Place) (p : PieceNode) (ps : List PieceNode) (s : Step) (k : ℕ) (left right : Bool) (vs : List RunValue) → s ≡ Apply k left right → (k ≡ 0 → ⊥) → length ps ≤ k - 1 → RunsStep e c least first (piece_of p ∷ map piece_of ps) s vs (Err (NoNotation first))
 told_applies_past e c least first p ps s k left right vs es ek h =
-    step_as e c least first _ s (Apply k left right) vs (Err (NoNotation first)) es (te.applies_nothing first _ k left right vs (later (piece_of p) (map piece_of ps) k None ek (past ps (k - 1) h)))
+    step_as e c least first _ s (Apply k left right) vs (Err (NoNotation first)) es (te.applies_nothing first _ k left right vs (slice_get-later (piece_of p) (map piece_of ps) k None ek (slice_get-past ps (k - 1) h)))
 
 pub told_applies_later : (e : Environment) (c : Context) (least : ℕ) (first : Place) (p x : PieceNode) (ps : List PieceNode) (s : Step) (k : ℕ) (left right : Bool) (vs : List RunValue) (o : Result (List RunValue) Refusal) → s ≡ Apply k left right → (k ≡ 0 → ⊥) → k - 1 < length ps → x ≡ get_or ps (k - 1) x → AppliesPiece e c first left right (piece_of x) vs o → RunsStep e c least first (piece_of p ∷ map piece_of ps) s vs o
 told_applies_later e c least first p x ps s k left right vs o es ek lt at h =
-    step_as e c least first _ s (Apply k left right) vs o es (te.applies first _ k left right (piece_of x) vs o (later (piece_of p) (map piece_of ps) k (Some (piece_of x)) ek (got ps (k - 1) x lt at)) h)
+    step_as e c least first _ s (Apply k left right) vs o es (te.applies first _ k left right (piece_of x) vs o (slice_get-later (piece_of p) (map piece_of ps) k (Some (piece_of x)) ek (slice_get-got ps (k - 1) x lt at)) h)
 
 pub ruleset step_rules = (told_takes_first, told_takes_past, told_takes_later, told_applies_first, told_applies_past, told_applies_later)
 
 pub told_takes_symbol : (e : Environment) (c : Context) (least : ℕ) (first : Place) (node : PieceNode) (w : Word) (n : ℕ) (vs : List RunValue) → node ≡ pieces.Functor w n → TakesPiece e c least first (piece_of node) vs (Err (NoNotation first))
 told_takes_symbol e c least first node w n vs en = subst (λ x. TakesPiece e c least first x vs (Err (NoNotation first))) (sym (ap piece_of en ∙ piece_of-functor w n)) (te.takes_symbol first w n vs)
 
-as_operand : (a : OperandNode) → piece_of (pieces.Operand a) ≡ OperandPiece (prefixs_of (map prefix_of a.prefixes.items)) (base_of a.base.value)
-as_operand a = piece_of-operand a ∙ ap (λ x. OperandPiece x.prefixes x.base) (operand_of-is a)
+piece_of-as_operand : (a : OperandNode) → piece_of (pieces.Operand a) ≡ OperandPiece (prefixs_of (map prefix_of a.prefixes.items)) (base_of a.base.value)
+piece_of-as_operand a = piece_of-operand a ∙ ap (λ x. OperandPiece x.prefixes x.base) (operand_of-is a)
 
 pub told_takes_operand : (e : Environment) (c : Context) (least : ℕ) (first at : Place) (node : PieceNode) (a : OperandNode) (vs : List RunValue) (ts : Result (List Term) Refusal) (o : Result (List RunValue) Refusal) → node ≡ pieces.Operand a → first_place (spell_piece (piece_of node)) ≡ Some at → ReadsOperand e c least (map prefix_of a.prefixes.items) (base_of a.base.value) ts → o ≡ put_terms at vs ts → TakesPiece e c least first (piece_of node) vs o
 told_takes_operand e c least first at node a vs ts o en ef h eo =
-    let same : piece_of node ≡ OperandPiece (prefixs_of (map prefix_of a.prefixes.items)) (base_of a.base.value) = ap piece_of en ∙ as_operand a in
+    let same : piece_of node ≡ OperandPiece (prefixs_of (map prefix_of a.prefixes.items)) (base_of a.base.value) = ap piece_of en ∙ piece_of-as_operand a in
     let P : Result (List RunValue) Refusal → Type 0 = λ x. TakesPiece e c least first (piece_of node) vs x in
     subst P (sym eo) (subst (λ x. TakesPiece e c least first x vs (put_terms at vs ts)) (sym same) (te.takes_operand first (map prefix_of a.prefixes.items) (base_of a.base.value) at vs ts (sym (ap (λ x. first_place (spell_piece x)) same) ∙ ef) h))
 
@@ -266,15 +266,15 @@ drop_at k [] x lt e = absurd (omega (arith, lt))
 drop_at zero (y ∷ ys) x lt e = ap (λ z. z ∷ ys) (sym e)
 drop_at (suc k) (y ∷ ys) x lt e = drop_at k ys x (omega (arith, lt)) e
 
-gone : (xs : List (Next Place TermNode)) (i : ℕ) → length xs ≤ i → drop i xs ≡ []
-gone [] zero h = refl
-gone [] (suc i) h = refl
-gone (x ∷ xs) zero h = absurd (omega (arith, h))
-gone (x ∷ xs) (suc i) h = gone xs i (omega (arith, h))
+drop-gone : (xs : List (Next Place TermNode)) (i : ℕ) → length xs ≤ i → drop i xs ≡ []
+drop-gone [] zero h = refl
+drop-gone [] (suc i) h = refl
+drop-gone (x ∷ xs) zero h = absurd (omega (arith, h))
+drop-gone (x ∷ xs) (suc i) h = drop-gone xs i (omega (arith, h))
 
 pub told_no_more : (e : Environment) (c : Context) (least : ℕ) (items : List (Next Place TermNode)) (i : ℕ) (out : List Term) (ts : Chain Place TermNode) → length items ≤ i → GivesTerms e c least items i out ts → ReadsAll e c least (terms_of ts) (Ok out)
 told_no_more e c least items i out ts le g =
-    g (Ok out) (subst (λ xs. ReadsEach e c least (map listed_term (map next_term_of xs)) out (Ok out)) (sym (gone items i le)) (te.no_more out))
+    g (Ok out) (subst (λ xs. ReadsEach e c least (map listed_term (map next_term_of xs)) out (Ok out)) (sym (drop-gone items i le)) (te.no_more out))
 
 pub told_one_refused : (e : Environment) (c : Context) (least : ℕ) (items : List (Next Place TermNode)) (i : ℕ) (n : Next Place TermNode) (out : List Term) (ts : Chain Place TermNode) (o : Result Term Refusal) (r : Refusal) → i < length items → n ≡ get_or items i n → ReadsTerm e c least (term_of n.tree) o → o ≡ Err r → GivesTerms e c least items i out ts → ReadsAll e c least (terms_of ts) (Err r)
 told_one_refused e c least items i n out ts o r lt at h eo g =

@@ -49,13 +49,13 @@ pub record IsReadBy (files : List File) (n : Name) (text : Option (List ℕ)) (b
   pub named : names ≡ vocabulary_names_of ds
   pub begins : start ≡ only_bytes b
 
-fetches : (files : List File) (b : ℕ) (ds : List Directive) (names : List Name) (start : Gathered) → start ≡ only_bytes b → names ≡ vocabulary_names_of ds → with_vocabularies files start names ≡ vocabularies_for files b ds
-fetches files b ds names start es en = λ i. with_vocabularies files (es i) (en i)
+with_vocabularies-fetches : (files : List File) (b : ℕ) (ds : List Directive) (names : List Name) (start : Gathered) → start ≡ only_bytes b → names ≡ vocabulary_names_of ds → with_vocabularies files start names ≡ vocabularies_for files b ds
+with_vocabularies-fetches files b ds names start es en = λ i. with_vocabularies files (es i) (en i)
 
 gathers : (files : List File) (n : Name) (text : Option (List ℕ)) (b : ℕ) (ds : List Directive) (names : List Name) (start : Gathered) (r : GatherResult) → IsReadBy files n text b ds names start → r ≡ with_vocabularies files start names → GathersArticle files n r
 gathers files n text b ds names start r h is =
     subst (λ x. GathersBehind files n x r) (sym h.told.1)
-    (ds, subst (λ t. HasDirectives t ds) h.told.0 h.has, is ∙ fetches files b ds names start h.begins h.named)
+    (ds, subst (λ t. HasDirectives t ds) h.told.0 h.has, is ∙ with_vocabularies-fetches files b ds names start h.begins h.named)
 
 pub vocabularies_refused : {X : Type 0} (files : List File) (n : Name) (Q : X → Type 0) (text : Option (List ℕ)) (b : ℕ) (ds : List Directive) (names : List Name) (start after : Gathered) (f : GatherFault)
     → IsReadBy files n text b ds names start → Tells (λ r. r ≡ with_vocabularies files start names) (Err f) after → OnAnswer (GathersArticle files n) Q (Err f)
@@ -70,7 +70,7 @@ texts_found files n text b ds names start after vs h is kept = record {
   bytes = b;
   within = subst (λ t. bytes_after n 0 t ≡ Ok b) (sym h.told.0) h.told.1;
   gathered = after;
-  fetched = sym (is ∙ fetches files b ds names start h.begins h.named);
+  fetched = sym (is ∙ with_vocabularies-fetches files b ds names start h.begins h.named);
   vocabularies = kept;
 }
 

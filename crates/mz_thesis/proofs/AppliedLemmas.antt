@@ -32,9 +32,9 @@ told_fits cs ks us most thesis s step b i eb same =
 refused : (cs : List Clause) (ks : List (Option Constant)) (thesis : Statement) (step : Step) (b : Bool) → IsTrue b ↔ Admits cs ks thesis step → b ≡ false → ¬ Admits cs ks thesis step
 refused cs ks thesis step b i eb h = not_both b eb (i.1 h)
 
-one_more : (most k : ℕ) → nat_eq most 0 ≡ false → k ≡ most - 1 → suc k ≡ most
-one_more zero k h e = absurd (eqb-false zero 0 h refl)
-one_more (suc n) k h e = omega (arith, e)
+suc-one_more : (most k : ℕ) → nat_eq most 0 ≡ false → k ≡ most - 1 → suc k ≡ most
+suc-one_more zero k h e = absurd (eqb-false zero 0 h refl)
+suc-one_more (suc n) k h e = omega (arith, e)
 
 pub told_no_more : (cs : List Clause) (ks : List (Option Constant)) (us : List Unfolding) (most : ℕ) (thesis : Statement) (step : Step) (b : Bool) → IsTrue b ↔ Admits cs ks thesis step → b ≡ false → nat_eq most 0 ≡ true → Applied cs ks us most thesis step None
 told_no_more cs ks us most thesis step b i eb h =
@@ -42,10 +42,10 @@ told_no_more cs ks us most thesis step b i eb h =
 
 pub told_nothing : (cs : List Clause) (ks : List (Option Constant)) (us : List Unfolding) (most : ℕ) (thesis : Statement) (step : Step) (b : Bool) (o : Option Statement) → IsTrue b ↔ Admits cs ks thesis step → b ≡ false → nat_eq most 0 ≡ false → Unfolded cs ks us thesis o → o ≡ None → Applied cs ks us most thesis step None
 told_nothing cs ks us most thesis step b o i eb h u eo =
-    subst (λ n. Applied cs ks us n thesis step None) (one_more most (most - 1) h refl) (applied.unfolds_to_nothing (most - 1) thesis step (refused cs ks thesis step b i eb) (subst (Unfolded cs ks us thesis) eo u))
+    subst (λ n. Applied cs ks us n thesis step None) (suc-one_more most (most - 1) h refl) (applied.unfolds_to_nothing (most - 1) thesis step (refused cs ks thesis step b i eb) (subst (Unfolded cs ks us thesis) eo u))
 
 pub told_unfolds : (cs : List Clause) (ks : List (Option Constant)) (us : List Unfolding) (most k : ℕ) (thesis next : Statement) (step : Step) (b : Bool) (o p : Option Statement) → IsTrue b ↔ Admits cs ks thesis step → b ≡ false → nat_eq most 0 ≡ false → Unfolded cs ks us thesis o → o ≡ Some next → k ≡ most - 1 → Applied cs ks us k next step p → Applied cs ks us most thesis step p
 told_unfolds cs ks us most k thesis next step b o p i eb h u eo ek a =
-    subst (λ n. Applied cs ks us n thesis step p) (one_more most k h ek) (applied.unfolds k thesis next step p (refused cs ks thesis step b i eb) (subst (Unfolded cs ks us thesis) eo u) a)
+    subst (λ n. Applied cs ks us n thesis step p) (suc-one_more most k h ek) (applied.unfolds k thesis next step p (refused cs ks thesis step b i eb) (subst (Unfolded cs ks us thesis) eo u) a)
 
 pub ruleset applied_rules = (told_fits, told_no_more, told_nothing, told_unfolds)

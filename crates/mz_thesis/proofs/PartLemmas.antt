@@ -13,8 +13,8 @@ not_both : (b : Bool) → b ≡ false → b ≡ true → ⊥
 not_both true e h = cc
 not_both false e h = cc
 
-split : (xs : List Statement) (i : ℕ) (x : Statement) → i < length xs → x ≡ get_or xs i x → drop i xs ≡ x ∷ drop (i + 1) xs
-split xs i x lt at = let e : (i + 1) ≡ suc i = omega arith in inner xs i lt at ∙ ap (λ n. x ∷ drop n xs) (sym e)
+drop-split : (xs : List Statement) (i : ℕ) (x : Statement) → i < length xs → x ≡ get_or xs i x → drop i xs ≡ x ∷ drop (i + 1) xs
+drop-split xs i x lt at = let e : (i + 1) ≡ suc i = omega arith in inner xs i lt at ∙ ap (λ n. x ∷ drop n xs) (sym e)
   where
     inner : (ys : List Statement) (k : ℕ) → k < length ys → x ≡ get_or ys k x → drop k ys ≡ x ∷ drop (suc k) ys
     inner [] k l a = absurd (omega (arith, l))
@@ -39,8 +39,8 @@ told_start ss ts = (λ h. h, λ h. h)
 
 at_place : (ss ts : List Statement) (i : ℕ) (s t : Statement) → i < length ss → i < length ts → s ≡ get_or ss i s → t ≡ get_or ts i t → BeginSame (drop i ss) (drop i ts) ↔ (IsSame (erase s) (erase t) × BeginSame (drop (i + 1) ss) (drop (i + 1) ts))
 at_place ss ts i s t ls lt es et =
-    let a : drop i ss ≡ s ∷ drop (i + 1) ss = split ss i s ls es in
-    let b : drop i ts ≡ t ∷ drop (i + 1) ts = split ts i t lt et in (
+    let a : drop i ss ≡ s ∷ drop (i + 1) ss = drop-split ss i s ls es in
+    let b : drop i ts ≡ t ∷ drop (i + 1) ts = drop-split ts i t lt et in (
       λ h. subst (λ xs. BeginSame (s ∷ drop (i + 1) ss) xs) b (subst (λ xs. BeginSame xs (drop i ts)) a h),
       λ h. subst (λ xs. BeginSame xs (drop i ts)) (sym a) (subst (λ xs. BeginSame (s ∷ drop (i + 1) ss) xs) (sym b) h),
     )
@@ -55,14 +55,14 @@ told_differ ss ts i n m s t b en em le lt es et same eb so =
     let p : BeginSame (drop i ss) (drop i ts) ↔ (IsSame (erase s) (erase t) × BeginSame (drop (i + 1) ss) (drop (i + 1) ts)) = at_place ss ts i s t (omega (arith, en, lt)) (omega (arith, en, em, le, lt)) es et in
     (λ x. absurd (false_true x), λ h. absurd (not_both b eb (same.1 (p.0 (so.1 h)).0)))
 
-past : (xs : List Statement) (i : ℕ) → length xs ≤ i → drop i xs ≡ []
-past [] zero le = refl
-past [] (suc i) le = refl
-past (x ∷ xs) zero le = absurd (omega (arith, le))
-past (x ∷ xs) (suc i) le = past xs i (omega (arith, le))
+drop-past : (xs : List Statement) (i : ℕ) → length xs ≤ i → drop i xs ≡ []
+drop-past [] zero le = refl
+drop-past [] (suc i) le = refl
+drop-past (x ∷ xs) zero le = absurd (omega (arith, le))
+drop-past (x ∷ xs) (suc i) le = drop-past xs i (omega (arith, le))
 
 pub told_same : (ss ts : List Statement) (i n : ℕ) → n ≡ length ss → n ≤ i → Agree ss ts i → IsTrue true ↔ BeginSame ss ts
 told_same ss ts i n en le so =
-    (λ x. so.0 (subst (λ xs. BeginSame xs (drop i ts)) (sym (past ss i (omega (arith, en, le)))) tt), λ h. refl)
+    (λ x. so.0 (subst (λ xs. BeginSame xs (drop i ts)) (sym (drop-past ss i (omega (arith, en, le)))) tt), λ h. refl)
 
 pub ruleset begin_rules = (told_longer, told_start, told_next, told_differ, told_same)

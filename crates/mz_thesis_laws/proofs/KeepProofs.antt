@@ -29,7 +29,7 @@ use Rattle.mz_thesis.specs.Unfolding.{formals, definiens_at, FirstGives, Unfolds
 use Rattle.mz_thesis.specs.Applied.{first_part, with_first_part, Unfolded, unfolded, as_it_is}
 use Rattle.mz_thesis_laws.specs.StepLaws.{AreUnfoldings}
 use Rattle.mz_thesis_laws.proofs.MatchKeeps.{GoesInside, matched_values}
-use Rattle.mz_thesis_laws.proofs.UnfoldProofs.{GivenAt, given_at, FirstOf, first_of, from_reverse, count, some-inj, none_some}
+use Rattle.mz_thesis_laws.proofs.UnfoldProofs.{GivenAt, given_at, FirstOf, first_of, from_reverse, length-count, some-inj, none_some}
 
 -- what holds of each term of a statement, weakened
 all_weaker : {X : Type 0} (p q : X → Bool) (xs : List X) → ((x : X) → p x ≡ true → q x ≡ true) → list_all p xs ≡ true → list_all q xs ≡ true
@@ -134,7 +134,7 @@ given_in_force ax g next cs ks u ts d under h a =
 given_below : (ax g : List Formula) (cs : List Clause) (ks : List (Option Constant)) (u : Unfolding) (ts : List Term) (d : Statement) → unfolding_closed u ≡ true → list_all closed ts ≡ true → GivenAt ax g cs ks u ts d → statement_below 0 d ≡ true
 given_below ax g cs ks u ts d under h a =
     let vs : list_all closed a.values ≡ true = matched_values closed closed_inside cs ks (length u.loci) (formals u.head) ts a.values a.fixed a.matched a.are_values h in
-    let long : length u.loci ≡ length (reverse a.values) = sym (length-reverse a.values ∙ count cs ks [] u.loci a.values a.loci_fit) in
+    let long : length u.loci ≡ length (reverse a.values) = sym (length-reverse a.values ∙ length-count cs ks [] u.loci a.values a.loci_fit) in
     let body : statement_below (length u.loci) u.definiens ≡ true = statement_weaker term_under is_below (length u.loci) u.definiens under_below (definiens_under u under) in
     let same : length u.loci ≡ 0 + length u.loci = omega arith in
     let inside : statement_below (0 + length u.loci) u.definiens ≡ true = subst (λ m. statement_below m u.definiens ≡ true) same body in

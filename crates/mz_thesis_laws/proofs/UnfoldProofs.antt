@@ -92,9 +92,9 @@ whole before ts = reverse ts ++ before
 whole_next : (before : List term.Term) (t : term.Term) (ts : List term.Term) → whole before (t ∷ ts) ≡ whole (t ∷ before) ts
 whole_next before t ts = ap (λ xs. xs ++ before) (reverse-append (t ∷ []) ts) ∙ append_assoc (reverse ts) (t ∷ []) before
 
-pub count : (cs : List Clause) (ks : List (Option Constant)) (before : List term.Term) (loci : List SoftType) (ts : List term.Term) → LociFit cs ks before loci ts → length ts ≡ length loci
-count cs ks before loci ts (no_loci b) = refl
-count cs ks before loci ts (and_locus b ty tys u us f h) = ap suc (count cs ks (u ∷ b) tys us h)
+pub length-count : (cs : List Clause) (ks : List (Option Constant)) (before : List term.Term) (loci : List SoftType) (ts : List term.Term) → LociFit cs ks before loci ts → length ts ≡ length loci
+length-count cs ks before loci ts (no_loci b) = refl
+length-count cs ks before loci ts (and_locus b ty tys u us f h) = ap suc (length-count cs ks (u ∷ b) tys us h)
 
 drop_front : (xs ys : List term.Term) (n : ℕ) → n ≡ length xs → drop n (xs ++ ys) ≡ ys
 drop_front [] ys zero e = refl
@@ -107,7 +107,7 @@ guards_follow ax g cs ks grants before loci ts (no_loci b) = tt
 guards_follow ax g cs ks grants before loci ts (and_locus b ty tys t us f h) =
     let n : ℕ = length tys in
     let all : List term.Term = whole (t ∷ b) us in
-    let same : length us ≡ length tys = count cs ks (t ∷ b) tys us h in
+    let same : length us ≡ length tys = length-count cs ks (t ∷ b) tys us h in
     let back : length (reverse us) ≡ length us = length-reverse us in
     let fits : Along ax g (guard (type_at b ty) t) = along_each ax g (guard (type_at b ty) t) (fits_derives ax g cs ks grants t (type_at b ty) f) in
     let behind : drop n all ≡ t ∷ b = drop_front (reverse us) (t ∷ b) n (omega (arith, same, back)) in
@@ -280,7 +280,7 @@ definiens_both ax g cs ks grants u unfolds ts d ct a =
     let vs : List term.Term = reverse a.values in
     let v : ℕ → term.Term = value_at (reverse a.values) in
     let cv : list_all closed (reverse a.values) ≡ true = reverse_closed a.values (matched_values closed closed_inside cs ks (length u.loci) (formals u.head) ts a.values a.fixed a.matched a.are_values ct) in
-    let long : length (reverse a.values) ≡ length u.loci = length-reverse a.values ∙ count cs ks [] u.loci a.values a.loci_fit in
+    let long : length (reverse a.values) ≡ length u.loci = length-reverse a.values ∙ length-count cs ks [] u.loci a.values a.loci_fit in
     let guards : Along ax g (formulas_at (reverse a.values) (loci_guards 0 u.loci)) = subst (λ xs. Along ax g (formulas_at xs (loci_guards 0 u.loci))) (append-nil (reverse a.values)) (guards_follow ax g cs ks grants [] u.loci a.values a.loci_fit) in
     let both = unfolds g (reverse a.values) cv long (follow_of ax g (formulas_at (reverse a.values) (loci_guards 0 u.loci)) guards) in
     let forth : Derives ax g (implies (substitute_formula 0 v (erase (head_statement u.head))) (substitute_formula 0 v (erase u.definiens))) = subst (Derives ax g) (implication_at v (head_statement u.head) u.definiens) both.0 in
@@ -297,7 +297,7 @@ chain_both ax g e f k p q = (λ x. p.0 (q.1 x), λ x. q.0 (p.1 x))
 matched_both : (ax g : List Formula) (cs : List Clause) (ks : List (Option Constant)) → AreGranted ax g cs ks → (u : Unfolding) → unfolding_closed u ≡ true → (ts : List term.Term) (d : Statement) → list_all closed ts ≡ true → (a : GivenAt ax g cs ks u ts d) → AreEqual ax g (map (substitute 0 (value_at (reverse a.values))) (formals u.head)) ts × (list_all closed (map (substitute 0 (value_at (reverse a.values))) (formals u.head)) ≡ true)
 matched_both ax g cs ks grants u under ts d ct a =
     let cv : list_all closed (reverse a.values) ≡ true = reverse_closed a.values (matched_values closed closed_inside cs ks (length u.loci) (formals u.head) ts a.values a.fixed a.matched a.are_values ct) in
-    let long : length u.loci ≡ length (reverse a.values) = sym (length-reverse a.values ∙ count cs ks [] u.loci a.values a.loci_fit) in
+    let long : length u.loci ≡ length (reverse a.values) = sym (length-reverse a.values ∙ length-count cs ks [] u.loci a.values a.loci_fit) in
     let parts : ((loci_closed u.loci && trigger_under (length u.loci) u.head) ≡ true) × (statement_under (length u.loci) u.definiens ≡ true) = and_parts (loci_closed u.loci && trigger_under (length u.loci) u.head) (statement_under (length u.loci) u.definiens) under in
     let head : trigger_under (length u.loci) u.head ≡ true = (and_parts (loci_closed u.loci) (trigger_under (length u.loci) u.head) parts.0).1 in (
       (match_law ax g cs ks grants (length u.loci) a.fixed (formals u.head) ts a.values ct a.matched a.are_values).0,

@@ -102,28 +102,28 @@ lt_true a b h = grind (arith, nat_tests)
 lt_false : (a b : ℕ) → nat_lt a b ≡ false → b ≤ a
 lt_false a b h = grind (arith, nat_tests)
 
-heads_if : (e f : Export) (l : List Export) (u v : Bool) → nat_lt f.name.number e.name.number ≡ u → nat_lt e.name.number f.name.number ≡ v → (e.name.number ≡ f.name.number → ⊥) → place u e f l (e ∷ l) ≡ place v f e l (f ∷ l)
-heads_if e f l true true h k n = absurd (omega (arith, lt_true _ _ h, lt_true _ _ k))
-heads_if e f l true false h k n = refl
-heads_if e f l false true h k n = refl
-heads_if e f l false false h k n = absurd (n (omega (arith, lt_false _ _ h, lt_false _ _ k)))
+place-heads_if : (e f : Export) (l : List Export) (u v : Bool) → nat_lt f.name.number e.name.number ≡ u → nat_lt e.name.number f.name.number ≡ v → (e.name.number ≡ f.name.number → ⊥) → place u e f l (e ∷ l) ≡ place v f e l (f ∷ l)
+place-heads_if e f l true true h k n = absurd (omega (arith, lt_true _ _ h, lt_true _ _ k))
+place-heads_if e f l true false h k n = refl
+place-heads_if e f l false true h k n = refl
+place-heads_if e f l false false h k n = absurd (n (omega (arith, lt_false _ _ h, lt_false _ _ k)))
 
-heads_commute : (e f : Export) (l : List Export) → (e.name.number ≡ f.name.number → ⊥) → place (nat_lt f.name.number e.name.number) e f l (e ∷ l) ≡ place (nat_lt e.name.number f.name.number) f e l (f ∷ l)
-heads_commute e f l n = heads_if e f l (nat_lt f.name.number e.name.number) (nat_lt e.name.number f.name.number) refl refl n
+place-heads_commute : (e f : Export) (l : List Export) → (e.name.number ≡ f.name.number → ⊥) → place (nat_lt f.name.number e.name.number) e f l (e ∷ l) ≡ place (nat_lt e.name.number f.name.number) f e l (f ∷ l)
+place-heads_commute e f l n = place-heads_if e f l (nat_lt f.name.number e.name.number) (nat_lt e.name.number f.name.number) refl refl n
 
 less : (x e f : ℕ) → nat_lt x e ≡ true → nat_lt x f ≡ false → nat_lt f e ≡ true
 less x e f h k = grind (arith, nat_tests)
 
-commute_if : (e f x : Export) (l : List Export) → (e.name.number ≡ f.name.number → ⊥) → added e (added f l) ≡ added f (added e l) → (p q : Bool) → nat_lt x.name.number e.name.number ≡ p → nat_lt x.name.number f.name.number ≡ q → added e (place q f x l (added f l)) ≡ added f (place p e x l (added e l))
-commute_if e f x l n step true true h k =
+added-commute_if : (e f x : Export) (l : List Export) → (e.name.number ≡ f.name.number → ⊥) → added e (added f l) ≡ added f (added e l) → (p q : Bool) → nat_lt x.name.number e.name.number ≡ p → nat_lt x.name.number f.name.number ≡ q → added e (place q f x l (added f l)) ≡ added f (place p e x l (added e l))
+added-commute_if e f x l n step true true h k =
     ap (λ b. place b e x (added f l) (added e (added f l))) h ∙ (ap (λ r. x ∷ r) step ∙ sym (ap (λ b. place b f x (added e l) (added f (added e l))) k))
-commute_if e f x l n step true false h k =
+added-commute_if e f x l n step true false h k =
     ap (λ b. place b e f (x ∷ l) (added e (x ∷ l))) (less x.name.number e.name.number f.name.number h k) ∙ (ap (λ b. f ∷ place b e x l (added e l)) h ∙ sym (ap (λ b. place b f x (added e l) (added f (added e l))) k))
-commute_if e f x l n step false true h k =
+added-commute_if e f x l n step false true h k =
     ap (λ b. place b e x (added f l) (added e (added f l))) h ∙ (sym (ap (λ b. e ∷ place b f x l (added f l)) k) ∙ sym (ap (λ b. place b f e (x ∷ l) (added f (x ∷ l))) (less x.name.number f.name.number e.name.number k h)))
-commute_if e f x l n step false false h k =
-    ap (λ b. place (nat_lt f.name.number e.name.number) e f (x ∷ l) (place b e x l (added e l))) h ∙ (heads_commute e f (x ∷ l) n ∙ sym (ap (λ b. place (nat_lt e.name.number f.name.number) f e (x ∷ l) (place b f x l (added f l))) k))
+added-commute_if e f x l n step false false h k =
+    ap (λ b. place (nat_lt f.name.number e.name.number) e f (x ∷ l) (place b e x l (added e l))) h ∙ (place-heads_commute e f (x ∷ l) n ∙ sym (ap (λ b. place (nat_lt e.name.number f.name.number) f e (x ∷ l) (place b f x l (added f l))) k))
 
 pub added_commutes : (e f : Export) (l : List Export) → (e.name.number ≡ f.name.number → ⊥) → added e (added f l) ≡ added f (added e l)
-added_commutes e f [] n = heads_commute e f [] n
-added_commutes e f (x ∷ l) n = commute_if e f x l n (added_commutes e f l n) (nat_lt x.name.number e.name.number) (nat_lt x.name.number f.name.number) refl refl
+added_commutes e f [] n = place-heads_commute e f [] n
+added_commutes e f (x ∷ l) n = added-commute_if e f x l n (added_commutes e f l n) (nat_lt x.name.number e.name.number) (nat_lt x.name.number f.name.number) refl refl

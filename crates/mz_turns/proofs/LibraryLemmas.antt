@@ -57,18 +57,18 @@ from_library [] e h = inl h
 from_library (x ∷ rows) e h = from_add_row x rows e (from_library rows e) h
 
 -- how the library changes
-unadded : (x : Row) (l : List Export) → is_accepted x ≡ false → add_row x l ≡ l
-unadded Waiting l h = refl
-unadded (Claimed w) l h = refl
-unadded (Accepted e) l h = absurd cc
-unadded (Rejected fs) l h = refl
-unadded (Blocked n) l h = refl
-unadded Cyclic l h = refl
-unadded Missing l h = refl
+add_row-unadded : (x : Row) (l : List Export) → is_accepted x ≡ false → add_row x l ≡ l
+add_row-unadded Waiting l h = refl
+add_row-unadded (Claimed w) l h = refl
+add_row-unadded (Accepted e) l h = absurd cc
+add_row-unadded (Rejected fs) l h = refl
+add_row-unadded (Blocked n) l h = refl
+add_row-unadded Cyclic l h = refl
+add_row-unadded Missing l h = refl
 
 pub library_same : (rows : List Row) (r : ℕ) (x : Row) → is_accepted (row_at rows r) ≡ false → is_accepted x ≡ false → library_of (slice_set rows r x) ≡ library_of rows
 library_same [] r x h k = refl
-library_same (y ∷ rows) zero x h k = unadded x (library_of rows) k ∙ sym (unadded y (library_of rows) h)
+library_same (y ∷ rows) zero x h k = add_row-unadded x (library_of rows) k ∙ sym (add_row-unadded y (library_of rows) h)
 library_same (y ∷ rows) (suc r) x h k = ap (add_row y) (library_same rows r x h k)
 
 row_commutes : (x : Row) (e : Export) (l : List Export) → ((f : Export) → x ≡ Accepted f → e.name.number ≡ f.name.number → ⊥) → add_row x (added e l) ≡ added e (add_row x l)
@@ -82,7 +82,7 @@ row_commutes Missing e l n = refl
 
 pub library_put : (rows : List Row) (r : ℕ) (e : Export) → r < length rows → is_accepted (row_at rows r) ≡ false → IsFreshIn rows e → library_of (slice_set rows r (Accepted e)) ≡ added e (library_of rows)
 library_put [] r e l h n = absurd (omega arith)
-library_put (x ∷ rows) zero e l h n = ap (added e) (sym (unadded x (library_of rows) h))
+library_put (x ∷ rows) zero e l h n = ap (added e) (sym (add_row-unadded x (library_of rows) h))
 library_put (x ∷ rows) (suc r) e l h n =
     ap (add_row x) (library_put rows r e (omega (arith, l)) h (λ q f p. n (suc q) f p)) ∙ row_commutes x e (library_of rows) (λ f p. n 0 f p)
 
@@ -132,7 +132,7 @@ length_library (x ∷ rows) =
 pub library_room : (rows : List Row) (r : ℕ) → r < length rows → is_accepted (row_at rows r) ≡ false → length (library_of rows) < length rows + 3
 library_room [] r h n = absurd (omega arith)
 library_room (x ∷ rows) zero h n =
-    let same : length (library_of (x ∷ rows)) ≡ length (library_of rows) = ap length (unadded x (library_of rows) n) in
+    let same : length (library_of (x ∷ rows)) ≡ length (library_of rows) = ap length (add_row-unadded x (library_of rows) n) in
     omega (arith, same, length_library rows)
 library_room (x ∷ rows) (suc r) h n =
     let less = library_room rows r (omega (arith, h)) n in

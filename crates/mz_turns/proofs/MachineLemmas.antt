@@ -21,7 +21,7 @@ use Rattle.mz_turns.specs.Library.{library_of, environment}
 use Rattle.mz_turns.specs.Verdicts.{HasVerdict, unchecked, blocked, checked, FirstUnaccepted, here, later, AllAccepted, none, more}
 use Rattle.mz_turns.specs.Machine.{and_then, unless_accepted, all_settled, all_accepted, first_unaccepted, IsReady, NoneIsBlocked, Blocks, end, block, Step, take, publish, reclaim, Replays, start, turn}
 use Rattle.mz_turns.specs.declared.turn.Turn.{Turn}
-use Rattle.mz_turns.proofs.RowLemmas.{export_of, exports_of, true_false, same_article, both, from_both, settled_freed, accepted_freed, freed_settled, freed_claimed, freed_waiting, accepted_settled, accepted_is, not_settled, start_waits, start_claimed, put_same, put_other, at_map, at_start, from_start, outcome_settled, twice, unsettled_unaccepted, start_not_accepted}
+use Rattle.mz_turns.proofs.RowLemmas.{export_of, exports_of, true_false, same_article, both, from_both, settled_freed, accepted_freed, freed_settled, freed_claimed, freed_waiting, accepted_settled, accepted_is, not_settled, start_waits, start_claimed, row_at-put_same, row_at-put_other, at_map, at_start, from_start, outcome_settled, freed-twice, unsettled_unaccepted, start_not_accepted}
 use Rattle.mz_turns.proofs.NameLemmas.{contained}
 use Rattle.mz_turns.proofs.LibraryLemmas.{IsFrom, from_library, library_same, library_put, library_freed, library_start}
 use Rattle.mz_turns.proofs.GoodLemmas.{Good, named_row, reach_accepted, environment_is}
@@ -46,11 +46,11 @@ same_settled rows after s (d ∷ ds) =
     let p : is_settled (row_at after d) ≡ is_settled (row_at rows d) = sym (settled_freed (row_at after d)) ∙ (ap is_settled (s d) ∙ settled_freed (row_at rows d)) in
     λ i. and_then (p i) (same_settled rows after s ds i)
 
-same_bad : (rows after : List Row) → Same rows after → (ds : List ℕ) → first_unaccepted after ds ≡ first_unaccepted rows ds
-same_bad rows after s [] = refl
-same_bad rows after s (d ∷ ds) =
+first_unaccepted-same_bad : (rows after : List Row) → Same rows after → (ds : List ℕ) → first_unaccepted after ds ≡ first_unaccepted rows ds
+first_unaccepted-same_bad rows after s [] = refl
+first_unaccepted-same_bad rows after s (d ∷ ds) =
     let p : is_accepted (row_at after d) ≡ is_accepted (row_at rows d) = sym (accepted_freed (row_at after d)) ∙ (ap is_accepted (s d) ∙ accepted_freed (row_at rows d)) in
-    λ i. unless_accepted (p i) d (same_bad rows after s ds i)
+    λ i. unless_accepted (p i) d (first_unaccepted-same_bad rows after s ds i)
 
 none_bad_if : (b : Bool) (d : ℕ) (o : Option ℕ) → unless_accepted b d o ≡ None → (b ≡ true) × (o ≡ None)
 none_bad_if true d o h = (refl, h)
@@ -66,11 +66,11 @@ accepted_none_if : (b : Bool) (d : ℕ) (o : Option ℕ) → b ≡ true → o �
 accepted_none_if true d o p h = h
 accepted_none_if false d o p h = absurd cc
 
-accepted_none : (rows : List Row) (ds : List ℕ) → all_accepted rows ds ≡ true → first_unaccepted rows ds ≡ None
-accepted_none rows [] h = refl
-accepted_none rows (d ∷ ds) h =
+first_unaccepted-accepted_none : (rows : List Row) (ds : List ℕ) → all_accepted rows ds ≡ true → first_unaccepted rows ds ≡ None
+first_unaccepted-accepted_none rows [] h = refl
+first_unaccepted-accepted_none rows (d ∷ ds) h =
     let p = both (is_accepted (row_at rows d)) (all_accepted rows ds) h in
-    accepted_none_if (is_accepted (row_at rows d)) d (first_unaccepted rows ds) p.0 (accepted_none rows ds p.1)
+    accepted_none_if (is_accepted (row_at rows d)) d (first_unaccepted rows ds) p.0 (first_unaccepted-accepted_none rows ds p.1)
 
 first_step : (is_outcome : OutcomeRelation) (c : List Article) (rows : List Row) → Good is_outcome c rows → (x : ℕ) (ds : List ℕ) (d : ℕ) (b : Bool) → is_accepted (row_at rows x) ≡ b → is_settled (row_at rows x) ≡ true → (first_unaccepted rows ds ≡ Some d → FirstUnaccepted is_outcome c ds d) → unless_accepted b x (first_unaccepted rows ds) ≡ Some d → FirstUnaccepted is_outcome c (x ∷ ds) d
 first_step is_outcome c rows g x ds d true e i rest h =
@@ -93,37 +93,37 @@ accepted_holds is_outcome c rows g (x ∷ ds) h =
     subst (λ y. AllAccepted is_outcome c (x ∷ ds) (export_of y ++ exports_of rows ds)) (sym a.1) (more x ds a.0 (exports_of rows ds) (subst (λ y. HasVerdict is_outcome c x y) a.1 s) (accepted_holds is_outcome c rows g ds p.1))
 
 -- one row is settled
-grows_put_if : (rows : List Row) (r : ℕ) (x : Row) → is_settled (row_at rows r) ≡ false → (q : ℕ) → (q ≡ r) ⊎ (q ≡ r → ⊥) → is_settled (row_at rows q) ≡ true → row_at (slice_set rows r x) q ≡ row_at rows q
-grows_put_if rows r x u q (inl e) h = absurd (true_false (is_settled (row_at rows q)) h (ap (λ k. is_settled (row_at rows k)) e ∙ u))
-grows_put_if rows r x u q (inr n) h = put_other rows r q x n
+row_at-grows_put_if : (rows : List Row) (r : ℕ) (x : Row) → is_settled (row_at rows r) ≡ false → (q : ℕ) → (q ≡ r) ⊎ (q ≡ r → ⊥) → is_settled (row_at rows q) ≡ true → row_at (slice_set rows r x) q ≡ row_at rows q
+row_at-grows_put_if rows r x u q (inl e) h = absurd (true_false (is_settled (row_at rows q)) h (ap (λ k. is_settled (row_at rows k)) e ∙ u))
+row_at-grows_put_if rows r x u q (inr n) h = row_at-put_other rows r q x n
 
 pub grows_put : (rows : List Row) (r : ℕ) (x : Row) → is_settled (row_at rows r) ≡ false → Grows rows (slice_set rows r x)
-grows_put rows r x u = λ q h. grows_put_if rows r x u q (cases_eq q r) h
+grows_put rows r x u = λ q h. row_at-grows_put_if rows r x u q (cases_eq q r) h
 
 put_settled_if : (is_outcome : OutcomeRelation) (c : List Article) (rows : List Row) → Good is_outcome c rows → (r : ℕ) (x : Row) → r < length rows → HasVerdict is_outcome c r x → (q : ℕ) → (q ≡ r) ⊎ (q ≡ r → ⊥) → is_settled (row_at (slice_set rows r x) q) ≡ true → HasVerdict is_outcome c q (row_at (slice_set rows r x) q)
 put_settled_if is_outcome c rows g r x w s q (inl e) h =
-    subst (λ k. HasVerdict is_outcome c k (row_at (slice_set rows r x) k)) (sym e) (subst (λ y. HasVerdict is_outcome c r y) (sym (put_same rows r x w)) s)
+    subst (λ k. HasVerdict is_outcome c k (row_at (slice_set rows r x) k)) (sym e) (subst (λ y. HasVerdict is_outcome c r y) (sym (row_at-put_same rows r x w)) s)
 put_settled_if is_outcome c rows g r x w s q (inr n) h =
-    let o : row_at (slice_set rows r x) q ≡ row_at rows q = put_other rows r q x n in
+    let o : row_at (slice_set rows r x) q ≡ row_at rows q = row_at-put_other rows r q x n in
     subst (λ y. HasVerdict is_outcome c q y) (sym o) (g.settled q (ap is_settled (sym o) ∙ h))
 
-put_unsettled_if : (is_outcome : OutcomeRelation) (c : List Article) (rows : List Row) → Good is_outcome c rows → (r : ℕ) (x : Row) → is_settled (row_at rows r) ≡ false → (q : ℕ) (a : Article) → slice_get c q ≡ Some a → (q ≡ r) ⊎ (q ≡ r → ⊥) → is_settled (row_at (slice_set rows r x) q) ≡ false → start_row a ≡ Waiting
-put_unsettled_if is_outcome c rows g r x u q a k (inl e) h = g.unsettled q a k (ap (λ k. is_settled (row_at rows k)) e ∙ u)
-put_unsettled_if is_outcome c rows g r x u q a k (inr n) h = g.unsettled q a k (ap is_settled (sym (put_other rows r q x n)) ∙ h)
+start_row-put_unsettled_if : (is_outcome : OutcomeRelation) (c : List Article) (rows : List Row) → Good is_outcome c rows → (r : ℕ) (x : Row) → is_settled (row_at rows r) ≡ false → (q : ℕ) (a : Article) → slice_get c q ≡ Some a → (q ≡ r) ⊎ (q ≡ r → ⊥) → is_settled (row_at (slice_set rows r x) q) ≡ false → start_row a ≡ Waiting
+start_row-put_unsettled_if is_outcome c rows g r x u q a k (inl e) h = g.unsettled q a k (ap (λ k. is_settled (row_at rows k)) e ∙ u)
+start_row-put_unsettled_if is_outcome c rows g r x u q a k (inr n) h = g.unsettled q a k (ap is_settled (sym (row_at-put_other rows r q x n)) ∙ h)
 
 put_claims_if : (is_outcome : OutcomeRelation) (c : List Article) (rows : List Row) → Good is_outcome c rows → (r : ℕ) (x : Row) → r < length rows → is_settled x ≡ true → is_settled (row_at rows r) ≡ false → (q v : ℕ) (a : Article) → slice_get c q ≡ Some a → (q ≡ r) ⊎ (q ≡ r → ⊥) → row_at (slice_set rows r x) q ≡ Claimed v → all_accepted (slice_set rows r x) (direct_rows c a) ≡ true
 put_claims_if is_outcome c rows g r x w i u q v a k (inl e) h =
-    absurd (not_settled x v (sym (put_same rows r x w) ∙ (ap (λ k. row_at (slice_set rows r x) k) (sym e) ∙ h)) i)
+    absurd (not_settled x v (sym (row_at-put_same rows r x w) ∙ (ap (λ k. row_at (slice_set rows r x) k) (sym e) ∙ h)) i)
 put_claims_if is_outcome c rows g r x w i u q v a k (inr n) h =
-    grows_accepted rows (slice_set rows r x) (grows_put rows r x u) (direct_rows c a) (g.claims q v a k (sym (put_other rows r q x n) ∙ h))
+    grows_accepted rows (slice_set rows r x) (grows_put rows r x u) (direct_rows c a) (g.claims q v a k (sym (row_at-put_other rows r q x n) ∙ h))
 
 put_accepts_if : (is_outcome : OutcomeRelation) (c : List Article) (rows : List Row) → Good is_outcome c rows → (r : ℕ) (a : Article) (x : Row) → r < length rows → slice_get c r ≡ Some a → is_settled (row_at rows r) ≡ false → (is_accepted x ≡ true → all_accepted rows (direct_rows c a) ≡ true) → (q : ℕ) (b : Article) → slice_get c q ≡ Some b → (q ≡ r) ⊎ (q ≡ r → ⊥) → is_accepted (row_at (slice_set rows r x) q) ≡ true → all_accepted (slice_set rows r x) (direct_rows c b) ≡ true
 put_accepts_if is_outcome c rows g r a x w at u direct q b k (inl e) h =
     let same : b ≡ a = same_article c q b a k (ap (slice_get c) e ∙ at) in
-    let yes : is_accepted x ≡ true = ap is_accepted (sym (put_same rows r x w)) ∙ (ap (λ j. is_accepted (row_at (slice_set rows r x) j)) (sym e) ∙ h) in
+    let yes : is_accepted x ≡ true = ap is_accepted (sym (row_at-put_same rows r x w)) ∙ (ap (λ j. is_accepted (row_at (slice_set rows r x) j)) (sym e) ∙ h) in
     grows_accepted rows (slice_set rows r x) (grows_put rows r x u) (direct_rows c b) (subst (λ z. all_accepted rows (direct_rows c z) ≡ true) (sym same) (direct yes))
 put_accepts_if is_outcome c rows g r a x w at u direct q b k (inr n) h =
-    grows_accepted rows (slice_set rows r x) (grows_put rows r x u) (direct_rows c b) (g.accepts q b k (ap is_accepted (sym (put_other rows r q x n)) ∙ h))
+    grows_accepted rows (slice_set rows r x) (grows_put rows r x u) (direct_rows c b) (g.accepts q b k (ap is_accepted (sym (row_at-put_other rows r q x n)) ∙ h))
 
 pub good_put : (is_outcome : OutcomeRelation) (c : List Article) (rows : List Row) → Good is_outcome c rows → (r : ℕ) (a : Article) (x : Row) → slice_get c r ≡ Some a → is_settled (row_at rows r) ≡ false → is_settled x ≡ true → HasVerdict is_outcome c r x → (is_accepted x ≡ true → all_accepted rows (direct_rows c a) ≡ true) → AreInOrder (library_of (slice_set rows r x)) → Good is_outcome c (slice_set rows r x)
 good_put is_outcome c rows g r a x k u i s direct order =
@@ -131,7 +131,7 @@ good_put is_outcome c rows g r a x k u i s direct order =
     record {
       whole = length-set rows r x ∙ g.whole;
       settled = λ q h. put_settled_if is_outcome c rows g r x w s q (cases_eq q r) h;
-      unsettled = λ q b k2 h. put_unsettled_if is_outcome c rows g r x u q b k2 (cases_eq q r) h;
+      unsettled = λ q b k2 h. start_row-put_unsettled_if is_outcome c rows g r x u q b k2 (cases_eq q r) h;
       claims = λ q v b k2 h. put_claims_if is_outcome c rows g r x w i u q v b k2 (cases_eq q r) h;
       accepts = λ q b k2 h. put_accepts_if is_outcome c rows g r a x w k u direct q b k2 (cases_eq q r) h;
       in_order = order;
@@ -196,10 +196,10 @@ good_checked is_outcome names c corpus rows g r a k u direct t o tx is =
     (s, good_put is_outcome c rows g r a (row_of o) k u (outcome_settled o) s (λ yes. direct) (order_outcome is_outcome names c corpus rows g r a k u t o is))
 
 -- a row is taken
-take_same_if : (rows : List Row) (r w : ℕ) → r < length rows → row_at rows r ≡ Waiting → (q : ℕ) → (q ≡ r) ⊎ (q ≡ r → ⊥) → freed (row_at (slice_set rows r (Claimed w)) q) ≡ freed (row_at rows q)
-take_same_if rows r w l e q (inl p) =
-    ap (λ k. freed (row_at (slice_set rows r (Claimed w)) k)) p ∙ (ap freed (put_same rows r (Claimed w) l) ∙ (sym (ap freed e) ∙ ap (λ k. freed (row_at rows k)) (sym p)))
-take_same_if rows r w l e q (inr n) = ap freed (put_other rows r q (Claimed w) n)
+freed-take_same_if : (rows : List Row) (r w : ℕ) → r < length rows → row_at rows r ≡ Waiting → (q : ℕ) → (q ≡ r) ⊎ (q ≡ r → ⊥) → freed (row_at (slice_set rows r (Claimed w)) q) ≡ freed (row_at rows q)
+freed-take_same_if rows r w l e q (inl p) =
+    ap (λ k. freed (row_at (slice_set rows r (Claimed w)) k)) p ∙ (ap freed (row_at-put_same rows r (Claimed w) l) ∙ (sym (ap freed e) ∙ ap (λ k. freed (row_at rows k)) (sym p)))
+freed-take_same_if rows r w l e q (inr n) = ap freed (row_at-put_other rows r q (Claimed w) n)
 
 same_grows : (rows after : List Row) → Same rows after → Grows rows after
 same_grows rows after s = λ q h.
@@ -218,13 +218,13 @@ take_claims_if is_outcome c rows g n r w grew ready q v a k (inl p) h =
     let all : all_accepted rows (direct_rows c a) ≡ true = none_bad rows (direct_rows c a) (ap (λ b. first_unaccepted rows (direct_rows c b)) e ∙ n r ready.article ready.is_at ready.waits ready.settled) in
     grows_accepted rows (slice_set rows r (Claimed w)) grew (direct_rows c a) all
 take_claims_if is_outcome c rows g n r w grew ready q v a k (inr m) h =
-    grows_accepted rows (slice_set rows r (Claimed w)) grew (direct_rows c a) (g.claims q v a k (sym (put_other rows r q (Claimed w) m) ∙ h))
+    grows_accepted rows (slice_set rows r (Claimed w)) grew (direct_rows c a) (g.claims q v a k (sym (row_at-put_other rows r q (Claimed w) m) ∙ h))
 
-take_none_if : (c : List Article) (rows : List Row) → NoneIsBlocked c rows → (r w : ℕ) → r < length rows → Same rows (slice_set rows r (Claimed w)) → (q : ℕ) (a : Article) → slice_get c q ≡ Some a → (q ≡ r) ⊎ (q ≡ r → ⊥) → row_at (slice_set rows r (Claimed w)) q ≡ Waiting → all_settled (slice_set rows r (Claimed w)) (direct_rows c a) ≡ true → first_unaccepted (slice_set rows r (Claimed w)) (direct_rows c a) ≡ None
-take_none_if c rows n r w l s q a k (inl p) h t =
-    let z : Claimed w ≡ Waiting = sym (put_same rows r (Claimed w) l) ∙ (ap (λ j. row_at (slice_set rows r (Claimed w)) j) (sym p) ∙ h) in absurd cc
-take_none_if c rows n r w l s q a k (inr m) h t =
-    same_bad rows (slice_set rows r (Claimed w)) s (direct_rows c a) ∙ n q a k (sym (put_other rows r q (Claimed w) m) ∙ h) (sym (same_settled rows (slice_set rows r (Claimed w)) s (direct_rows c a)) ∙ t)
+first_unaccepted-take_none_if : (c : List Article) (rows : List Row) → NoneIsBlocked c rows → (r w : ℕ) → r < length rows → Same rows (slice_set rows r (Claimed w)) → (q : ℕ) (a : Article) → slice_get c q ≡ Some a → (q ≡ r) ⊎ (q ≡ r → ⊥) → row_at (slice_set rows r (Claimed w)) q ≡ Waiting → all_settled (slice_set rows r (Claimed w)) (direct_rows c a) ≡ true → first_unaccepted (slice_set rows r (Claimed w)) (direct_rows c a) ≡ None
+first_unaccepted-take_none_if c rows n r w l s q a k (inl p) h t =
+    let z : Claimed w ≡ Waiting = sym (row_at-put_same rows r (Claimed w) l) ∙ (ap (λ j. row_at (slice_set rows r (Claimed w)) j) (sym p) ∙ h) in absurd cc
+first_unaccepted-take_none_if c rows n r w l s q a k (inr m) h t =
+    first_unaccepted-same_bad rows (slice_set rows r (Claimed w)) s (direct_rows c a) ∙ n q a k (sym (row_at-put_other rows r q (Claimed w) m) ∙ h) (sym (same_settled rows (slice_set rows r (Claimed w)) s (direct_rows c a)) ∙ t)
 
 same_verdict : (is_outcome : OutcomeRelation) (c : List Article) (rows after : List Row) → Good is_outcome c rows → Same rows after → (q : ℕ) → is_settled (row_at after q) ≡ true → HasVerdict is_outcome c q (row_at after q)
 same_verdict is_outcome c rows after g s q h =
@@ -236,18 +236,18 @@ same_accepts is_outcome c rows after g s q a k h =
     grows_accepted rows after (same_grows rows after s) (direct_rows c a) (g.accepts q a k (sym (same_is_accepted rows after s q) ∙ h))
 
 -- freed rows
-freed_claims_none : (c : List Article) (is_outcome : OutcomeRelation) (rows : List Row) → Good is_outcome c rows → NoneIsBlocked c rows → (q : ℕ) (a : Article) → slice_get c q ≡ Some a → all_settled rows (direct_rows c a) ≡ true → (row_at rows q ≡ Waiting) ⊎ ((w : ℕ) × (row_at rows q ≡ Claimed w)) → first_unaccepted rows (direct_rows c a) ≡ None
-freed_claims_none c is_outcome rows g n q a k t (inl e) = n q a k e t
-freed_claims_none c is_outcome rows g n q a k t (inr p) = accepted_none rows (direct_rows c a) (g.claims q p.0 a k p.1)
+first_unaccepted-freed_claims_none : (c : List Article) (is_outcome : OutcomeRelation) (rows : List Row) → Good is_outcome c rows → NoneIsBlocked c rows → (q : ℕ) (a : Article) → slice_get c q ≡ Some a → all_settled rows (direct_rows c a) ≡ true → (row_at rows q ≡ Waiting) ⊎ ((w : ℕ) × (row_at rows q ≡ Claimed w)) → first_unaccepted rows (direct_rows c a) ≡ None
+first_unaccepted-freed_claims_none c is_outcome rows g n q a k t (inl e) = n q a k e t
+first_unaccepted-freed_claims_none c is_outcome rows g n q a k t (inr p) = first_unaccepted-accepted_none rows (direct_rows c a) (g.claims q p.0 a k p.1)
 
 freed_same : (rows : List Row) → Same rows (map freed rows)
-freed_same rows = λ q. ap freed (at_map freed refl rows q) ∙ twice (row_at rows q)
+freed_same rows = λ q. ap freed (at_map freed refl rows q) ∙ freed-twice (row_at rows q)
 
 -- each turn keeps it
 pub step_good : (is_outcome : OutcomeRelation) → AnswersName is_outcome → (c : List Article) → AreArticles c → (rows : List Row) (t : Turn) (after : List Row) → Step is_outcome c rows t after → Good is_outcome c rows → NoneIsBlocked c rows → Good is_outcome c after × NoneIsBlocked c after × Grows rows after
 step_good is_outcome names c corpus rows t after (take r w rows1 ready) g n =
     let l : r < length rows = subst (λ k. r < k) (sym g.whole) (slice_get_within c r ready.article ready.is_at) in
-    let s : Same rows (slice_set rows r (Claimed w)) = λ q. take_same_if rows r w l ready.waits q (cases_eq q r) in
+    let s : Same rows (slice_set rows r (Claimed w)) = λ q. freed-take_same_if rows r w l ready.waits q (cases_eq q r) in
     let grew = same_grows rows (slice_set rows r (Claimed w)) s in (
       record {
         whole = length-set rows r (Claimed w) ∙ g.whole;
@@ -257,7 +257,7 @@ step_good is_outcome names c corpus rows t after (take r w rows1 ready) g n =
         accepts = same_accepts is_outcome c rows (slice_set rows r (Claimed w)) g s;
         in_order = subst AreInOrder (sym (library_same rows r (Claimed w) (ap is_accepted ready.waits) refl)) g.in_order;
       },
-      (λ q a k h t. take_none_if c rows n r w l s q a k (cases_eq q r) h t),
+      (λ q a k h t. first_unaccepted-take_none_if c rows n r w l s q a k (cases_eq q r) h t),
       grew,
     )
 step_good is_outcome names c corpus rows t after (publish r w a x o rows1 after1 k h tx is rest) g n =
@@ -277,7 +277,7 @@ step_good is_outcome names c corpus rows t after (reclaim r w rows1 h) g n =
         accepts = same_accepts is_outcome c rows (map freed rows) g s;
         in_order = subst AreInOrder (sym (library_freed rows)) g.in_order;
       },
-      (λ q a k i t. same_bad rows (map freed rows) s (direct_rows c a) ∙ freed_claims_none c is_outcome rows g n q a k (sym (same_settled rows (map freed rows) s (direct_rows c a)) ∙ t) (freed_waiting (row_at rows q) (sym (at_map freed refl rows q) ∙ i))),
+      (λ q a k i t. first_unaccepted-same_bad rows (map freed rows) s (direct_rows c a) ∙ first_unaccepted-freed_claims_none c is_outcome rows g n q a k (sym (same_settled rows (map freed rows) s (direct_rows c a)) ∙ t) (freed_waiting (row_at rows q) (sym (at_map freed refl rows q) ∙ i))),
       grew,
     )
 

@@ -12,7 +12,7 @@ use Rattle.mz_turns.specs.Dependencies.{direct_rows, start_row}
 use Rattle.mz_turns.specs.Library.{environment}
 use Rattle.mz_turns.specs.Machine.{unless_accepted, all_settled, first_unaccepted, IsBlockedBy, NoneIsBlocked, Blocks, end, block, Step, take, publish, reclaim, Replays, start, turn}
 use Rattle.mz_turns.specs.declared.turn.Turn.{Turn}
-use Rattle.mz_turns.proofs.RowLemmas.{same_article, both, from_both, put_other}
+use Rattle.mz_turns.proofs.RowLemmas.{same_article, both, from_both, row_at-put_other}
 use Rattle.mz_turns.proofs.MachineLemmas.{Grows, grows_put}
 use Rattle.mz_turns.proofs.VerdictLemmas.{same_outcome}
 
@@ -48,7 +48,7 @@ still_blocked c rows q r m n differ x y =
     record {
       article = y.article;
       is_at = y.is_at;
-      waits = put_other rows q r (Blocked m) differ ∙ y.waits;
+      waits = row_at-put_other rows q r (Blocked m) differ ∙ y.waits;
       settled = grows_settled rows (slice_set rows q (Blocked m)) grew (direct_rows c y.article) y.settled;
       row = y.row;
       unaccepted = grows_first rows (slice_set rows q (Blocked m)) grew (direct_rows c y.article) y.settled ∙ y.unaccepted;
@@ -58,12 +58,12 @@ still_blocked c rows q r m n differ x y =
     }
 
 -- two rows are put in either order
-put_either : (rows : List Row) (q r : ℕ) (x y : Row) → (r ≡ q → ⊥) → slice_set (slice_set rows q x) r y ≡ slice_set (slice_set rows r y) q x
-put_either [] q r x y n = refl
-put_either (z ∷ rows) zero zero x y n = absurd (n refl)
-put_either (z ∷ rows) zero (suc r) x y n = refl
-put_either (z ∷ rows) (suc q) zero x y n = refl
-put_either (z ∷ rows) (suc q) (suc r) x y n = ap (λ xs. z ∷ xs) (put_either rows q r x y (λ e. n (ap suc e)))
+slice_set-put_either : (rows : List Row) (q r : ℕ) (x y : Row) → (r ≡ q → ⊥) → slice_set (slice_set rows q x) r y ≡ slice_set (slice_set rows r y) q x
+slice_set-put_either [] q r x y n = refl
+slice_set-put_either (z ∷ rows) zero zero x y n = absurd (n refl)
+slice_set-put_either (z ∷ rows) zero (suc r) x y n = refl
+slice_set-put_either (z ∷ rows) (suc q) zero x y n = refl
+slice_set-put_either (z ∷ rows) (suc q) (suc r) x y n = ap (λ xs. z ∷ xs) (slice_set-put_either rows q r x y (λ e. n (ap suc e)))
 
 -- a row that can be settled as blocked may be settled first
 first_step_if : (c : List Article) (rows after : List Row) (q r : ℕ) (m n : Name) → IsBlockedBy c rows q m → IsBlockedBy c rows r n → Blocks c (slice_set rows q (Blocked m)) after → ((r ≡ q → ⊥) → Blocks c (slice_set (slice_set rows q (Blocked m)) r (Blocked n)) after) → (r ≡ q) ⊎ (r ≡ q → ⊥) → Blocks c (slice_set rows r (Blocked n)) after
@@ -73,7 +73,7 @@ first_step_if c rows after q r m n x y rest later (inl e) =
     subst (λ k. Blocks c (slice_set rows k (Blocked n)) after) (sym e) (subst (λ k. Blocks c (slice_set rows q (Blocked k)) after) same rest)
 first_step_if c rows after q r m n x y rest later (inr differ) =
     let x2 : IsBlockedBy c (slice_set rows r (Blocked n)) q m = still_blocked c rows r q n m (λ e. differ (sym e)) y x in
-    block q m (slice_set rows r (Blocked n)) after x2 (subst (λ z. Blocks c z after) (put_either rows q r (Blocked m) (Blocked n) differ) (later differ))
+    block q m (slice_set rows r (Blocked n)) after x2 (subst (λ z. Blocks c z after) (slice_set-put_either rows q r (Blocked m) (Blocked n) differ) (later differ))
 
 first_step : (c : List Article) (rows after : List Row) → Blocks c rows after → (r : ℕ) (n : Name) → IsBlockedBy c rows r n → Blocks c (slice_set rows r (Blocked n)) after
 first_step c rows after (end rows1 none) r n y = absurd (not_none c rows r n y none)

@@ -17,7 +17,7 @@ use Rattle.mz_turns.specs.Machine.{unless_accepted, all_settled, all_accepted, f
 use Rattle.mz_turns.specs.Order.{Judges, is_blocked, is_checked, Folds, done, next, IsSettled, FoldsAll, IsOrder, ends, goes, one_if, publications}
 use Rattle.mz_turns.specs.declared.turn.Turn.{Turn}
 use Rattle.mz_turns.specs.declared.turn.Turn.TheVariants.{Take, Publish, Reclaim}
-use Rattle.mz_turns.proofs.RowLemmas.{export_of, exports_of, true_false, same_article, both, from_both, put_same, put_other, from_start, accepted_settled, outcome_settled}
+use Rattle.mz_turns.proofs.RowLemmas.{export_of, exports_of, true_false, same_article, both, from_both, row_at-put_same, row_at-put_other, from_start, accepted_settled, outcome_settled}
 use Rattle.mz_turns.proofs.NameLemmas.{equal_numbers, numbers_equal, contained}
 use Rattle.mz_turns.proofs.ExportLemmas.{library_once}
 use Rattle.mz_turns.proofs.VerdictLemmas.{verdict_once}
@@ -59,8 +59,8 @@ settled_verdicts is_outcome names c corpus ts rows p all =
     record { whole = g.whole; each = λ r l. g.settled r (all r l) }
 
 -- each turn keeps what was settled
-pub turns_grow : (is_outcome : OutcomeRelation) → AnswersName is_outcome → (c : List Article) → AreArticles c → (ts : List Turn) (t : Turn) (rows after : List Row) → Replays is_outcome c ts rows → Step is_outcome c rows t after → (q : ℕ) → is_settled (row_at rows q) ≡ true → row_at after q ≡ row_at rows q
-turns_grow is_outcome names c corpus ts t rows after p s =
+pub row_at-turns_grow : (is_outcome : OutcomeRelation) → AnswersName is_outcome → (c : List Article) → AreArticles c → (ts : List Turn) (t : Turn) (rows after : List Row) → Replays is_outcome c ts rows → Step is_outcome c rows t after → (q : ℕ) → is_settled (row_at rows q) ≡ true → row_at after q ≡ row_at rows q
+row_at-turns_grow is_outcome names c corpus ts t rows after p s =
     let g = replays_good is_outcome names c corpus ts rows p in (step_good is_outcome names c corpus rows t after s g.0 g.1).2
 
 -- each row is published once at most
@@ -113,7 +113,7 @@ settled_after : (is_outcome : OutcomeRelation) → AnswersName is_outcome → (c
 settled_after is_outcome names c corpus rows after g q w a t o k h tx is b =
     let l : q < length rows = subst (λ n. q < n) (sym g.whole) (slice_get_within c q a k) in
     let next = (good_checked is_outcome names c corpus rows g q a k (ap is_settled h) (g.claims q w a k h) t o tx is).1 in
-    let put : is_settled (row_at (slice_set rows q (row_of o)) q) ≡ true = ap is_settled (put_same rows q (row_of o) l) ∙ outcome_settled o in
+    let put : is_settled (row_at (slice_set rows q (row_of o)) q) ≡ true = ap is_settled (row_at-put_same rows q (row_of o) l) ∙ outcome_settled o in
     let all = blocks_good is_outcome c (slice_set rows q (row_of o)) after b next in
     ap is_settled (all.2 q put) ∙ put
 
@@ -126,7 +126,7 @@ counted_step is_outcome names c corpus ts t rows after r old (reclaim q w rows1 
 pub published_once : (is_outcome : OutcomeRelation) → AnswersName is_outcome → (c : List Article) → AreArticles c → (ts : List Turn) (rows : List Row) (r : ℕ) → Replays is_outcome c ts rows → IsCounted r ts rows
 published_once is_outcome names c corpus ts rows r (start rows1 b) = (omega arith, λ h. refl)
 published_once is_outcome names c corpus ts rows r (turn ts1 t before after1 p s) =
-    counted_step is_outcome names c corpus ts1 t before rows r (replays_good is_outcome names c corpus ts1 before p).0 s (turns_grow is_outcome names c corpus ts1 t before rows p s) (published_once is_outcome names c corpus ts1 before r p)
+    counted_step is_outcome names c corpus ts1 t before rows r (replays_good is_outcome names c corpus ts1 before p).0 s (row_at-turns_grow is_outcome names c corpus ts1 t before rows p s) (published_once is_outcome names c corpus ts1 before r p)
 
 -- the verdicts are made one after another, in any order that has each article after its dependencies
 abbrev IsPart : List Row → List Row → Type 0
@@ -141,15 +141,15 @@ same_row : (is_outcome : OutcomeRelation) (c : List Article) → HasOneOutcome i
 same_row is_outcome c once whole rows f p d x s h =
     p d s ∙ verdict_once is_outcome c once d (row_at whole d) x (f.each d (verdict_within is_outcome c d x h)) h
 
-bad_found : (is_outcome : OutcomeRelation) (c : List Article) → HasOneOutcome is_outcome → (whole rows : List Row) → AreVerdicts is_outcome c whole → IsPart whole rows → (ds : List ℕ) → all_settled rows ds ≡ true → (d : ℕ) → FirstUnaccepted is_outcome c ds d → first_unaccepted rows ds ≡ Some d
-bad_found is_outcome c once whole rows f p ds s d (here d1 ds1 x h i) =
+first_unaccepted-bad_found : (is_outcome : OutcomeRelation) (c : List Article) → HasOneOutcome is_outcome → (whole rows : List Row) → AreVerdicts is_outcome c whole → IsPart whole rows → (ds : List ℕ) → all_settled rows ds ≡ true → (d : ℕ) → FirstUnaccepted is_outcome c ds d → first_unaccepted rows ds ≡ Some d
+first_unaccepted-bad_found is_outcome c once whole rows f p ds s d (here d1 ds1 x h i) =
     let q = both (is_settled (row_at rows d1)) (all_settled rows ds1) s in
     let e : row_at rows d1 ≡ x = same_row is_outcome c once whole rows f p d1 x q.0 h in
     ap (λ b. unless_accepted b d1 (first_unaccepted rows ds1)) (ap is_accepted e ∙ i)
-bad_found is_outcome c once whole rows f p ds s d (later d1 ds1 y b h rest) =
+first_unaccepted-bad_found is_outcome c once whole rows f p ds s d (later d1 ds1 y b h rest) =
     let q = both (is_settled (row_at rows d1)) (all_settled rows ds1) s in
     let e : row_at rows d1 ≡ Accepted y = same_row is_outcome c once whole rows f p d1 (Accepted y) q.0 h in
-    ap (λ b. unless_accepted b d1 (first_unaccepted rows ds1)) (ap is_accepted e) ∙ bad_found is_outcome c once whole rows f p ds1 q.1 d rest
+    ap (λ b. unless_accepted b d1 (first_unaccepted rows ds1)) (ap is_accepted e) ∙ first_unaccepted-bad_found is_outcome c once whole rows f p ds1 q.1 d rest
 
 all_found : (is_outcome : OutcomeRelation) (c : List Article) → HasOneOutcome is_outcome → (whole rows : List Row) → AreVerdicts is_outcome c whole → IsPart whole rows → (ds : List ℕ) → all_settled rows ds ≡ true → (es : List Export) → AllAccepted is_outcome c ds es → (all_accepted rows ds ≡ true) × (exports_of rows ds ≡ es)
 all_found is_outcome c once whole rows f p ds s es none = (refl, refl)
@@ -173,7 +173,7 @@ judge_of is_outcome once names c corpus whole rows f p g r a x k w s (unchecked 
     absurd (true_false (is_settled x) i (ap is_settled (sym e ∙ (ap start_row (same_article c r b a j k) ∙ waits))))
 judge_of is_outcome once names c corpus whole rows f p g r a x k w s (blocked r1 b d m j v h at) =
     let ba = same_article c r b a j k in
-    is_blocked d m s (bad_found is_outcome c once whole rows f p (direct_rows c a) s d (subst (λ y. FirstUnaccepted is_outcome c (direct_rows c y) d) ba h)) at
+    is_blocked d m s (first_unaccepted-bad_found is_outcome c once whole rows f p (direct_rows c a) s d (subst (λ y. FirstUnaccepted is_outcome c (direct_rows c y) d) ba h)) at
 judge_of is_outcome once names c corpus whole rows f p g r a x k w s (checked r1 b t ds es library o x1 j v tx direct all is_library is e) =
     let ba = same_article c r b a j k in
     let found = all_found is_outcome c once whole rows f p (direct_rows c a) s ds (subst (λ y. AllAccepted is_outcome c (direct_rows c y) ds) ba direct) in
@@ -183,11 +183,11 @@ judge_of is_outcome once names c corpus whole rows f p g r a x k w s (checked r1
     is_checked t o x found.0 (sym (ap (λ y. y.text) ba) ∙ tx)
     (subst (λ y. is_outcome y.name y.vocabularies (environment rows a) t o) ba (subst (λ xs. is_outcome b.name b.vocabularies xs t o) same is)) e
 
-part_put_if : (whole rows : List Row) (r : ℕ) → IsPart whole rows → r < length rows → (q : ℕ) → (q ≡ r) ⊎ (q ≡ r → ⊥) → is_settled (row_at (slice_set rows r (row_at whole r)) q) ≡ true → row_at (slice_set rows r (row_at whole r)) q ≡ row_at whole q
-part_put_if whole rows r p l q (inl e) h =
-    ap (λ k. row_at (slice_set rows r (row_at whole r)) k) e ∙ (put_same rows r (row_at whole r) l ∙ ap (row_at whole) (sym e))
-part_put_if whole rows r p l q (inr n) h =
-    let o = put_other rows r q (row_at whole r) n in o ∙ p q (ap is_settled (sym o) ∙ h)
+row_at-part_put_if : (whole rows : List Row) (r : ℕ) → IsPart whole rows → r < length rows → (q : ℕ) → (q ≡ r) ⊎ (q ≡ r → ⊥) → is_settled (row_at (slice_set rows r (row_at whole r)) q) ≡ true → row_at (slice_set rows r (row_at whole r)) q ≡ row_at whole q
+row_at-part_put_if whole rows r p l q (inl e) h =
+    ap (λ k. row_at (slice_set rows r (row_at whole r)) k) e ∙ (row_at-put_same rows r (row_at whole r) l ∙ ap (row_at whole) (sym e))
+row_at-part_put_if whole rows r p l q (inr n) h =
+    let o = row_at-put_other rows r q (row_at whole r) n in o ∙ p q (ap is_settled (sym o) ∙ h)
 
 fold_from : (is_outcome : OutcomeRelation) → HasOneOutcome is_outcome → AnswersName is_outcome → (c : List Article) → AreArticles c → (whole rows : List Row) → AreVerdicts is_outcome c whole → IsPart whole rows → Good is_outcome c rows → (rs : List ℕ) → IsOrder c rows rs → (after : List Row) × Folds is_outcome c rs rows after × IsSettled c after
 fold_from is_outcome once names c corpus whole rows f p g rs (ends rows1 all) = (rows, done rows, all)
@@ -196,7 +196,7 @@ fold_from is_outcome once names c corpus whole rows f p g rs (goes r rs1 a rows1
     let n : r < length rows = subst (λ z. r < z) (sym g.whole) m in
     let j = judge_of is_outcome once names c corpus whole rows f p g r a (row_at whole r) k w s (f.each r m) in
     let is = judged is_outcome names c corpus rows g r a (row_at whole r) k w j in
-    let next_part : IsPart whole (slice_set rows r (row_at whole r)) = λ q h. part_put_if whole rows r p n q (cases_eq q r) h in
+    let next_part : IsPart whole (slice_set rows r (row_at whole r)) = λ q h. row_at-part_put_if whole rows r p n q (cases_eq q r) h in
     let more_rows = fold_from is_outcome once names c corpus whole (slice_set rows r (row_at whole r)) f next_part is.1 rs1 (rest (row_at whole r) is.2) in
     (more_rows.0, next r rs1 a (row_at whole r) rows more_rows.0 k w j more_rows.1, more_rows.2)
 

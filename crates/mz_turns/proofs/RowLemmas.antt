@@ -122,11 +122,11 @@ start_claimed None b w h = cc
 start_claimed (Some t) true w h = cc
 start_claimed (Some t) false w h = cc
 
-pub put_same : (rows : List Row) (r : ℕ) (x : Row) → r < length rows → row_at (slice_set rows r x) r ≡ x
-put_same rows r x h = get_or-set_same rows r x Waiting h
+pub row_at-put_same : (rows : List Row) (r : ℕ) (x : Row) → r < length rows → row_at (slice_set rows r x) r ≡ x
+row_at-put_same rows r x h = get_or-set_same rows r x Waiting h
 
-pub put_other : (rows : List Row) (r q : ℕ) (x : Row) → (q ≡ r → ⊥) → row_at (slice_set rows r x) q ≡ row_at rows q
-put_other rows r q x h = get_or-set_other rows r q x Waiting h
+pub row_at-put_other : (rows : List Row) (r q : ℕ) (x : Row) → (q ≡ r → ⊥) → row_at (slice_set rows r x) q ≡ row_at rows q
+row_at-put_other rows r q x h = get_or-set_other rows r q x Waiting h
 
 pub at_map : (f : Row → Row) → f Waiting ≡ Waiting → (rows : List Row) (q : ℕ) → row_at (map f rows) q ≡ f (row_at rows q)
 at_map f w [] q = sym w
@@ -154,14 +154,14 @@ outcome_accepted (outcome.Rejected fs) e h = absurd cc
 pub accepted_same : (x : Row) (e f : Export) → x ≡ Accepted e → x ≡ Accepted f → e ≡ f
 accepted_same x e f h k = same_export e f (sym h ∙ k)
 
-pub twice : (x : Row) → freed (freed x) ≡ freed x
-twice Waiting = refl
-twice (Claimed w) = refl
-twice (Accepted e) = refl
-twice (Rejected fs) = refl
-twice (Blocked n) = refl
-twice Cyclic = refl
-twice Missing = refl
+pub freed-twice : (x : Row) → freed (freed x) ≡ freed x
+freed-twice Waiting = refl
+freed-twice (Claimed w) = refl
+freed-twice (Accepted e) = refl
+freed-twice (Rejected fs) = refl
+freed-twice (Blocked n) = refl
+freed-twice Cyclic = refl
+freed-twice Missing = refl
 
 pub unsettled_unaccepted : (x : Row) → is_settled x ≡ false → is_accepted x ≡ false
 unsettled_unaccepted Waiting h = refl

@@ -22,13 +22,13 @@ pub told_letter : (cs : List Clause) (e : Environment) (c : Context) (s : Sym) (
 told_letter cs e c s ts args xs h ea k = ch.letter s ts xs h (subst (λ (us : List Term). RowsAdd cs c.constants s us (rows_of_letters c.letters) xs) ea k)
 
 -- a list of one at most in the other order
-turned : (o : Option Radix) → radix_if_any o ≡ reverse (radix_if_any o)
-turned None = refl
-turned (Some r) = refl
+radix_if_any-turned : (o : Option Radix) → radix_if_any o ≡ reverse (radix_if_any o)
+radix_if_any-turned None = refl
+radix_if_any-turned (Some r) = refl
 
 pub told_aggregate : (cs : List Clause) (e : Environment) (c : Context) (s : Sym) (ts : List Term) (xs : List Radix) → s.kind ≡ kind.Aggregate → ((o : Option Radix) × AggregateGives cs c.constants e.structures s ts o × (xs ≡ radix_if_any o)) → Begins cs e c (App s (terms_of ts)) (reverse xs)
 told_aggregate cs e c s ts xs h a =
-    subst (Begins cs e c (App s (terms_of ts))) (turned a.0 ∙ ap reverse (sym a.2)) (ch.aggregate s ts a.0 h a.1)
+    subst (Begins cs e c (App s (terms_of ts))) (radix_if_any-turned a.0 ∙ ap reverse (sym a.2)) (ch.aggregate s ts a.0 h a.1)
 
 pub told_selector : (cs : List Clause) (e : Environment) (c : Context) (s : Sym) (ts args : List Term) (xs : List Radix) → s.kind ≡ kind.Selector → args ≡ ts → (s.kind ≡ kind.Selector → Begins cs e c (App s (terms_of args)) (reverse xs)) → Begins cs e c (App s (terms_of ts)) (reverse xs)
 told_selector cs e c s ts args xs h ea k = subst (λ (us : List Term). Begins cs e c (App s (terms_of us)) (reverse xs)) ea (k h)
@@ -63,7 +63,7 @@ pub told_selected : (cs : List Clause) (e : Environment) (c : Context) (s : Sym)
 told_selected cs e c s args others t members list o xs ea eo k em f ex h =
     let one : args ≡ t ∷ [] = ea ∙ ap (λ (us : List Term). t ∷ us) (empty _ eo) in
     let g : FirstGives cs c.constants e.structures s t list o = subst (λ (rs : List Radix). FirstGives cs c.constants e.structures s t rs o) em f in
-    subst (Begins cs e c (App s (terms_of args))) (turned o ∙ ap reverse (sym ex))
+    subst (Begins cs e c (App s (terms_of args))) (radix_if_any-turned o ∙ ap reverse (sym ex))
     (subst (λ (us : List Term). Begins cs e c (App s (terms_of us)) (radix_if_any o)) (sym one) (ch.selector s t list o h k g))
 
 pub ruleset selection_rules = (told_no_argument, told_more_arguments, told_selected)

@@ -140,23 +140,23 @@ not_any : (b : Bool) → not b ≡ true → b ≡ false
 not_any true h = cc
 not_any false h = refl
 
-chosen_last : (X : Type 0) (b : Bool) (x y : X) → b ≡ false → (if b then x else y) ≡ y
-chosen_last X true x y h = cc
-chosen_last X false x y h = refl
+if-chosen_last : (X : Type 0) (b : Bool) (x y : X) → b ≡ false → (if b then x else y) ≡ y
+if-chosen_last X true x y h = cc
+if-chosen_last X false x y h = refl
 
-bare_atom : (mode : SoftType) → is_bare mode ≡ true → is_of_type_inside mode ≡ statement.Atom mode.radix.sym (map (shift 0 1) mode.radix.args ++ Bound 0 ∷ [])
-bare_atom mode h =
+is_of_type_inside-bare_atom : (mode : SoftType) → is_bare mode ≡ true → is_of_type_inside mode ≡ statement.Atom mode.radix.sym (map (shift 0 1) mode.radix.args ++ Bound 0 ∷ [])
+is_of_type_inside-bare_atom mode h =
     let both : (is_empty mode.adjectives ≡ true) × (not (is_of_any_object mode.radix.sym) ≡ true) = and_parts (is_empty mode.adjectives) (not (is_of_any_object mode.radix.sym)) h in
     let none : mode.adjectives ≡ [] = no_adjectives mode.adjectives both.0 in
     let atom : List Literal = literal.Atom true mode.radix.sym (map (shift 0 1) mode.radix.args ++ Bound 0 ∷ []) ∷ [] in
-    let radix : (if is_of_any_object mode.radix.sym then [] else atom) ≡ atom = chosen_last (List Literal) (is_of_any_object mode.radix.sym) [] atom (not_any (is_of_any_object mode.radix.sym) both.1) in
+    let radix : (if is_of_any_object mode.radix.sym then [] else atom) ≡ atom = if-chosen_last (List Literal) (is_of_any_object mode.radix.sym) [] atom (not_any (is_of_any_object mode.radix.sym) both.1) in
     λ i. conjunction (map literal_statement (radix i ++ map (adjective_literal (Bound 0)) (map (shift_adjective 0 1) (none i))))
 
 mode_defined : (ax : List Formula) (loci : List SoftType) (mode ty : SoftType) (d : FormulaDefiniens) → Derives ax [] (erase (over loci (mode_means mode ty d))) → AllUnfold ax (mode_definition loci mode ty d)
 mode_defined ax loci mode ty (Plain e) derived =
     where_unfolds ax (is_bare mode && is_mode mode.radix.sym.kind && has_loci loci mode) (loci ++ ty ∷ []) (Atom mode.radix.sym (map (shift 0 1) mode.radix.args ++ Bound 0 ∷ [])) e
     (λ b. unfolds ax (loci ++ ty ∷ []) (Atom mode.radix.sym (map (shift 0 1) mode.radix.args ++ Bound 0 ∷ [])) e
-    (subst (λ s. Derives ax [] (erase (over (loci ++ ty ∷ []) (equivalence s e)))) (bare_atom mode (and_parts (is_bare mode) (is_mode mode.radix.sym.kind) (and_parts (is_bare mode && is_mode mode.radix.sym.kind) (has_loci loci mode) b).0).0) (one_more ax loci ty (equivalence (is_of_type_inside mode) e) derived)))
+    (subst (λ s. Derives ax [] (erase (over (loci ++ ty ∷ []) (equivalence s e)))) (is_of_type_inside-bare_atom mode (and_parts (is_bare mode) (is_mode mode.radix.sym.kind) (and_parts (is_bare mode && is_mode mode.radix.sym.kind) (has_loci loci mode) b).0).0) (one_more ax loci ty (equivalence (is_of_type_inside mode) e) derived)))
 mode_defined ax loci mode ty (Cases cases) derived = tt
 mode_defined ax loci mode ty (CasesOtherwise cases e) derived = tt
 

@@ -6,8 +6,8 @@ use Rattle.std.proofs.lemmas.List.{take_all, drop_all}
 use borrow.Author.Tests.{ltb-false}
 use Rattle.mz_voc.specs.Lines.{is_line_end, put_in_front, lines_of}
 
-longer : (b m : ℕ) (bs : List ℕ) → lines_of bs ≡ take m bs ∷ lines_of (drop (m + 1) bs) → put_in_front b (lines_of bs) ≡ take (1 + m) (b ∷ bs) ∷ lines_of (drop (1 + m + 1) (b ∷ bs))
-longer b m bs h =
+put_in_front-longer : (b m : ℕ) (bs : List ℕ) → lines_of bs ≡ take m bs ∷ lines_of (drop (m + 1) bs) → put_in_front b (lines_of bs) ≡ take (1 + m) (b ∷ bs) ∷ lines_of (drop (1 + m + 1) (b ∷ bs))
+put_in_front-longer b m bs h =
     let e : 1 + m + 1 ≡ suc (m + 1) = omega arith in
     rw (h, e, one-add) refl
 
@@ -19,7 +19,7 @@ lines_of-cons b [] =
 lines_of-cons b (c ∷ cs) =
     let m : ℕ = position_or_len is_line_end (c ∷ cs) in
     elim (is_line_end b) as (λ t. cond t ([] ∷ lines_of (c ∷ cs)) (put_in_front b (lines_of (c ∷ cs))) ≡ take (cond (not t) (1 + m) 0) (b ∷ c ∷ cs) ∷ lines_of (drop (cond (not t) (1 + m) 0 + 1) (b ∷ c ∷ cs)))
-    [ true ↦ refl | false ↦ longer b m (c ∷ cs) (lines_of-cons c cs) ]
+    [ true ↦ refl | false ↦ put_in_front-longer b m (c ∷ cs) (lines_of-cons c cs) ]
 
 lines_of-first : (bs : List ℕ) → 0 < length bs → lines_of bs ≡ take (position_or_len is_line_end bs) bs ∷ lines_of (drop (position_or_len is_line_end bs + 1) bs)
 lines_of-first [] h = absurd (omega arith)

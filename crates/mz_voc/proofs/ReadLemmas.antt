@@ -120,9 +120,9 @@ all_lines all (b ∷ rest) entries n so h = absurd (omega arith)
 pub lines_none : (lines : Spelled ℕ) (entries : List Entry) → entries ≡ [] → ((spelling : List ℕ) → value_of lines spelling ≡ None) → (spelling : List ℕ) → is_some (value_of lines spelling) ≡ is_spelled entries spelling
 lines_none lines entries e empty spelling = rw (empty spelling, e) refl
 
-pub lines_more : (old new : Spelled ℕ) (entries entries' : List Entry) (entry : Entry) (written : List ℕ) (n : ℕ) → ((spelling : List ℕ) → is_some (value_of old spelling) ≡ is_spelled entries spelling) → written ≡ entry.spelling →
+pub is_some-lines_more : (old new : Spelled ℕ) (entries entries' : List Entry) (entry : Entry) (written : List ℕ) (n : ℕ) → ((spelling : List ℕ) → is_some (value_of old spelling) ≡ is_spelled entries spelling) → written ≡ entry.spelling →
     ((spelling : List ℕ) → value_of new spelling ≡ cond (bytes_eq written spelling) (Some n) (value_of old spelling)) → entries' ≡ entries ++ entry ∷ [] → (spelling : List ℕ) → is_some (value_of new spelling) ≡ is_spelled entries' spelling
-lines_more old new entries entries' entry written n so is put e spelling =
+is_some-lines_more old new entries entries' entry written n so is put e spelling =
     ap is_some (put spelling) ∙ ap (λ w. is_some (cond (bytes_eq w spelling) (Some n) (value_of old spelling))) is ∙ either (bytes_eq entry.spelling spelling) (is_spelled entries spelling) (so spelling)
     ∙ sym (ap (λ es. is_spelled es spelling) e ∙ list_any-append (λ a. bytes_eq a.spelling spelling) entries (entry ∷ []))
   where

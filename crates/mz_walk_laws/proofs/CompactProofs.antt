@@ -96,15 +96,15 @@ abbrev tail_of : List Statement → List Statement
 tail_of [] = []
 tail_of (t ∷ ts) = ts
 
-said_again : (p : Said) (s : Statement) (ss : List Statement) → p.states ∷ p.further ≡ s ∷ ss → saying s ss ≡ p
-said_again p s ss e = λ i. record { states = sym (ap (head_or s) e) i; further = sym (ap tail_of e) i }
+saying-said_again : (p : Said) (s : Statement) (ss : List Statement) → p.states ∷ p.further ≡ s ∷ ss → saying s ss ≡ p
+saying-said_again p s ss e = λ i. record { states = sym (ap (head_or s) e) i; further = sym (ap tail_of e) i }
 
 made_stands : (ax held : List Formula) (W : Context → Type 0) (b : Basis) (c : Context) → IsProper W b held c → (first : Place) (x : Sentence) → AllBehind (next c) x.variables x.inner → x.closed ≡ for_all (next c) x.variables x.inner → (us : List Term) → AllTermsStand (length x.variables + next c) us → (o : Result Said ProofRefusal) → EqualityMade first (next c) x us o → WhereOk o (SaidStands ax held c x)
 made_stands ax held W b c p first x w closed us ws o (compact.no_equation h) = tt
 made_stands ax held W b c p first x w closed us ws o (compact.too_large t u is h) = tt
 made_stands ax held W b c p first x w closed us ws o (compact.equality t u q is h) =
     let e : q.states ∷ q.further ≡ equalities_closed (next c) x.variables t u us = kept_are (equalities_closed (next c) x.variables t u us) (q.states ∷ q.further) h in
-    subst (SaidStands ax held c x) (said_again q (for_all (next c) x.variables (ends_equal t (u ∷ us))) (map (for_all (next c) x.variables) (neighbours u us)) e)
+    subst (SaidStands ax held c x) (saying-said_again q (for_all (next c) x.variables (ends_equal t (u ∷ us))) (map (for_all (next c) x.variables) (neighbours u us)) e)
     (whole_said ax held W b c p x w closed t u us is ws)
 
 equality_stands : (W : Context → Type 0) (b : Basis) → ReadsWell b.env W → (held : List Formula) (c : Context) → IsProper W b held c → (first : Place) (l : Left) (x : Sentence) → AllBehind (next c) x.variables x.inner → x.closed ≡ for_all (next c) x.variables x.inner → (ks : List EqualityStepTree) (o : Result Said ProofRefusal) (m : Left) → EqualityRead b.env c first l x ks o m → WhereOk o (SaidStands b.axioms held c x)

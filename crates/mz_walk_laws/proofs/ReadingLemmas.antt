@@ -193,17 +193,17 @@ pub record DescriptionStands (c : Context) (d : Description) : Type 0 where
   pub joined : d.statement ≡ conjunction (map statement_of d.propositions)
   pub stands : AllStand (next c) d.variables d.statement
 
-joined_is : (first : Place) (ps : List LabelledStatement) (s : Statement) → joined_within first ps ≡ Ok s → conjunction (map statement_of ps) ≡ s
-joined_is first ps s e = within_is statement_keeps first (conjunction (map statement_of ps)) s e
+conjunction-joined_is : (first : Place) (ps : List LabelledStatement) (s : Statement) → joined_within first ps ≡ Ok s → conjunction (map statement_of ps) ≡ s
+conjunction-joined_is first ps s e = within_is statement_keeps first (conjunction (map statement_of ps)) s e
 
 pub joined_stands : (n : ℕ) (first : Place) (ps : List LabelledStatement) (s : Statement) → AllStanding n ps → joined_within first ps ≡ Ok s → Stands n s
-joined_stands n first ps s all e = subst (Stands n) (joined_is first ps s e) (conjunction_stands n (map statement_of ps) (all_standing n ps all))
+joined_stands n first ps s all e = subst (Stands n) (conjunction-joined_is first ps s e) (conjunction_stands n (map statement_of ps) (all_standing n ps all))
 
 described_stands : (W : Context → Type 0) (e : Environment) → ReadsWell e W → (c : Context) → W c → (first : Place) (vs : List Variable) (qs : List LabelledStatement) (s : Statement) → AreTyped (next c) vs → AllStanding (next (with_variables c vs)) qs → joined_within first qs ≡ Ok s → DescriptionStands c (description vs qs s)
 described_stands W e reads c whole first vs qs s typed all is = record {
   typed = typed;
   propositions = all;
-  joined = sym (joined_is first qs s is);
+  joined = sym (conjunction-joined_is first qs s is);
   stands = typed_stand (next c) vs s typed (subst (λ n. Stands n s) (next_with_variables c vs) (joined_stands (next (with_variables c vs)) first qs s all is));
 }
 

@@ -157,9 +157,9 @@ assume_then P ps (Ok s) h = h
 assume_then P ps (Err r) h = tt
 
 -- one more
-one_more_assumed : (held : List Formula) (ps : List LabelledStatement) (q : LabelledStatement) → map erase (map statement_of (ps ++ q ∷ [])) ++ held ≡ map erase (map statement_of ps) ++ (erase (statement_of q) ∷ held)
-one_more_assumed held [] q = refl
-one_more_assumed held (p ∷ ps) q = ap (λ fs. erase (statement_of p) ∷ fs) (one_more_assumed held ps q)
+append-one_more_assumed : (held : List Formula) (ps : List LabelledStatement) (q : LabelledStatement) → map erase (map statement_of (ps ++ q ∷ [])) ++ held ≡ map erase (map statement_of ps) ++ (erase (statement_of q) ∷ held)
+append-one_more_assumed held [] q = refl
+append-one_more_assumed held (p ∷ ps) q = ap (λ fs. erase (statement_of p) ∷ fs) (append-one_more_assumed held ps q)
 
 standing_later : (m n : ℕ) (ps : List LabelledStatement) → m ≤ n → AllStanding m ps → AllStanding n ps
 standing_later m n ps le all p is = statement_later m n (statement_of p) le (all p is)
@@ -175,12 +175,12 @@ assume_derives ax held c ps q =
     let behind : Each ax g (erase (statement_of q) ∷ (ss ++ held)) = each_right ax g (facts c) (erase (statement_of q) ∷ (ss ++ held)) (each_itself ax g) in
     let both : Each ax g (ss ++ held) = each_right ax g (erase (statement_of q) ∷ []) (ss ++ held) behind in
     let last : Each ax g (erase (statement_of q) ∷ held) = each_append ax g (erase (statement_of q) ∷ []) held (each_left ax g (erase (statement_of q) ∷ []) (ss ++ held) behind) (each_right ax g ss held both) in
-    subst (Each ax g) (sym (one_more_assumed held ps q)) (each_append ax g ss (erase (statement_of q) ∷ held) (each_left ax g ss held both) last)
+    subst (Each ax g) (sym (append-one_more_assumed held ps q)) (each_append ax g ss (erase (statement_of q) ∷ held) (each_left ax g ss held both) last)
 
 assume_in_force : (n : ℕ) (held : List Formula) (ps : List LabelledStatement) (q : LabelledStatement) → AreInForce n (map erase (map statement_of ps) ++ held) → Stands n (statement_of q) → AreInForce n (map erase (map statement_of (ps ++ q ∷ [])) ++ held)
 assume_in_force n held ps q h w =
     let ss : List Formula = map erase (map statement_of ps) in
-    subst (AreInForce n) (sym (one_more_assumed held ps q))
+    subst (AreInForce n) (sym (append-one_more_assumed held ps q))
     (all-append (formula_in_force n) ss (erase (statement_of q) ∷ held) (all_left (formula_in_force n) ss held h)
     (and_from (formula_in_force n (erase (statement_of q))) (list_all (formula_in_force n) held) (erasure_in_force n (statement_of q) w.0) (all_right (formula_in_force n) ss held h)))
 

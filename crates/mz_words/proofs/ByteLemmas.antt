@@ -22,9 +22,9 @@ equal_texts xs ys e = (bytes_eq-Decides xs ys).0 e
 abbrev is_equals : ℕ → Bool
 is_equals x = x == 61
 
-rejoined : (xs : Text) → list_any is_equals xs ≡ true → before_first is_equals xs ++ 61 ∷ after_first is_equals xs ≡ xs
-rejoined [] e = absurd (true≢false (sym e))
-rejoined (x ∷ xs) e = go (x == 61) refl (rejoined xs)
+append-rejoined : (xs : Text) → list_any is_equals xs ≡ true → before_first is_equals xs ++ 61 ∷ after_first is_equals xs ≡ xs
+append-rejoined [] e = absurd (true≢false (sym e))
+append-rejoined (x ∷ xs) e = go (x == 61) refl (append-rejoined xs)
   where
     go : (t : Bool) → (x == 61) ≡ t → (list_any is_equals xs ≡ true → before_first is_equals xs ++ 61 ∷ after_first is_equals xs ≡ xs)
         → before_first is_equals (x ∷ xs) ++ 61 ∷ after_first is_equals (x ∷ xs) ≡ x ∷ xs
@@ -35,9 +35,9 @@ rejoined (x ∷ xs) e = go (x == 61) refl (rejoined xs)
         let far : (1 + n) + 1 ≡ suc (n + 1) = omega arith in
         rw t (ap₂ (λ (a b : Text). a ++ 61 ∷ b) (ap (λ (k : ℕ). take k (x ∷ xs)) (one-add n)) (ap (λ (k : ℕ). drop k (x ∷ xs)) far) ∙ ap (λ (ys : Text). x ∷ ys) (ih rest))
 
-whole : (xs : Text) → list_any is_equals xs ≡ false → before_first is_equals xs ≡ xs
-whole [] e = refl
-whole (x ∷ xs) e = go (x == 61) refl (whole xs)
+before_first-whole : (xs : Text) → list_any is_equals xs ≡ false → before_first is_equals xs ≡ xs
+before_first-whole [] e = refl
+before_first-whole (x ∷ xs) e = go (x == 61) refl (before_first-whole xs)
   where
     go : (t : Bool) → (x == 61) ≡ t → (list_any is_equals xs ≡ false → before_first is_equals xs ≡ xs) → before_first is_equals (x ∷ xs) ≡ x ∷ xs
     go true t ih = absurd (true≢false (rw t at e))
@@ -55,8 +55,8 @@ joined_again : (xs : Text) → joined (name_and_value xs).0 (name_and_value xs).
 joined_again xs = go (list_any is_equals xs) refl
   where
     go : (t : Bool) → list_any is_equals xs ≡ t → joined (name_and_value xs).0 (name_and_value xs).1 ≡ xs
-    go true t = rw t (rejoined xs t)
-    go false t = rw t (whole xs t)
+    go true t = rw t (append-rejoined xs t)
+    go false t = rw t (before_first-whole xs t)
 
 -- ---- kinds of words
 

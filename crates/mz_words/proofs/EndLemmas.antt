@@ -50,13 +50,13 @@ none_among : (e : Error) → HasKind [] e → (kind_of e ≢ OutOfMemory) → �
 none_among e (inl memory) not_memory = not_memory memory
 none_among e (inr among) not_memory = among
 
-parse_refused : (ws : List Text) (e : Error) → Parse ws → HasKind (fault_of program_app ws) e → (kind_of e ≢ OutOfMemory) → order_of ws ≡ None
-parse_refused ws e (taken v none gives order) kind not_memory = absurd (none_among e (subst (λ ks. HasKind ks e) none kind) not_memory)
-parse_refused ws e (refused k ks fault none) kind not_memory = none
+order_of-parse_refused : (ws : List Text) (e : Error) → Parse ws → HasKind (fault_of program_app ws) e → (kind_of e ≢ OutOfMemory) → order_of ws ≡ None
+order_of-parse_refused ws e (taken v none gives order) kind not_memory = absurd (none_among e (subst (λ ks. HasKind ks e) none kind) not_memory)
+order_of-parse_refused ws e (refused k ks fault none) kind not_memory = none
 
 -- the words are refused
 pub answer_refused : (ws : List Text) (e : Error) (fault : WordFault) → HasKind (fault_of program_app ws) e → ((fault ≡ Usage) ↔ (kind_of e ≢ OutOfMemory)) → IsAnswer ws (Err fault)
-answer_refused ws e Usage kind usage = parse_refused ws e (parse ws) kind (usage.0 refl)
+answer_refused ws e Usage kind usage = order_of-parse_refused ws e (parse ws) kind (usage.0 refl)
 answer_refused ws e (Memory a) kind usage = tt
 
 -- the same of what is handed on

@@ -13,8 +13,8 @@ named-None [] = refl
 named-None (w ∷ ws) = named-None ws
 
 -- where some first words hold one that is no name, so do all
-all_faulty : (ws : List (List ℕ)) (n : ℕ) → named (take n ws) ≡ None → named ws ≡ None
-all_faulty ws n none =
+named-all_faulty : (ws : List (List ℕ)) (n : ℕ) → named (take n ws) ≡ None → named ws ≡ None
+named-all_faulty ws n none =
     ap named (sym (take-append-drop n ws)) ∙ fold-append with_name (Some []) (take n ws) (drop n ws) ∙ ap (λ o. fold with_name o (drop n ws)) none ∙ named-None (drop n ws)
 
 pub list_any-map : {X Y : Type 0} (p : Y → Bool) (f : X → Y) (xs : List X) → list_any p (map f xs) ≡ list_any (λ x. p (f x)) xs
@@ -25,13 +25,13 @@ map_length : {W : Type 0} (f : W → List ℕ) (ws : List W) → length (map f w
 map_length f [] = refl
 map_length f (w ∷ ws) = let l = map_length f ws in omega arith
 
-word_more : {W : Type 0} (f : W → List ℕ) (ws : List W) (i : ℕ) (d : W) (b : List ℕ) → i < length ws → b ≡ f (get_or ws i d) → take (i + 1) (map f ws) ≡ take i (map f ws) ++ b ∷ []
-word_more f ws i d b lt e =
+take-word_more : {W : Type 0} (f : W → List ℕ) (ws : List W) (i : ℕ) (d : W) (b : List ℕ) → i < length ws → b ≡ f (get_or ws i d) → take (i + 1) (map f ws) ≡ take i (map f ws) ++ b ∷ []
+take-word_more f ws i d b lt e =
     let within : i < length (map f ws) = (let l = map_length f ws in omega arith) in
     take_more (map f ws) i (f d) within ∙ ap (λ x. take i (map f ws) ++ x ∷ []) (get_or-map f ws i d (f d) lt ∙ sym e)
 
 named_more : {W : Type 0} (f : W → List ℕ) (ws : List W) (i : ℕ) (d : W) (b ns : List ℕ) → i < length ws → b ≡ f (get_or ws i d) → named (take i (map f ws)) ≡ Some ns → named (take (i + 1) (map f ws)) ≡ with_name (Some ns) b
-named_more f ws i d b ns lt e h = ap named (word_more f ws i d b lt e) ∙ fold-append with_name (Some []) (take i (map f ws)) (b ∷ []) ∙ ap (λ o. with_name o b) h
+named_more f ws i d b ns lt e h = ap named (take-word_more f ws i d b lt e) ∙ fold-append with_name (Some []) (take i (map f ws)) (b ∷ []) ∙ ap (λ o. with_name o b) h
 
 -- a word that is a name
 pub name_read : {W : Type 0} (f : W → List ℕ) (ws : List W) (i : ℕ) (d : W) (b ns next : List ℕ) → i < length ws → b ≡ f (get_or ws i d) → named (take i (map f ws)) ≡ Some ns → with_name (Some ns) b ≡ Some next
@@ -41,7 +41,7 @@ name_read f ws i d b ns next lt e h k = named_more f ws i d b ns lt e h ∙ k
 -- a word that is none
 pub name_refused : {W : Type 0} (f : W → List ℕ) (ws : List W) (i : ℕ) (d : W) (b ns : List ℕ) (fault : WordFault) → i < length ws → b ≡ f (get_or ws i d) → named (take i (map f ws)) ≡ Some ns
     → MeetsNumbers (with_name (Some ns) b) (Err fault) → MeetsNumbers (named (map f ws)) (Err fault)
-name_refused f ws i d b ns Usage lt e h k = all_faulty (map f ws) (i + 1) (named_more f ws i d b ns lt e h ∙ k)
+name_refused f ws i d b ns Usage lt e h k = named-all_faulty (map f ws) (i + 1) (named_more f ws i d b ns lt e h ∙ k)
 name_refused f ws i d b ns (Memory a) lt e h k = tt
 
 -- all words are read

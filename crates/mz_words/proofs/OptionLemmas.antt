@@ -14,7 +14,7 @@ use Rattle.mz_words.specs.Reading.{Reading}
 use Rattle.mz_words.specs.Words.{value_of, names_article, with_word}
 use Rattle.mz_words.specs.Given.{given_value, value_within, named}
 use Rattle.mz_words.proofs.ByteLemmas.{Kind, dashes, long, short, plain, kind_of_word, joined, equal_texts, dash_value, unknown_word}
-use Rattle.mz_words.proofs.ReadingLemmas.{any-list, any-list_again, any-workers, any-generate, any-workers_value, any-workers_again, any-generate_value, any-generate_again}
+use Rattle.mz_words.proofs.ReadingLemmas.{with_word-any-list, with_word-any-list_again, with_word-any-workers, with_word-any-generate, with_word-any-workers_value, with_word-any-workers_again, with_word-any-generate_value, with_word-any-generate_again}
 use Rattle.mz_words.proofs.StateLemmas.{top, rules, workers_arg, generate_arg, list_arg, View, Shows, use_workers, use_generate, use_list, has_workers, has_generate, has_list, workers_new, workers_twice, generate_new, generate_twice, list_new, list_twice, Pending, Nothing, WorkersWanted, GenerateWanted, pending_of, waiting_for, held_at, walk_at, base, reading, Settled, settles, stops, settle}
 use Rattle.mz_words.proofs.StepLemmas.{Step, goes, fails, met_at, fault_at, met_is, turn_is, walk_is, step_refused, step_plain, step_separator, step_trailing, refused_read}
 
@@ -47,7 +47,7 @@ workers_wanted rows v p b (settles after due shown same) =
     (turn_then rows p b (codes "--workers") (held_at (settled_at rows p) WorkersWanted) (option (codes "workers")) (settle_fault rules false (held_at rows p)) (met_is (waiting_for p b) (codes "--workers") (held_at rows p)) refl
     ∙ or_none (settle_fault rules false (held_at rows p)) ∙ due)
     (walk_is rows p b (codes "--workers") (held_at (settled_at rows p) WorkersWanted, next (option (codes "workers"))) (met_is (waiting_for p b) (codes "--workers") (held_at rows p)))
-    (ap (λ (o : Option Reading). with_word o (codes "--workers")) (same false) ∙ any-workers (given_value 16 after.workers) (given_value 512 after.generate) after.list (named after.names) (codes "--workers") workers_word)
+    (ap (λ (o : Option Reading). with_word o (codes "--workers")) (same false) ∙ with_word-any-workers (given_value 16 after.workers) (given_value 512 after.generate) after.list (named after.names) (codes "--workers") workers_word)
 workers_wanted rows v p b (stops k ks due end) =
     fails k ks
     (turn_then rows p b (codes "--workers") (held_at (settled_at rows p) WorkersWanted) (option (codes "workers")) (settle_fault rules false (held_at rows p)) (met_is (waiting_for p b) (codes "--workers") (held_at rows p)) refl
@@ -60,7 +60,7 @@ generate_wanted rows v p b (settles after due shown same) =
     (turn_then rows p b (codes "--generate") (held_at (settled_at rows p) GenerateWanted) (option (codes "generate")) (settle_fault rules false (held_at rows p)) (met_is (waiting_for p b) (codes "--generate") (held_at rows p)) refl
     ∙ or_none (settle_fault rules false (held_at rows p)) ∙ due)
     (walk_is rows p b (codes "--generate") (held_at (settled_at rows p) GenerateWanted, next (option (codes "generate"))) (met_is (waiting_for p b) (codes "--generate") (held_at rows p)))
-    (ap (λ (o : Option Reading). with_word o (codes "--generate")) (same false) ∙ any-generate (given_value 16 after.workers) (given_value 512 after.generate) after.list (named after.names) (codes "--generate") generate_word)
+    (ap (λ (o : Option Reading). with_word o (codes "--generate")) (same false) ∙ with_word-any-generate (given_value 16 after.workers) (given_value 512 after.generate) after.list (named after.names) (codes "--generate") generate_word)
 generate_wanted rows v p b (stops k ks due end) =
     fails k ks
     (turn_then rows p b (codes "--generate") (held_at (settled_at rows p) GenerateWanted) (option (codes "generate")) (settle_fault rules false (held_at rows p)) (met_is (waiting_for p b) (codes "--generate") (held_at rows p)) refl
@@ -112,10 +112,10 @@ module _ (rows : List Row) (v : View) (p : Pending) (b : Bool) (x : Text) where
       goes (used workers_arg (x ∷ []) (settled_at rows p)) (record after { workers = Some x }) Nothing false false (use_workers (settled_at rows p) after x shown e)
       (workers_turn ∙ use_first rows p workers_arg (x ∷ []) [] due (workers_new x (settled_at rows p) (has_workers (settled_at rows p) after shown ∙ ap is_some e)))
       (walk_is rows p b (workers_text x) (held_at (used workers_arg (x ∷ []) (settled_at rows p)) Nothing, next idle) workers_met)
-      (ap (λ (o : Option Reading). with_word o (workers_text x)) same ∙ rw e (any-workers_value (given_value 512 after.generate) after.list (named after.names) (workers_text x) (workers_value x)))
+      (ap (λ (o : Option Reading). with_word o (workers_text x)) same ∙ rw e (with_word-any-workers_value (given_value 512 after.generate) after.list (named after.names) (workers_text x) (workers_value x)))
   workers_read after (Some y) e due shown same =
       fails ArgumentConflict [] (workers_turn ∙ use_first rows p workers_arg (x ∷ []) (ArgumentConflict ∷ []) due (workers_twice x (settled_at rows p) (has_workers (settled_at rows p) after shown ∙ ap is_some e)))
-      (ap (λ (o : Option Reading). with_word o (workers_text x)) same ∙ rw e (any-workers_again (value_within 16 y) (given_value 512 after.generate) after.list (named after.names) (workers_text x) (workers_value x)))
+      (ap (λ (o : Option Reading). with_word o (workers_text x)) same ∙ rw e (with_word-any-workers_again (value_within 16 y) (given_value 512 after.generate) after.list (named after.names) (workers_text x) (workers_value x)))
 
   step_workers : Settled rows v p → Step (walk_at rows p b false) (workers_text x) (with_word (reading v p false) (workers_text x))
   step_workers (settles after due shown same) = workers_read after after.workers refl due shown (same false)
@@ -133,10 +133,10 @@ module _ (rows : List Row) (v : View) (p : Pending) (b : Bool) (x : Text) where
       goes (used generate_arg (x ∷ []) (settled_at rows p)) (record after { generate = Some x }) Nothing false false (use_generate (settled_at rows p) after x shown e)
       (generate_turn ∙ use_first rows p generate_arg (x ∷ []) [] due (generate_new x (settled_at rows p) (has_generate (settled_at rows p) after shown ∙ ap is_some e)))
       (walk_is rows p b (generate_text x) (held_at (used generate_arg (x ∷ []) (settled_at rows p)) Nothing, next idle) generate_met)
-      (ap (λ (o : Option Reading). with_word o (generate_text x)) same ∙ rw e (any-generate_value (given_value 16 after.workers) after.list (named after.names) (generate_text x) (generate_value x)))
+      (ap (λ (o : Option Reading). with_word o (generate_text x)) same ∙ rw e (with_word-any-generate_value (given_value 16 after.workers) after.list (named after.names) (generate_text x) (generate_value x)))
   generate_read after (Some y) e due shown same =
       fails ArgumentConflict [] (generate_turn ∙ use_first rows p generate_arg (x ∷ []) (ArgumentConflict ∷ []) due (generate_twice x (settled_at rows p) (has_generate (settled_at rows p) after shown ∙ ap is_some e)))
-      (ap (λ (o : Option Reading). with_word o (generate_text x)) same ∙ rw e (any-generate_again (value_within 512 y) (given_value 16 after.workers) after.list (named after.names) (generate_text x) (generate_value x)))
+      (ap (λ (o : Option Reading). with_word o (generate_text x)) same ∙ rw e (with_word-any-generate_again (value_within 512 y) (given_value 16 after.workers) after.list (named after.names) (generate_text x) (generate_value x)))
 
   step_generate : Settled rows v p → Step (walk_at rows p b false) (generate_text x) (with_word (reading v p false) (generate_text x))
   step_generate (settles after due shown same) = generate_read after after.generate refl due shown (same false)
@@ -165,10 +165,10 @@ module _ (rows : List Row) (v : View) (p : Pending) (b : Bool) where
       goes (used list_arg [] (settled_at rows p)) (record after { list = true }) Nothing false false (use_list (settled_at rows p) after shown e)
       (list_turn ∙ use_first rows p list_arg [] [] due (list_new (settled_at rows p) (has_list (settled_at rows p) after shown ∙ e)))
       (walk_is rows p b (codes "--list") (held_at (used list_arg [] (settled_at rows p)) Nothing, next idle) list_met)
-      (ap (λ (o : Option Reading). with_word o (codes "--list")) same ∙ rw e (any-list (given_value 16 after.workers) (given_value 512 after.generate) (named after.names) (codes "--list") list_word))
+      (ap (λ (o : Option Reading). with_word o (codes "--list")) same ∙ rw e (with_word-any-list (given_value 16 after.workers) (given_value 512 after.generate) (named after.names) (codes "--list") list_word))
   list_read after true e due shown same =
       fails ArgumentConflict [] (list_turn ∙ use_first rows p list_arg [] (ArgumentConflict ∷ []) due (list_twice (settled_at rows p) (has_list (settled_at rows p) after shown ∙ e)))
-      (ap (λ (o : Option Reading). with_word o (codes "--list")) same ∙ rw e (any-list_again (given_value 16 after.workers) (given_value 512 after.generate) (named after.names) (codes "--list") list_word))
+      (ap (λ (o : Option Reading). with_word o (codes "--list")) same ∙ rw e (with_word-any-list_again (given_value 16 after.workers) (given_value 512 after.generate) (named after.names) (codes "--list") list_word))
 
   step_list : Settled rows v p → Step (walk_at rows p b false) (codes "--list") (with_word (reading v p false) (codes "--list"))
   step_list (settles after due shown same) = list_read after after.list refl due shown (same false)
@@ -249,9 +249,9 @@ no_long_fault word h o d e f =
     ap₂ (λ (t : Bool) (l : Option (Text × Option Text)). if t then [] else flag_word_fault rules false l word h) d e ∙ ap (λ (s : Option Text). bundle_fault_at s h) f
 
 -- no option has one letter, so a letter is refused; and there is one, where the bytes are text
-flag_refused : (rows : List Row) (p : Pending) (y x : ℕ) (ys : Text) → slice_get (chars (y ∷ ys)) 0 ≡ Some x → bundle_fault_at (Some (y ∷ ys)) (held_at rows p) ≡ UnknownArgument ∷ []
+bundle_fault_at-flag_refused : (rows : List Row) (p : Pending) (y x : ℕ) (ys : Text) → slice_get (chars (y ∷ ys)) 0 ≡ Some x → bundle_fault_at (Some (y ∷ ys)) (held_at rows p) ≡ UnknownArgument ∷ []
 unfolding flags_fault
-flag_refused rows p y x ys e = ap (λ (o : Option ℕ). bundle_step_fault rules false o (y ∷ ys) 0 (held_at rows p) (flags_fault rules false (length ys))) e
+bundle_fault_at-flag_refused rows p y x ys e = ap (λ (o : Option ℕ). bundle_step_fault rules false o (y ∷ ys) 0 (held_at rows p) (flags_fault rules false (length ys))) e
 
 no_flag_fault : (rows : List Row) (p : Pending) (y : ℕ) (ys : Text) → slice_get (chars (y ∷ ys)) 0 ≡ None → bundle_fault_at (Some (y ∷ ys)) (held_at rows p) ≡ []
 unfolding flags_fault
@@ -260,18 +260,18 @@ no_flag_fault rows p y ys e = ap (λ (o : Option ℕ). bundle_step_fault rules f
 abbrev flag_step : Waiting → Text → Held → Text → Option ℕ → (Text → ℕ → Outcome → Held → Held × Outcome) → Held × ClapStep
 flag_step waiting word h flags o more = after_flag rules waiting word (bundle_step rules o flags 0 PlainWord h more).0 (bundle_step rules o flags 0 PlainWord h more).1
 
-no_flag_met : (waiting : Waiting) (word : Text) (rows : List Row) (p : Pending) (y : ℕ) (ys : Text) → slice_get (chars (y ∷ ys)) 0 ≡ None
+short_or_plain-no_flag_met : (waiting : Waiting) (word : Text) (rows : List Row) (p : Pending) (y : ℕ) (ys : Text) → slice_get (chars (y ∷ ys)) 0 ≡ None
     → short_or_plain rules waiting word (Some (y ∷ ys)) (held_at rows p) ≡ plain_word rules waiting word (held_at rows p)
 unfolding bundle_met
-no_flag_met waiting word rows p y ys e = ap (λ (o : Option ℕ). flag_step waiting word (held_at rows p) (y ∷ ys) o (bundle_met rules (length ys))) e
+short_or_plain-no_flag_met waiting word rows p y ys e = ap (λ (o : Option ℕ). flag_step waiting word (held_at rows p) (y ∷ ys) o (bundle_met rules (length ys))) e
 
 step_short : (rows : List Row) (v : View) (p : Pending) (b : Bool) (word : Text) (y : ℕ) (ys : Text) → Shows rows v → word ≡ 45 ∷ y ∷ ys → bytes_eq word (codes "--") ≡ false → long_of word ≡ None
     → short_of word ≡ Some (y ∷ ys) → option_word word ≡ Other → (o : Option ℕ) → slice_get (chars (y ∷ ys)) 0 ≡ o → StepAt rows v p b word
 step_short rows v p b word y ys shown at d e f is None c =
-    step_plain rows v p b word shown (no_long_met (waiting_for p b) word (held_at rows p) (Some (y ∷ ys)) d e f ∙ no_flag_met (waiting_for p b) word rows p y ys c)
+    step_plain rows v p b word shown (no_long_met (waiting_for p b) word (held_at rows p) (Some (y ∷ ys)) d e f ∙ short_or_plain-no_flag_met (waiting_for p b) word rows p y ys c)
     (no_long_fault word (held_at rows p) (Some (y ∷ ys)) d e f ∙ no_flag_fault rows p y ys c) is
 step_short rows v p b word y ys shown at d e f is (Some x) c =
-    step_refused rows p b word UnknownArgument [] (with_word (reading v p false) word) (no_long_fault word (held_at rows p) (Some (y ∷ ys)) d e f ∙ flag_refused rows p y x ys c)
+    step_refused rows p b word UnknownArgument [] (with_word (reading v p false) word) (no_long_fault word (held_at rows p) (Some (y ∷ ys)) d e f ∙ bundle_fault_at-flag_refused rows p y x ys c)
     (refused_read v p word (ap value_of at ∙ dash_value (y ∷ ys)) (ap names_article at) is)
 
 step_kind : (rows : List Row) (v : View) (p : Pending) (b : Bool) (word : Text) → Shows rows v → Kind word → StepAt rows v p b word

@@ -16,69 +16,69 @@ reading_with (Some a) None l n e = None
 reading_with (Some a) (Some g) l None e = None
 reading_with (Some a) (Some g) l (Some n) e = Some (record { expected = e; workers = a; list = l; generate = g; names = n })
 
-no_generate : (a : Option (Option ℕ)) (l : Bool) (n : Option (List ℕ)) (e : Expected) → reading_with a None l n e ≡ None
-no_generate None l n e = refl
-no_generate (Some a) l n e = refl
+reading_with-no_generate : (a : Option (Option ℕ)) (l : Bool) (n : Option (List ℕ)) (e : Expected) → reading_with a None l n e ≡ None
+reading_with-no_generate None l n e = refl
+reading_with-no_generate (Some a) l n e = refl
 
-no_names : (a g : Option (Option ℕ)) (l : Bool) (e : Expected) → reading_with a g l None e ≡ None
-no_names None g l e = refl
-no_names (Some a) None l e = refl
-no_names (Some a) (Some g) l e = refl
+reading_with-no_names : (a g : Option (Option ℕ)) (l : Bool) (e : Expected) → reading_with a g l None e ≡ None
+reading_with-no_names None g l e = refl
+reading_with-no_names (Some a) None l e = refl
+reading_with-no_names (Some a) (Some g) l e = refl
 
 -- ---- where any word may come
 
-pub any-separator : (a g : Option (Option ℕ)) (l : Bool) (n : Option (List ℕ)) (w : List ℕ) → option_word w ≡ Separator
+pub with_word-any-separator : (a g : Option (Option ℕ)) (l : Bool) (n : Option (List ℕ)) (w : List ℕ) → option_word w ≡ Separator
     → with_word (reading_with a g l n AnyWord) w ≡ reading_with a g l n NamesAlone
-any-separator None g l n w is = refl
-any-separator (Some a) None l n w is = refl
-any-separator (Some a) (Some g) l None w is = refl
-any-separator (Some a) (Some g) l (Some n) w is = rw is
+with_word-any-separator None g l n w is = refl
+with_word-any-separator (Some a) None l n w is = refl
+with_word-any-separator (Some a) (Some g) l None w is = refl
+with_word-any-separator (Some a) (Some g) l (Some n) w is = rw is
 
-pub any-list : (a g : Option (Option ℕ)) (n : Option (List ℕ)) (w : List ℕ) → option_word w ≡ ListWord
+pub with_word-any-list : (a g : Option (Option ℕ)) (n : Option (List ℕ)) (w : List ℕ) → option_word w ≡ ListWord
     → with_word (reading_with a g false n AnyWord) w ≡ reading_with a g true n AnyWord
-any-list None g n w is = refl
-any-list (Some a) None n w is = refl
-any-list (Some a) (Some g) None w is = refl
-any-list (Some a) (Some g) (Some n) w is = rw is
+with_word-any-list None g n w is = refl
+with_word-any-list (Some a) None n w is = refl
+with_word-any-list (Some a) (Some g) None w is = refl
+with_word-any-list (Some a) (Some g) (Some n) w is = rw is
 
-pub any-list_again : (a g : Option (Option ℕ)) (n : Option (List ℕ)) (w : List ℕ) → option_word w ≡ ListWord → with_word (reading_with a g true n AnyWord) w ≡ None
-any-list_again None g n w is = refl
-any-list_again (Some a) None n w is = refl
-any-list_again (Some a) (Some g) None w is = refl
-any-list_again (Some a) (Some g) (Some n) w is = rw is
+pub with_word-any-list_again : (a g : Option (Option ℕ)) (n : Option (List ℕ)) (w : List ℕ) → option_word w ≡ ListWord → with_word (reading_with a g true n AnyWord) w ≡ None
+with_word-any-list_again None g n w is = refl
+with_word-any-list_again (Some a) None n w is = refl
+with_word-any-list_again (Some a) (Some g) None w is = refl
+with_word-any-list_again (Some a) (Some g) (Some n) w is = rw is
 
-pub any-workers : (a g : Option (Option ℕ)) (l : Bool) (n : Option (List ℕ)) (w : List ℕ) → option_word w ≡ WorkersWord
+pub with_word-any-workers : (a g : Option (Option ℕ)) (l : Bool) (n : Option (List ℕ)) (w : List ℕ) → option_word w ≡ WorkersWord
     → with_word (reading_with a g l n AnyWord) w ≡ reading_with a g l n Workers
-any-workers None g l n w is = refl
-any-workers (Some a) None l n w is = refl
-any-workers (Some a) (Some g) l None w is = refl
-any-workers (Some a) (Some g) l (Some n) w is = rw is
+with_word-any-workers None g l n w is = refl
+with_word-any-workers (Some a) None l n w is = refl
+with_word-any-workers (Some a) (Some g) l None w is = refl
+with_word-any-workers (Some a) (Some g) l (Some n) w is = rw is
 
-pub any-generate : (a g : Option (Option ℕ)) (l : Bool) (n : Option (List ℕ)) (w : List ℕ) → option_word w ≡ GenerateWord
+pub with_word-any-generate : (a g : Option (Option ℕ)) (l : Bool) (n : Option (List ℕ)) (w : List ℕ) → option_word w ≡ GenerateWord
     → with_word (reading_with a g l n AnyWord) w ≡ reading_with a g l n Generated
-any-generate None g l n w is = refl
-any-generate (Some a) None l n w is = refl
-any-generate (Some a) (Some g) l None w is = refl
-any-generate (Some a) (Some g) l (Some n) w is = rw is
+with_word-any-generate None g l n w is = refl
+with_word-any-generate (Some a) None l n w is = refl
+with_word-any-generate (Some a) (Some g) l None w is = refl
+with_word-any-generate (Some a) (Some g) l (Some n) w is = rw is
 
-pub any-name : (a g : Option (Option ℕ)) (l : Bool) (n : Option (List ℕ)) (w : List ℕ) → option_word w ≡ Other
+pub with_word-any-name : (a g : Option (Option ℕ)) (l : Bool) (n : Option (List ℕ)) (w : List ℕ) → option_word w ≡ Other
     → with_word (reading_with a g l n AnyWord) w ≡ reading_with a g l (with_name n w) AnyWord
-any-name None g l n w is = refl
-any-name (Some a) None l n w is = refl
-any-name (Some a) (Some g) l None w is = refl
-any-name (Some a) (Some g) l (Some n) w is = rw is (go (names_article w))
+with_word-any-name None g l n w is = refl
+with_word-any-name (Some a) None l n w is = refl
+with_word-any-name (Some a) (Some g) l None w is = refl
+with_word-any-name (Some a) (Some g) l (Some n) w is = rw is (go (names_article w))
   where
     go : (t : Bool) → (if t then Some (record { expected = AnyWord; workers = a; list = l; generate = g; names = with_number n (number_of (raised w)) }) else None)
         ≡ reading_with (Some a) (Some g) l (if t then Some (with_number n (number_of (raised w))) else None) AnyWord
     go true = refl
     go false = refl
 
-pub trailing-name : (a g : Option (Option ℕ)) (l : Bool) (n : Option (List ℕ)) (w : List ℕ)
+pub with_word-trailing-name : (a g : Option (Option ℕ)) (l : Bool) (n : Option (List ℕ)) (w : List ℕ)
     → with_word (reading_with a g l n NamesAlone) w ≡ reading_with a g l (with_name n w) NamesAlone
-trailing-name None g l n w = refl
-trailing-name (Some a) None l n w = refl
-trailing-name (Some a) (Some g) l None w = refl
-trailing-name (Some a) (Some g) l (Some n) w = go (names_article w)
+with_word-trailing-name None g l n w = refl
+with_word-trailing-name (Some a) None l n w = refl
+with_word-trailing-name (Some a) (Some g) l None w = refl
+with_word-trailing-name (Some a) (Some g) l (Some n) w = go (names_article w)
   where
     go : (t : Bool) → (if t then Some (record { expected = NamesAlone; workers = a; list = l; generate = g; names = with_number n (number_of (raised w)) }) else None)
         ≡ reading_with (Some a) (Some g) l (if t then Some (with_number n (number_of (raised w))) else None) NamesAlone
@@ -102,37 +102,37 @@ workers_again : (e : Expected) (y : ℕ) (x : Option ℕ) (l : Bool) (n : List �
 workers_again e y x l n None = refl
 workers_again e y x l n (Some k) = refl
 
-pub any-workers_value : (x : Option (Option ℕ)) (l : Bool) (n : Option (List ℕ)) (w : List ℕ) → option_word w ≡ WorkersValue
+pub with_word-any-workers_value : (x : Option (Option ℕ)) (l : Bool) (n : Option (List ℕ)) (w : List ℕ) → option_word w ≡ WorkersValue
     → with_word (reading_with (Some None) x l n AnyWord) w ≡ reading_with (given_value 16 (Some (drop 10 w))) x l n AnyWord
-any-workers_value None l n w is = sym (no_generate (given_value 16 (Some (drop 10 w))) l n AnyWord)
-any-workers_value (Some x) l None w is = sym (no_names (given_value 16 (Some (drop 10 w))) (Some x) l AnyWord)
-any-workers_value (Some x) l (Some n) w is = rw is (workers_taken AnyWord x l n (value_of (drop 10 w)))
+with_word-any-workers_value None l n w is = sym (reading_with-no_generate (given_value 16 (Some (drop 10 w))) l n AnyWord)
+with_word-any-workers_value (Some x) l None w is = sym (reading_with-no_names (given_value 16 (Some (drop 10 w))) (Some x) l AnyWord)
+with_word-any-workers_value (Some x) l (Some n) w is = rw is (workers_taken AnyWord x l n (value_of (drop 10 w)))
 
-pub any-workers_again : (o : Option ℕ) (x : Option (Option ℕ)) (l : Bool) (n : Option (List ℕ)) (w : List ℕ) → option_word w ≡ WorkersValue
+pub with_word-any-workers_again : (o : Option ℕ) (x : Option (Option ℕ)) (l : Bool) (n : Option (List ℕ)) (w : List ℕ) → option_word w ≡ WorkersValue
     → with_word (reading_with (option_map (λ k. Some k) o) x l n AnyWord) w ≡ None
-any-workers_again None x l n w is = refl
-any-workers_again (Some y) None l n w is = refl
-any-workers_again (Some y) (Some x) l None w is = refl
-any-workers_again (Some y) (Some x) l (Some n) w is = rw is (workers_again AnyWord y x l n (value_of (drop 10 w)))
+with_word-any-workers_again None x l n w is = refl
+with_word-any-workers_again (Some y) None l n w is = refl
+with_word-any-workers_again (Some y) (Some x) l None w is = refl
+with_word-any-workers_again (Some y) (Some x) l (Some n) w is = rw is (workers_again AnyWord y x l n (value_of (drop 10 w)))
 
-pub wanted-workers : (x : Option (Option ℕ)) (l : Bool) (n : Option (List ℕ)) (w : List ℕ)
+pub with_word-wanted-workers : (x : Option (Option ℕ)) (l : Bool) (n : Option (List ℕ)) (w : List ℕ)
     → with_word (reading_with (Some None) x l n Workers) w ≡ reading_with (given_value 16 (Some w)) x l n AnyWord
-wanted-workers None l n w = sym (no_generate (given_value 16 (Some w)) l n AnyWord)
-wanted-workers (Some x) l None w = sym (no_names (given_value 16 (Some w)) (Some x) l AnyWord)
-wanted-workers (Some x) l (Some n) w = workers_taken Workers x l n (value_of w)
+with_word-wanted-workers None l n w = sym (reading_with-no_generate (given_value 16 (Some w)) l n AnyWord)
+with_word-wanted-workers (Some x) l None w = sym (reading_with-no_names (given_value 16 (Some w)) (Some x) l AnyWord)
+with_word-wanted-workers (Some x) l (Some n) w = workers_taken Workers x l n (value_of w)
 
-pub wanted-workers_again : (o : Option ℕ) (x : Option (Option ℕ)) (l : Bool) (n : Option (List ℕ)) (w : List ℕ)
+pub with_word-wanted-workers_again : (o : Option ℕ) (x : Option (Option ℕ)) (l : Bool) (n : Option (List ℕ)) (w : List ℕ)
     → with_word (reading_with (option_map (λ k. Some k) o) x l n Workers) w ≡ None
-wanted-workers_again None x l n w = refl
-wanted-workers_again (Some y) None l n w = refl
-wanted-workers_again (Some y) (Some x) l None w = refl
-wanted-workers_again (Some y) (Some x) l (Some n) w = workers_again Workers y x l n (value_of w)
+with_word-wanted-workers_again None x l n w = refl
+with_word-wanted-workers_again (Some y) None l n w = refl
+with_word-wanted-workers_again (Some y) (Some x) l None w = refl
+with_word-wanted-workers_again (Some y) (Some x) l (Some n) w = workers_again Workers y x l n (value_of w)
 
-pub wanted-workers_none : (a g : Option (Option ℕ)) (l : Bool) (n : Option (List ℕ)) (w : List ℕ) → value_of w ≡ None → with_word (reading_with a g l n Workers) w ≡ None
-wanted-workers_none None g l n w none = refl
-wanted-workers_none (Some a) None l n w none = refl
-wanted-workers_none (Some a) (Some g) l None w none = refl
-wanted-workers_none (Some a) (Some g) l (Some n) w none = rw none
+pub with_word-wanted-workers_none : (a g : Option (Option ℕ)) (l : Bool) (n : Option (List ℕ)) (w : List ℕ) → value_of w ≡ None → with_word (reading_with a g l n Workers) w ≡ None
+with_word-wanted-workers_none None g l n w none = refl
+with_word-wanted-workers_none (Some a) None l n w none = refl
+with_word-wanted-workers_none (Some a) (Some g) l None w none = refl
+with_word-wanted-workers_none (Some a) (Some g) l (Some n) w none = rw none
 
 -- a value of `--generate`
 generate_taken : (e : Expected) (x : Option ℕ) (l : Bool) (n : List ℕ) (o : Option ℕ)
@@ -149,53 +149,53 @@ generate_again : (e : Expected) (y : ℕ) (x : Option ℕ) (l : Bool) (n : List 
 generate_again e y x l n None = refl
 generate_again e y x l n (Some k) = refl
 
-pub any-generate_value : (x : Option (Option ℕ)) (l : Bool) (n : Option (List ℕ)) (w : List ℕ) → option_word w ≡ GenerateValue
+pub with_word-any-generate_value : (x : Option (Option ℕ)) (l : Bool) (n : Option (List ℕ)) (w : List ℕ) → option_word w ≡ GenerateValue
     → with_word (reading_with x (Some None) l n AnyWord) w ≡ reading_with x (given_value 512 (Some (drop 11 w))) l n AnyWord
-any-generate_value None l n w is = refl
-any-generate_value (Some x) l None w is = sym (no_names (Some x) (given_value 512 (Some (drop 11 w))) l AnyWord)
-any-generate_value (Some x) l (Some n) w is = rw is (generate_taken AnyWord x l n (value_of (drop 11 w)))
+with_word-any-generate_value None l n w is = refl
+with_word-any-generate_value (Some x) l None w is = sym (reading_with-no_names (Some x) (given_value 512 (Some (drop 11 w))) l AnyWord)
+with_word-any-generate_value (Some x) l (Some n) w is = rw is (generate_taken AnyWord x l n (value_of (drop 11 w)))
 
-pub any-generate_again : (o : Option ℕ) (x : Option (Option ℕ)) (l : Bool) (n : Option (List ℕ)) (w : List ℕ) → option_word w ≡ GenerateValue
+pub with_word-any-generate_again : (o : Option ℕ) (x : Option (Option ℕ)) (l : Bool) (n : Option (List ℕ)) (w : List ℕ) → option_word w ≡ GenerateValue
     → with_word (reading_with x (option_map (λ k. Some k) o) l n AnyWord) w ≡ None
-any-generate_again None None l n w is = refl
-any-generate_again None (Some x) l n w is = refl
-any-generate_again (Some y) None l n w is = refl
-any-generate_again (Some y) (Some x) l None w is = refl
-any-generate_again (Some y) (Some x) l (Some n) w is = rw is (generate_again AnyWord y x l n (value_of (drop 11 w)))
+with_word-any-generate_again None None l n w is = refl
+with_word-any-generate_again None (Some x) l n w is = refl
+with_word-any-generate_again (Some y) None l n w is = refl
+with_word-any-generate_again (Some y) (Some x) l None w is = refl
+with_word-any-generate_again (Some y) (Some x) l (Some n) w is = rw is (generate_again AnyWord y x l n (value_of (drop 11 w)))
 
-pub wanted-generate : (x : Option (Option ℕ)) (l : Bool) (n : Option (List ℕ)) (w : List ℕ)
+pub with_word-wanted-generate : (x : Option (Option ℕ)) (l : Bool) (n : Option (List ℕ)) (w : List ℕ)
     → with_word (reading_with x (Some None) l n Generated) w ≡ reading_with x (given_value 512 (Some w)) l n AnyWord
-wanted-generate None l n w = refl
-wanted-generate (Some x) l None w = sym (no_names (Some x) (given_value 512 (Some w)) l AnyWord)
-wanted-generate (Some x) l (Some n) w = generate_taken Generated x l n (value_of w)
+with_word-wanted-generate None l n w = refl
+with_word-wanted-generate (Some x) l None w = sym (reading_with-no_names (Some x) (given_value 512 (Some w)) l AnyWord)
+with_word-wanted-generate (Some x) l (Some n) w = generate_taken Generated x l n (value_of w)
 
-pub wanted-generate_again : (o : Option ℕ) (x : Option (Option ℕ)) (l : Bool) (n : Option (List ℕ)) (w : List ℕ)
+pub with_word-wanted-generate_again : (o : Option ℕ) (x : Option (Option ℕ)) (l : Bool) (n : Option (List ℕ)) (w : List ℕ)
     → with_word (reading_with x (option_map (λ k. Some k) o) l n Generated) w ≡ None
-wanted-generate_again None None l n w = refl
-wanted-generate_again None (Some x) l n w = refl
-wanted-generate_again (Some y) None l n w = refl
-wanted-generate_again (Some y) (Some x) l None w = refl
-wanted-generate_again (Some y) (Some x) l (Some n) w = generate_again Generated y x l n (value_of w)
+with_word-wanted-generate_again None None l n w = refl
+with_word-wanted-generate_again None (Some x) l n w = refl
+with_word-wanted-generate_again (Some y) None l n w = refl
+with_word-wanted-generate_again (Some y) (Some x) l None w = refl
+with_word-wanted-generate_again (Some y) (Some x) l (Some n) w = generate_again Generated y x l n (value_of w)
 
-pub wanted-generate_none : (a g : Option (Option ℕ)) (l : Bool) (n : Option (List ℕ)) (w : List ℕ) → value_of w ≡ None → with_word (reading_with a g l n Generated) w ≡ None
-wanted-generate_none None g l n w none = refl
-wanted-generate_none (Some a) None l n w none = refl
-wanted-generate_none (Some a) (Some g) l None w none = refl
-wanted-generate_none (Some a) (Some g) l (Some n) w none = rw none
+pub with_word-wanted-generate_none : (a g : Option (Option ℕ)) (l : Bool) (n : Option (List ℕ)) (w : List ℕ) → value_of w ≡ None → with_word (reading_with a g l n Generated) w ≡ None
+with_word-wanted-generate_none None g l n w none = refl
+with_word-wanted-generate_none (Some a) None l n w none = refl
+with_word-wanted-generate_none (Some a) (Some g) l None w none = refl
+with_word-wanted-generate_none (Some a) (Some g) l (Some n) w none = rw none
 
 -- ---- at the end
 
-pub ended-wanted : (a g : Option (Option ℕ)) (l : Bool) (n : Option (List ℕ)) (e : Expected) → may_end e ≡ false → asked (reading_with a g l n e) ≡ None
-ended-wanted None g l n e isnt = refl
-ended-wanted (Some a) None l n e isnt = refl
-ended-wanted (Some a) (Some g) l None e isnt = refl
-ended-wanted (Some a) (Some g) l (Some n) e isnt = rw isnt
+pub asked-ended-wanted : (a g : Option (Option ℕ)) (l : Bool) (n : Option (List ℕ)) (e : Expected) → may_end e ≡ false → asked (reading_with a g l n e) ≡ None
+asked-ended-wanted None g l n e isnt = refl
+asked-ended-wanted (Some a) None l n e isnt = refl
+asked-ended-wanted (Some a) (Some g) l None e isnt = refl
+asked-ended-wanted (Some a) (Some g) l (Some n) e isnt = rw isnt
 
-pub ended : (a g : Option (Option ℕ)) (l : Bool) (n : Option (List ℕ)) (e : Expected) → may_end e ≡ true → asked (reading_with a g l n e) ≡ order_with a g l n
-ended None g l n e may = refl
-ended (Some a) None l n e may = refl
-ended (Some a) (Some g) l None e may = refl
-ended (Some a) (Some g) l (Some n) e may = rw may
+pub asked-ended : (a g : Option (Option ℕ)) (l : Bool) (n : Option (List ℕ)) (e : Expected) → may_end e ≡ true → asked (reading_with a g l n e) ≡ order_with a g l n
+asked-ended None g l n e may = refl
+asked-ended (Some a) None l n e may = refl
+asked-ended (Some a) (Some g) l None e may = refl
+asked-ended (Some a) (Some g) l (Some n) e may = rw may
 
 -- one more name
 pub named-push : (ws : List (List ℕ)) (w : List ℕ) → named (ws ++ w ∷ []) ≡ with_name (named ws) w
@@ -205,5 +205,5 @@ pub with_name-none : (n : Option (List ℕ)) (w : List ℕ) → names_article w 
 with_name-none None w isnt = refl
 with_name-none (Some n) w isnt = rw isnt
 
-pub faulty-names : (a g : Option (Option ℕ)) (l : Bool) (e : Expected) → reading_with a g l None e ≡ None
-faulty-names a g l e = no_names a g l e
+pub reading_with-faulty-names : (a g : Option (Option ℕ)) (l : Bool) (e : Expected) → reading_with a g l None e ≡ None
+reading_with-faulty-names a g l e = reading_with-no_names a g l e

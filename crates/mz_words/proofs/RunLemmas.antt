@@ -15,7 +15,7 @@ use Rattle.mz_words.specs.Program.{program_app}
 use Rattle.mz_words.specs.Words.{with_word, unread, asked, order_of, may_end}
 use Rattle.mz_words.specs.Given.{given_value, named, order_with}
 use Rattle.mz_words.proofs.RowLemmas.{found, found-other, found-new}
-use Rattle.mz_words.proofs.ReadingLemmas.{ended}
+use Rattle.mz_words.proofs.ReadingLemmas.{asked-ended}
 use Rattle.mz_words.proofs.StateLemmas.{top, rules, workers_arg, generate_arg, list_arg, names_arg, View, Shows, value_row, flag_row, names_row, has_list, Pending, Nothing, pending_of, held_at, walk_at, expected, reading, Ends, Settled, settles, stops, settle}
 use Rattle.mz_words.proofs.StepLemmas.{Step, goes, fails}
 use Rattle.mz_words.proofs.OptionLemmas.{step_word}
@@ -30,9 +30,9 @@ fold-None : (ws : List Text) → fold with_word None ws ≡ None
 fold-None [] = refl
 fold-None (w ∷ ws) = fold-None ws
 
-no_words : (w : Walk) → walk_fault top [] w [] ≡ []
+walk_fault-no_words : (w : Walk) → walk_fault top [] w [] ≡ []
 unfolding walk_fault
-no_words w = refl
+walk_fault-no_words w = refl
 
 first_fault : (w : Walk) (word : Text) (ws : List Text) → walk_fault top [] w (word ∷ ws) ≡ or_else (turn_fault top [] w word) (walk_fault top [] (walked rules [] w word) ws)
 unfolding walk_fault
@@ -53,28 +53,28 @@ run_next w word ws o ih (fails k ks fault none) =
     broke k ks (first_fault w word ws ∙ ap (λ (f : Kinds). or_else f (walk_fault top [] (walked rules [] w word) ws)) fault) (ap (λ (x : Option Reading). fold with_word x ws) none ∙ fold-None ws)
 
 run : (ws : List Text) (rows : List Row) (v : View) (p : Pending) (b t : Bool) → Shows rows v → Run (walk_at rows p b t) ws (fold with_word (reading v p t) ws)
-run [] rows v p b t shown = ran rows v p b t shown (no_words (walk_at rows p b t)) refl refl
+run [] rows v p b t shown = ran rows v p b t shown (walk_fault-no_words (walk_at rows p b t)) refl refl
 run (word ∷ ws) rows v p b t shown = run_next (walk_at rows p b t) word ws (reading v p t) (run ws) (step_word rows v p b t word shown)
 
 -- ---- defaults
 
-no_use : (r : Bool) (rows : List Row) → (if r then rows else rows) ≡ rows
-no_use true rows = refl
-no_use false rows = refl
+if-no_use : (r : Bool) (rows : List Row) → (if r then rows else rows) ≡ rows
+if-no_use true rows = refl
+if-no_use false rows = refl
 
-none_either : (r : Bool) (ks : Kinds) → (if r || true then [] else ks) ≡ []
-none_either true ks = refl
-none_either false ks = refl
+or-none_either : (r : Bool) (ks : Kinds) → (if r || true then [] else ks) ≡ []
+or-none_either true ks = refl
+or-none_either false ks = refl
 
 -- only `--list` has a default
 workers_default : (rows : List Row) → with_default rows workers_arg ≡ rows
-workers_default rows = no_use (has_row (codes "workers") rows) rows
+workers_default rows = if-no_use (has_row (codes "workers") rows) rows
 
 generate_default : (rows : List Row) → with_default rows generate_arg ≡ rows
-generate_default rows = no_use (has_row (codes "generate") rows) rows
+generate_default rows = if-no_use (has_row (codes "generate") rows) rows
 
 names_default : (rows : List Row) → with_default rows names_arg ≡ rows
-names_default rows = no_use (has_row (codes "names") rows) rows
+names_default rows = if-no_use (has_row (codes "names") rows) rows
 
 list_default_fault : (rows : List Row) → default_fault rows list_arg ≡ []
 list_default_fault rows = go (has_row (codes "list") rows) refl
@@ -191,8 +191,8 @@ tail_fault w = or_else (entered_fault (built program_app) w.stopped) (or_else (s
 fault_is : (ws : List Text) → fault_of program_app ws ≡ or_else (walk_fault top [] start ws) (tail_fault (fold (walked rules []) start ws))
 fault_is ws = refl
 
-rows_are : (ws : List Text) → matches_of program_app ws ≡ finished rules (fold (walked rules []) start ws).held
-rows_are ws = refl
+matches_of-rows_are : (ws : List Text) → matches_of program_app ws ≡ finished rules (fold (walked rules []) start ws).held
+matches_of-rows_are ws = refl
 
 -- the words are taken, and what is given is the order; or they are refused, and give no order
 pub data Parse (ws : List Text) : Type 0 where
@@ -213,8 +213,8 @@ parsed : (ws : List Text) (rows : List Row) (v : View) (p : Pending) (b t : Bool
 parsed ws rows v p b t fault walk order (settles after due shown same) =
     taken after
     (fault_is ws ∙ ap₂ (λ (f : Kinds) (w : Walk). or_else f (tail_fault w)) fault walk ∙ ap₂ (λ (f g : Kinds). or_else f (or_else g [])) due (defaults_pass (settled_rows rules (pending_of p) rows)))
-    (subst (λ (l : List Row). Gives l after) (sym (rows_are ws ∙ ap (λ (w : Walk). finished rules w.held) walk ∙ all_defaults (settled_rows rules (pending_of p) rows))) (given_at_end (settled_rows rules (pending_of p) rows) after shown))
-    (order ∙ ap asked (same t) ∙ ended (given_value 16 after.workers) (given_value 512 after.generate) after.list (named after.names) (expected t) (may_end-expected t))
+    (subst (λ (l : List Row). Gives l after) (sym (matches_of-rows_are ws ∙ ap (λ (w : Walk). finished rules w.held) walk ∙ all_defaults (settled_rows rules (pending_of p) rows))) (given_at_end (settled_rows rules (pending_of p) rows) after shown))
+    (order ∙ ap asked (same t) ∙ asked-ended (given_value 16 after.workers) (given_value 512 after.generate) after.list (named after.names) (expected t) (may_end-expected t))
 parsed ws rows v p b t fault walk order (stops k ks due end) =
     refused k ks
     (fault_is ws ∙ ap₂ (λ (f : Kinds) (w : Walk). or_else f (tail_fault w)) fault walk

@@ -14,7 +14,7 @@ use Rattle.mz_words.specs.Program.{program_app, workers_rule, generate_rule, lis
 use Rattle.mz_words.specs.Words.{value_of, with_word, asked}
 use Rattle.mz_words.specs.Given.{given_value, named}
 use Rattle.mz_words.proofs.RowLemmas.{found, new_row, found-first_use, found-other_use, found-new, found-more, found-other, has_row-found}
-use Rattle.mz_words.proofs.ReadingLemmas.{reading_with, wanted-workers_none, wanted-generate_none, ended-wanted}
+use Rattle.mz_words.proofs.ReadingLemmas.{reading_with, with_word-wanted-workers_none, with_word-wanted-generate_none, asked-ended-wanted}
 
 -- ---- the program, built
 
@@ -247,15 +247,15 @@ settle rows v Nothing shown = settles v refl shown (λ t. refl)
 settle rows v (Name n) shown = settles (record v { names = v.names ++ n ∷ [] }) refl (use_name rows v n shown) (λ t. refl)
 settle rows v WorkersWanted shown = stops InvalidValue [] refl (record {
   trailing = refl;
-  other = λ w isnt. wanted-workers_none (given_value 16 v.workers) (given_value 512 v.generate) v.list (named v.names) w isnt;
-  done = ended-wanted (given_value 16 v.workers) (given_value 512 v.generate) v.list (named v.names) Workers refl;
+  other = λ w isnt. with_word-wanted-workers_none (given_value 16 v.workers) (given_value 512 v.generate) v.list (named v.names) w isnt;
+  done = asked-ended-wanted (given_value 16 v.workers) (given_value 512 v.generate) v.list (named v.names) Workers refl;
   plain = λ is. absurd (true≢false is);
 })
 settle rows v (WorkersHeld x) shown = settle_workers rows v x shown v.workers refl
 settle rows v GenerateWanted shown = stops InvalidValue [] refl (record {
   trailing = refl;
-  other = λ w isnt. wanted-generate_none (given_value 16 v.workers) (given_value 512 v.generate) v.list (named v.names) w isnt;
-  done = ended-wanted (given_value 16 v.workers) (given_value 512 v.generate) v.list (named v.names) Generated refl;
+  other = λ w isnt. with_word-wanted-generate_none (given_value 16 v.workers) (given_value 512 v.generate) v.list (named v.names) w isnt;
+  done = asked-ended-wanted (given_value 16 v.workers) (given_value 512 v.generate) v.list (named v.names) Generated refl;
   plain = λ is. absurd (true≢false is);
 })
 settle rows v (GenerateHeld x) shown = settle_generate rows v x shown v.generate refl

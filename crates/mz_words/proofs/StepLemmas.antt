@@ -11,7 +11,7 @@ use Rattle.mz_words.specs.OptionWord.{Separator, Other, option_word}
 use Rattle.mz_words.specs.Reading.{Reading}
 use Rattle.mz_words.specs.Words.{value_of, names_article, with_word}
 use Rattle.mz_words.specs.Given.{given_value, value_within, with_name, named}
-use Rattle.mz_words.proofs.ReadingLemmas.{reading_with, any-separator, any-name, trailing-name, wanted-workers, wanted-workers_again, wanted-workers_none, wanted-generate, wanted-generate_again, wanted-generate_none, named-push, with_name-none, faulty-names}
+use Rattle.mz_words.proofs.ReadingLemmas.{reading_with, with_word-any-separator, with_word-any-name, with_word-trailing-name, with_word-wanted-workers, with_word-wanted-workers_again, with_word-wanted-workers_none, with_word-wanted-generate, with_word-wanted-generate_again, with_word-wanted-generate_none, named-push, with_name-none, reading_with-faulty-names}
 use Rattle.mz_words.proofs.StateLemmas.{top, rules, View, Shows, Pending, Nothing, Name, WorkersWanted, WorkersHeld, GenerateWanted, GenerateHeld, pending_of, waiting_for, held_at, walk_at, base, reading, is_wanted, Settled, settles, stops, settle}
 
 -- the walk goes on, and stands where the definition stands; or the word is refused, and no order begins so
@@ -53,11 +53,11 @@ more_names_alone : (v : View) (word : Text) → reading_with (given_value 16 v.w
     ≡ base (record v { names = v.names ++ word ∷ [] }) NamesAlone
 more_names_alone v word = ap (λ (n : Option (List ℕ)). reading_with (given_value 16 v.workers) (given_value 512 v.generate) v.list n NamesAlone) (sym (named-push v.names word))
 
-read_alone : (v : View) (word : Text) → with_word (base v NamesAlone) word ≡ base (record v { names = v.names ++ word ∷ [] }) NamesAlone
-read_alone v word = trailing-name (given_value 16 v.workers) (given_value 512 v.generate) v.list (named v.names) word ∙ more_names_alone v word
+with_word-read_alone : (v : View) (word : Text) → with_word (base v NamesAlone) word ≡ base (record v { names = v.names ++ word ∷ [] }) NamesAlone
+with_word-read_alone v word = with_word-trailing-name (given_value 16 v.workers) (given_value 512 v.generate) v.list (named v.names) word ∙ more_names_alone v word
 
-read_name : (v : View) (word : Text) → option_word word ≡ Other → with_word (base v AnyWord) word ≡ base (record v { names = v.names ++ word ∷ [] }) AnyWord
-read_name v word is = any-name (given_value 16 v.workers) (given_value 512 v.generate) v.list (named v.names) word is ∙ more_names v word
+with_word-read_name : (v : View) (word : Text) → option_word word ≡ Other → with_word (base v AnyWord) word ≡ base (record v { names = v.names ++ word ∷ [] }) AnyWord
+with_word-read_name v word is = with_word-any-name (given_value 16 v.workers) (given_value 512 v.generate) v.list (named v.names) word is ∙ more_names v word
 
 -- ---- behind `--`
 
@@ -71,7 +71,7 @@ trailing_turn rows p b word = refl
 pub step_trailing : (rows : List Row) (v : View) (p : Pending) (b : Bool) (word : Text) → Settled rows v p → Step (walk_at rows p b true) word (with_word (reading v p true) word)
 step_trailing rows v p b word (settles after fault shown same) =
     goes (settled_rows rules (pending_of p) rows) after (Name word) true true shown (trailing_turn rows p b word ∙ place_fault rows p ∙ fault)
-    (trailing_walked rows p b word ∙ place_word rows p b true word) (ap (λ (o : Option Reading). with_word o word) (same true) ∙ read_alone after word)
+    (trailing_walked rows p b word ∙ place_word rows p b true word) (ap (λ (o : Option Reading). with_word o word) (same true) ∙ with_word-read_alone after word)
 step_trailing rows v p b word (stops k ks fault end) =
     fails k ks (trailing_turn rows p b word ∙ place_fault rows p ∙ fault) (ap (λ (o : Option Reading). with_word o word) end.trailing)
 
@@ -120,20 +120,20 @@ unfolding option_word
 separator_word = refl
 
 separator_read : (v : View) (p : Pending) → with_word (reading v p false) (codes "--") ≡ reading v p true
-separator_read v Nothing = any-separator (given_value 16 v.workers) (given_value 512 v.generate) v.list (named v.names) (codes "--") separator_word
-separator_read v (Name n) = any-separator (given_value 16 v.workers) (given_value 512 v.generate) v.list (named (v.names ++ n ∷ [])) (codes "--") separator_word
-separator_read v WorkersWanted = wanted-workers_none (given_value 16 v.workers) (given_value 512 v.generate) v.list (named v.names) (codes "--") refl
+separator_read v Nothing = with_word-any-separator (given_value 16 v.workers) (given_value 512 v.generate) v.list (named v.names) (codes "--") separator_word
+separator_read v (Name n) = with_word-any-separator (given_value 16 v.workers) (given_value 512 v.generate) v.list (named (v.names ++ n ∷ [])) (codes "--") separator_word
+separator_read v WorkersWanted = with_word-wanted-workers_none (given_value 16 v.workers) (given_value 512 v.generate) v.list (named v.names) (codes "--") refl
 separator_read v (WorkersHeld x) = go (is_some v.workers)
   where
     go : (t : Bool) → with_word (if t then None else base (record v { workers = Some x }) AnyWord) (codes "--") ≡ (if t then None else base (record v { workers = Some x }) NamesAlone)
     go true = refl
-    go false = any-separator (given_value 16 (Some x)) (given_value 512 v.generate) v.list (named v.names) (codes "--") separator_word
-separator_read v GenerateWanted = wanted-generate_none (given_value 16 v.workers) (given_value 512 v.generate) v.list (named v.names) (codes "--") refl
+    go false = with_word-any-separator (given_value 16 (Some x)) (given_value 512 v.generate) v.list (named v.names) (codes "--") separator_word
+separator_read v GenerateWanted = with_word-wanted-generate_none (given_value 16 v.workers) (given_value 512 v.generate) v.list (named v.names) (codes "--") refl
 separator_read v (GenerateHeld x) = go (is_some v.generate)
   where
     go : (t : Bool) → with_word (if t then None else base (record v { generate = Some x }) AnyWord) (codes "--") ≡ (if t then None else base (record v { generate = Some x }) NamesAlone)
     go true = refl
-    go false = any-separator (given_value 16 v.workers) (given_value 512 (Some x)) v.list (named v.names) (codes "--") separator_word
+    go false = with_word-any-separator (given_value 16 v.workers) (given_value 512 (Some x)) v.list (named v.names) (codes "--") separator_word
 
 pub step_separator : (rows : List Row) (v : View) (p : Pending) (b : Bool) → Shows rows v → Step (walk_at rows p b false) (codes "--") (with_word (reading v p false) (codes "--"))
 step_separator rows v p b shown =
@@ -150,8 +150,8 @@ value_met rows v word b shown met fault o is =
     (walk_is rows WorkersWanted b word (held_at rows (WorkersHeld word), next idle) met) (go o is)
   where
     go : (o : Option Text) → v.workers ≡ o → with_word (base v Workers) word ≡ reading v (WorkersHeld word) false
-    go None e = rw e (wanted-workers (given_value 512 v.generate) v.list (named v.names) word)
-    go (Some y) e = rw e (wanted-workers_again (value_within 16 y) (given_value 512 v.generate) v.list (named v.names) word)
+    go None e = rw e (with_word-wanted-workers (given_value 512 v.generate) v.list (named v.names) word)
+    go (Some y) e = rw e (with_word-wanted-workers_again (value_within 16 y) (given_value 512 v.generate) v.list (named v.names) word)
 
 made_met : (rows : List Row) (v : View) (word : Text) (b : Bool) → Shows rows v → met_at rows GenerateWanted b word ≡ (held_at rows (GenerateHeld word), next idle) → fault_at word (held_at rows GenerateWanted) ≡ []
     → (o : Option Text) → v.generate ≡ o → Step (walk_at rows GenerateWanted b false) word (with_word (reading v GenerateWanted false) word)
@@ -160,15 +160,15 @@ made_met rows v word b shown met fault o is =
     (walk_is rows GenerateWanted b word (held_at rows (GenerateHeld word), next idle) met) (go o is)
   where
     go : (o : Option Text) → v.generate ≡ o → with_word (base v Generated) word ≡ reading v (GenerateHeld word) false
-    go None e = rw e (wanted-generate (given_value 16 v.workers) v.list (named v.names) word)
-    go (Some y) e = rw e (wanted-generate_again (value_within 512 y) (given_value 16 v.workers) v.list (named v.names) word)
+    go None e = rw e (with_word-wanted-generate (given_value 16 v.workers) v.list (named v.names) word)
+    go (Some y) e = rw e (with_word-wanted-generate_again (value_within 512 y) (given_value 16 v.workers) v.list (named v.names) word)
 
 -- a name, where nothing waits for a value
 name_met : (rows : List Row) (v : View) (p : Pending) (b : Bool) (word : Text) → is_wanted p ≡ false → met_at rows p b word ≡ (held_at rows p, value) → fault_at word (held_at rows p) ≡ []
     → option_word word ≡ Other → Settled rows v p → Step (walk_at rows p b false) word (with_word (reading v p false) word)
 name_met rows v p b word free met fault is (settles after due shown same) =
     goes (settled_rows rules (pending_of p) rows) after (Name word) true false shown (turn_is rows p b word (held_at rows p, value) [] met fault ∙ place_fault rows p ∙ due)
-    (walk_is rows p b word (held_at rows p, value) met ∙ place_word rows p b false word) (ap (λ (o : Option Reading). with_word o word) (same false) ∙ read_name after word is)
+    (walk_is rows p b word (held_at rows p, value) met ∙ place_word rows p b false word) (ap (λ (o : Option Reading). with_word o word) (same false) ∙ with_word-read_name after word is)
 name_met rows v p b word free met fault is (stops k ks due end) =
     fails k ks (turn_is rows p b word (held_at rows p, value) [] met fault ∙ place_fault rows p ∙ due) (ap (λ (o : Option Reading). with_word o word) (end.plain free))
 
@@ -189,24 +189,24 @@ step_plain rows v (GenerateHeld x) b word shown met fault is =
 
 -- ---- words that are refused
 
-refused_name : (v : View) (word : Text) → names_article word ≡ false → option_word word ≡ Other → with_word (base v AnyWord) word ≡ None
-refused_name v word isnt is =
-    any-name (given_value 16 v.workers) (given_value 512 v.generate) v.list (named v.names) word is
+with_word-refused_name : (v : View) (word : Text) → names_article word ≡ false → option_word word ≡ Other → with_word (base v AnyWord) word ≡ None
+with_word-refused_name v word isnt is =
+    with_word-any-name (given_value 16 v.workers) (given_value 512 v.generate) v.list (named v.names) word is
     ∙ ap (λ (n : Option (List ℕ)). reading_with (given_value 16 v.workers) (given_value 512 v.generate) v.list n AnyWord) (with_name-none (named v.names) word isnt)
-    ∙ faulty-names (given_value 16 v.workers) (given_value 512 v.generate) v.list AnyWord
+    ∙ reading_with-faulty-names (given_value 16 v.workers) (given_value 512 v.generate) v.list AnyWord
 
 pub refused_read : (v : View) (p : Pending) (word : Text) → value_of word ≡ None → names_article word ≡ false → option_word word ≡ Other → with_word (reading v p false) word ≡ None
-refused_read v Nothing word none isnt is = refused_name v word isnt is
-refused_read v (Name n) word none isnt is = refused_name (record v { names = v.names ++ n ∷ [] }) word isnt is
-refused_read v WorkersWanted word none isnt is = wanted-workers_none (given_value 16 v.workers) (given_value 512 v.generate) v.list (named v.names) word none
+refused_read v Nothing word none isnt is = with_word-refused_name v word isnt is
+refused_read v (Name n) word none isnt is = with_word-refused_name (record v { names = v.names ++ n ∷ [] }) word isnt is
+refused_read v WorkersWanted word none isnt is = with_word-wanted-workers_none (given_value 16 v.workers) (given_value 512 v.generate) v.list (named v.names) word none
 refused_read v (WorkersHeld x) word none isnt is = go (is_some v.workers)
   where
     go : (t : Bool) → with_word (if t then None else base (record v { workers = Some x }) AnyWord) word ≡ None
     go true = refl
-    go false = refused_name (record v { workers = Some x }) word isnt is
-refused_read v GenerateWanted word none isnt is = wanted-generate_none (given_value 16 v.workers) (given_value 512 v.generate) v.list (named v.names) word none
+    go false = with_word-refused_name (record v { workers = Some x }) word isnt is
+refused_read v GenerateWanted word none isnt is = with_word-wanted-generate_none (given_value 16 v.workers) (given_value 512 v.generate) v.list (named v.names) word none
 refused_read v (GenerateHeld x) word none isnt is = go (is_some v.generate)
   where
     go : (t : Bool) → with_word (if t then None else base (record v { generate = Some x }) AnyWord) word ≡ None
     go true = refl
-    go false = refused_name (record v { generate = Some x }) word isnt is
+    go false = with_word-refused_name (record v { generate = Some x }) word isnt is

@@ -11,7 +11,7 @@ use Rattle.mz_corpus.specs.Article.{Article}
 use Rattle.mz_turns.specs.Row.{Row, Waiting, Claimed, Accepted, Rejected, Blocked, Cyclic, Missing, is_claimed, freed, row_of, row_at, claim_weight, wait_weight}
 use Rattle.mz_turns.specs.Dependencies.{place_of}
 use Rattle.mz_turns.specs.Machine.{Blocks, end, block}
-use Rattle.mz_rows.proofs.ReadyLemmas.{ready_is, weight_put}
+use Rattle.mz_rows.proofs.ReadyLemmas.{ready_is, sum-weight_put}
 use Rattle.mz_desk.specs.Job.{Job, Done}
 use Rattle.mz_desk.specs.State.{State}
 use Rattle.mz_desk.specs.Desk.{Takes, Publishes, Reclaims}
@@ -23,8 +23,8 @@ blocks_left : (c : List Article) (rows after : List Row) → length rows ≡ len
 blocks_left c rows after whole (end rows1 none) = (omega arith, refl)
 blocks_left c rows after whole (block r n rows1 after1 x rest) =
     let l : r < length rows = subst (λ k. r < k) (sym whole) (slice_get_within c r x.article x.is_at) in
-    let waits = weight_put wait_weight rows r (Blocked n) Waiting l x.waits in
-    let claims = weight_put claim_weight rows r (Blocked n) Waiting l x.waits in
+    let waits = sum-weight_put wait_weight rows r (Blocked n) Waiting l x.waits in
+    let claims = sum-weight_put claim_weight rows r (Blocked n) Waiting l x.waits in
     let later = blocks_left c (slice_set rows r (Blocked n)) after (length-set rows r (Blocked n) ∙ whole) rest in
     (omega (arith, waits, later.0), omega (arith, claims, later.1))
 
@@ -41,8 +41,8 @@ taken_left old mid w j whole x =
     let c = old.corpus.articles in
     let ready = ready_is c old.rows j.row x.ready in
     let l : j.row < length old.rows = subst (λ k. j.row < k) (sym whole) (slice_get_within c j.row ready.article ready.is_at) in
-    let waits : sum_by wait_weight (slice_set old.rows j.row (Claimed w)) + 1 ≡ sum_by wait_weight old.rows + 0 = weight_put wait_weight old.rows j.row (Claimed w) Waiting l ready.waits in
-    let claims : sum_by claim_weight (slice_set old.rows j.row (Claimed w)) + 0 ≡ sum_by claim_weight old.rows + 1 = weight_put claim_weight old.rows j.row (Claimed w) Waiting l ready.waits in
+    let waits : sum_by wait_weight (slice_set old.rows j.row (Claimed w)) + 1 ≡ sum_by wait_weight old.rows + 0 = sum-weight_put wait_weight old.rows j.row (Claimed w) Waiting l ready.waits in
+    let claims : sum_by claim_weight (slice_set old.rows j.row (Claimed w)) + 0 ≡ sum_by claim_weight old.rows + 1 = sum-weight_put claim_weight old.rows j.row (Claimed w) Waiting l ready.waits in
     ap work_left x.rows ∙ omega (arith, waits, claims)
 
 published_left : (mid new : State) (d : Done) → length mid.rows ≡ length mid.corpus.articles → Publishes mid new d → work_left new.rows + 2 ≤ work_left mid.rows
@@ -51,8 +51,8 @@ published_left mid new d whole x =
     let k = x.stands.claim in
     let p = place_of c d.job.name in
     let l : p < length mid.rows = subst (λ n. p < n) (sym whole) (slice_get_within c p k.article k.is_at) in
-    let waits : sum_by wait_weight (slice_set mid.rows p (row_of d.outcome)) + 0 ≡ sum_by wait_weight mid.rows + wait_weight (row_of d.outcome) = weight_put wait_weight mid.rows p (row_of d.outcome) (Claimed d.job.worker) l k.claimed in
-    let claims : sum_by claim_weight (slice_set mid.rows p (row_of d.outcome)) + 1 ≡ sum_by claim_weight mid.rows + claim_weight (row_of d.outcome) = weight_put claim_weight mid.rows p (row_of d.outcome) (Claimed d.job.worker) l k.claimed in
+    let waits : sum_by wait_weight (slice_set mid.rows p (row_of d.outcome)) + 0 ≡ sum_by wait_weight mid.rows + wait_weight (row_of d.outcome) = sum-weight_put wait_weight mid.rows p (row_of d.outcome) (Claimed d.job.worker) l k.claimed in
+    let claims : sum_by claim_weight (slice_set mid.rows p (row_of d.outcome)) + 1 ≡ sum_by claim_weight mid.rows + claim_weight (row_of d.outcome) = sum-weight_put claim_weight mid.rows p (row_of d.outcome) (Claimed d.job.worker) l k.claimed in
     let later = blocks_left c (slice_set mid.rows p (row_of d.outcome)) new.rows (length-set mid.rows p (row_of d.outcome) ∙ whole) x.rows in
     omega (arith, waits, claims, outcome_waits d.outcome, outcome_claims d.outcome, later.0, later.1)
 

@@ -1,5 +1,5 @@
 use Rattle.std.proofs.Common.{◌-◌, refl, arith}
-use Rattle.mz_context.proofs.PlaceLemmas.{told_some, told_none}
+use Rattle.mz_context.proofs.PlaceLemmas.{told_some, places_in_use-told_none}
 use Rattle.mz_context.proofs.constants.places_in_use.Goals as goal
 
 pub returns-in-Some : goal.returns-in-Some
@@ -9,5 +9,5 @@ returns-in-Some c =
 pub loop-places-preserved : goal.loop-places-preserved
 loop-places-preserved c = (
   omega (arith, c.loop-places.invariant.0),
-  told_none c.args.ks.now c.loop-places.places (c.loop-places.places - 1) c.index-ks-places.result refl c.loop-places-test.true c.loop-places.invariant.0 c.index-ks-places.is c.in-None.is c.loop-places.invariant.1,
+  places_in_use-told_none c.args.ks.now c.loop-places.places (c.loop-places.places - 1) c.index-ks-places.result refl c.loop-places-test.true c.loop-places.invariant.0 c.index-ks-places.is c.in-None.is c.loop-places.invariant.1,
 )

@@ -3,7 +3,7 @@ use Rattle.std.specs.Arc.{arc_value}
 use Rattle.std.specs.List.{filter}
 use Rattle.mz_turns.specs.Library.{is_used_by}
 use Rattle.mz_desk.specs.Difference.{number_of_export, itself}
-use Rattle.mz_desk.proofs.DifferenceLemmas.{nil_is, only_first, only_second, first_lower, second_lower, first_value, rest_matches, own_first, all_itself, same_itself}
+use Rattle.mz_desk.proofs.DifferenceLemmas.{nil_is, only_first, only_second, first_lower, second_lower, first_value, rest_matches, filter-own_first, all_itself, same_itself}
 use Rattle.mz_desk.proofs.differences.+exports_differ.Goals as goal
 
 pub returns-in-Some-split_first : goal.returns-in-Some-split_first
@@ -22,7 +22,7 @@ returns-in-None-split_first-2 t c =
     let e = arc_value c.in-Some.e.now in
     let rest = filter p (map arc_value c.in-Some.rest.now) in
     let used : p e ≡ true = ap p (sym c.deref-in-Some.ensures) ∙ (sym c.is_used_by.ensures ∙ c.if-not-is_used_by.false) in
-    let taken = own_first p arc_value c.args.library.now c.in-Some.e.now c.in-Some.rest.now c.in-Some.ensures.cases.0 used in
+    let taken = filter-own_first p arc_value c.args.library.now c.in-Some.e.now c.in-Some.rest.now c.in-Some.ensures.cases.0 used in
     only_first number_of_export itself own others e rest c.deref-in-None-split_first-2.result.now.name.number
     taken (ap (map arc_value) (nil_is c.args.others.now c.in-None-split_first-2.ensures.cases)) c.requires.own (all_itself own) (sym (ap (λ x. x.name.number) c.deref-in-None-split_first-2.ensures))
 
@@ -34,7 +34,7 @@ returns-then-deref t c =
     let e = arc_value c.in-Some.e.now in
     let rest = filter p (map arc_value c.in-Some.rest.now) in
     let used : p e ≡ true = ap p (sym c.deref-in-Some.ensures) ∙ (sym c.is_used_by.ensures ∙ c.if-not-is_used_by.false) in
-    let taken = own_first p arc_value c.args.library.now c.in-Some.e.now c.in-Some.rest.now c.in-Some.ensures.cases.0 used in
+    let taken = filter-own_first p arc_value c.args.library.now c.in-Some.e.now c.in-Some.rest.now c.in-Some.ensures.cases.0 used in
     let f = arc_value c.in-Some-split_first-2.f.now in
     let more = map arc_value c.in-Some-split_first-2.more.now in
     let taken2 = ap (map arc_value) c.in-Some-split_first-2.ensures.cases.0 in
@@ -51,7 +51,7 @@ returns-then-deref-2 t c =
     let e = arc_value c.in-Some.e.now in
     let rest = filter p (map arc_value c.in-Some.rest.now) in
     let used : p e ≡ true = ap p (sym c.deref-in-Some.ensures) ∙ (sym c.is_used_by.ensures ∙ c.if-not-is_used_by.false) in
-    let taken = own_first p arc_value c.args.library.now c.in-Some.e.now c.in-Some.rest.now c.in-Some.ensures.cases.0 used in
+    let taken = filter-own_first p arc_value c.args.library.now c.in-Some.e.now c.in-Some.rest.now c.in-Some.ensures.cases.0 used in
     let f = arc_value c.in-Some-split_first-2.f.now in
     let more = map arc_value c.in-Some-split_first-2.more.now in
     let taken2 = ap (map arc_value) c.in-Some-split_first-2.ensures.cases.0 in
@@ -68,7 +68,7 @@ returns-then-export_equal t c =
     let e = arc_value c.in-Some.e.now in
     let rest = filter p (map arc_value c.in-Some.rest.now) in
     let used : p e ≡ true = ap p (sym c.deref-in-Some.ensures) ∙ (sym c.is_used_by.ensures ∙ c.if-not-is_used_by.false) in
-    let taken = own_first p arc_value c.args.library.now c.in-Some.e.now c.in-Some.rest.now c.in-Some.ensures.cases.0 used in
+    let taken = filter-own_first p arc_value c.args.library.now c.in-Some.e.now c.in-Some.rest.now c.in-Some.ensures.cases.0 used in
     let f = arc_value c.in-Some-split_first-2.f.now in
     let more = map arc_value c.in-Some-split_first-2.more.now in
     let taken2 = ap (map arc_value) c.in-Some-split_first-2.ensures.cases.0 in
@@ -83,7 +83,7 @@ returns-else-export_equal t c =
     let e = arc_value c.in-Some.e.now in
     let rest = filter p (map arc_value c.in-Some.rest.now) in
     let used : p e ≡ true = ap p (sym c.deref-in-Some.ensures) ∙ (sym c.is_used_by.ensures ∙ c.if-not-is_used_by.false) in
-    let taken = own_first p arc_value c.args.library.now c.in-Some.e.now c.in-Some.rest.now c.in-Some.ensures.cases.0 used in
+    let taken = filter-own_first p arc_value c.args.library.now c.in-Some.e.now c.in-Some.rest.now c.in-Some.ensures.cases.0 used in
     let f = arc_value c.in-Some-split_first-2.f.now in
     let more = map arc_value c.in-Some-split_first-2.more.now in
     let taken2 = ap (map arc_value) c.in-Some-split_first-2.ensures.cases.0 in

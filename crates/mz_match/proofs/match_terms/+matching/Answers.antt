@@ -7,15 +7,15 @@ use Rattle.mz_match.specs.Rows.{has_value}
 use Rattle.mz_match.specs.Table.{rows_of}
 use Rattle.mz_match.specs.declared.row.Head.TheVariants.{Functor}
 use Rattle.mz_match.proofs.SomeLemmas.{flat_next}
-use Rattle.mz_match.proofs.ArgsLemmas.{no_values}
+use Rattle.mz_match.proofs.ArgsLemmas.{match_args-no_values}
 use Rattle.mz_match.proofs.ByClassLemmas.{told_over}
 use Rattle.mz_match.proofs.match_terms.+matching.Goals as goal
 
 pub match_args-returns-then-i-vs : goal.match_args-returns-then-i-vs
-match_args-returns-then-i-vs t c = c.new.ensures ∙ sym (no_values c.args.table.now c.args.depth c.args.ts.now c.args.vs.now c.args.es.now (λ e. omega (arith, ap length c.ts.view_is)))
+match_args-returns-then-i-vs t c = c.new.ensures ∙ sym (match_args-no_values c.args.table.now c.args.depth c.args.ts.now c.args.vs.now c.args.es.now (λ e. omega (arith, ap length c.ts.view_is)))
 
 pub match_args-returns-then-vs-len : goal.match_args-returns-then-vs-len
-match_args-returns-then-vs-len t c = c.new-then-vs-len.ensures ∙ sym (no_values c.args.table.now c.args.depth c.args.ts.now c.args.vs.now c.args.es.now (λ e. omega (arith, ap length c.ts.view_is)))
+match_args-returns-then-vs-len t c = c.new-then-vs-len.ensures ∙ sym (match_args-no_values c.args.table.now c.args.depth c.args.ts.now c.args.vs.now c.args.es.now (λ e. omega (arith, ap length c.ts.view_is)))
 
 pub match_functor-loop-e-preserved : goal.match_functor-loop-e-preserved
 match_functor-loop-e-preserved t c =

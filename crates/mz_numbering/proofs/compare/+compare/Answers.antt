@@ -3,7 +3,7 @@ use Rattle.std.specs.Prelude.{Contains}
 use Rattle.std.proofs.lemmas.List.{length-map}
 use Rattle.std.proofs.lemmas.List.Elements.{Contains-get_or}
 use Rattle.mz_logic.specs.Term.{Term}
-use Rattle.mz_logic.proofs.OrderLemmas.{stops, goes_on, terms_cmp-past_right, terms_cmp-past_left, terms_cmp-past_both}
+use Rattle.mz_logic.proofs.OrderLemmas.{stops, terms_cmp-goes_on, terms_cmp-past_right, terms_cmp-past_left, terms_cmp-past_both}
 use Rattle.mz_ground.specs.Ground.{term_at}
 use Rattle.mz_ground.specs.Table.{entry_terms}
 use Rattle.mz_numbering.proofs.CompareLemmas.{args_before, get_or-map_places}
@@ -38,7 +38,7 @@ compare_places-loop-i-preserved t c =
     let n = length-map c.args.qs.now f in
     let a : c.loop-i.i < length c.args.ps.now = c.loop-i-test.true in
     let b : c.loop-i.i < length c.args.qs.now = omega (arith, c.if-i-qs.false) in
-    goes_on _ _ (map f c.args.ps.now) (map f c.args.qs.now) c.loop-i.i (f (get_or c.args.ps.now c.loop-i.i 0)) (f (get_or c.args.qs.now c.loop-i.i 0)) c.loop-i.invariant (omega (arith, m, a)) (omega (arith, n, b))
+    terms_cmp-goes_on _ _ (map f c.args.ps.now) (map f c.args.qs.now) c.loop-i.i (f (get_or c.args.ps.now c.loop-i.i 0)) (f (get_or c.args.qs.now c.loop-i.i 0)) c.loop-i.invariant (omega (arith, m, a)) (omega (arith, n, b))
     (get_or-map_places f c.args.ps.now c.loop-i.i (f (get_or c.args.ps.now c.loop-i.i 0)) a) (get_or-map_places f c.args.qs.now c.loop-i.i (f (get_or c.args.qs.now c.loop-i.i 0)) b) (sym c.in-Equal.is ∙ c.compare_terms_at.ensures)
 
 pub compare_places-returns-then-ps-qs : goal.compare_places-returns-then-ps-qs

@@ -44,7 +44,7 @@ pub say-returns-in-Err-justify : goal.say-returns-in-Err-justify
 say-returns-in-Err-justify t c = saying.told_unjustified _ _ _ _ _ _ _ _ _ _ _ _ _ _ _ _ _ _ _ _ _ _ _ _ _ _ _ _ _ _ c.stated_parts.ensures (c.as_slice-ks.ensures.value ∙ c.sides.view_is) c.begin.ensures.begins c.in-Ok.is c.begin.ensures.same c.place_behind-behind.ensures refl (ap (λ (b : Begun). b.compact.sentence) (c.deref.ensures ∙ c.in_ok-x.ensures.ok)) c.justify.ensures.justifies c.in-Err-justify.is
 
 pub say-justify_sides-requires : goal.say-justify_sides-requires
-say-justify_sides-requires t c = ap length (c.further_of-ss.ensures ∙ ap (λ (b : Begun). b.compact.said.further) (c.deref-2.ensures ∙ c.in_ok-x.ensures.ok)) ∙ saying.told_as_many _ _ _ _ _ _ _ _ _ _ _ _ c.begin.ensures.begins c.in-Ok.is
+say-justify_sides-requires t c = ap length (c.further_of-ss.ensures ∙ ap (λ (b : Begun). b.compact.said.further) (c.deref-2.ensures ∙ c.in_ok-x.ensures.ok)) ∙ saying.length-told_as_many _ _ _ _ _ _ _ _ _ _ _ _ c.begin.ensures.begins c.in-Ok.is
 
 pub say-returns-in-Err-justify_sides : goal.say-returns-in-Err-justify_sides
 say-returns-in-Err-justify_sides t c = saying.told_side_unjustified _ _ _ _ _ _ _ _ _ _ _ _ _ _ _ _ _ _ _ _ _ _ _ _ _ _ _ _ _ _ _ _ _ _ _ _ c.stated_parts.ensures (c.as_slice-ks.ensures.value ∙ c.sides.view_is) c.begin.ensures.begins c.in-Ok.is c.begin.ensures.same c.place_behind-behind.ensures refl (ap (λ (b : Begun). b.compact.sentence) (c.deref.ensures ∙ c.in_ok-x.ensures.ok)) c.justify.ensures.justifies c.in-Ok-justify.is c.justify.ensures.same (c.further_of-ss.ensures ∙ ap (λ (b : Begun). b.compact.said.further) (c.deref-2.ensures ∙ c.in_ok-x.ensures.ok)) c.justify_sides.ensures c.in-Err-justify_sides.is

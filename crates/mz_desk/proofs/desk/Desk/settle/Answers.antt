@@ -9,7 +9,7 @@ use Rattle.mz_turns.specs.Machine.{Blocks, Replays}
 use Rattle.mz_turns.specs.declared.turn.Turn.TheVariants.{Publish}
 use Rattle.mz_desk.specs.Found.{outcome_from}
 use Rattle.mz_desk.specs.Desk.{Stands}
-use Rattle.mz_desk.proofs.DeskLemmas.{good, published_turn, published_count, published_fresh}
+use Rattle.mz_desk.proofs.DeskLemmas.{good, published_turn, sum_by-published_count, published_fresh}
 use Rattle.mz_desk.proofs.desk.Desk.settle.Goals as goal
 
 pub settle_row-requires-clause-within : goal.settle_row-requires-clause-within
@@ -48,7 +48,7 @@ invariant_of-self g c =
     let o = outcome_from c.done.inside.found in
     let blocks = subst (λ n. Blocks t.corpus.articles (slice_set t.rows n (row_of o)) c.settle_row.new.table.rows) place c.settle_row.ensures.rows in
     let e = c.push_reserved.ensures.items ∙ (λ i. c.self.inside.turns.items ++ Publish (place i) (ap (λ x. x.worker) c.job.view_is i) ∷ []) in
-    let n = published_count t.corpus.articles t.rows j o g1.whole stands in
+    let n = sum_by-published_count t.corpus.articles t.rows j o g1.whole stands in
     let m = c.settle_row.ensures.claims ∙ ap (λ k. sum_by claim_weight (slice_set t.rows k (row_of o))) place in (
       subst (λ z. Replays g.C.Semantics.is_outcome z.articles c.push_reserved.new.self.items c.settle_row.new.table.rows) (sym c.settle_row.ensures.corpus)
           (published_turn g.C.Semantics.is_outcome t.corpus.articles c.self.inside.turns.items c.push_reserved.new.self.items t.rows c.settle_row.new.table.rows j o c.self.invariant.0 stands c.done.invariant.0 blocks e),

@@ -4,7 +4,7 @@ use Rattle.mz_turns.specs.Machine.{Replays}
 use Rattle.mz_turns.specs.declared.turn.Turn.TheVariants.{Take}
 use Rattle.mz_rows.specs.Table.{is_ready}
 use Rattle.mz_rows.proofs.ReadyLemmas.{ready_is}
-use Rattle.mz_desk.proofs.DeskLemmas.{good, taken_turn, taken_count, ready_text}
+use Rattle.mz_desk.proofs.DeskLemmas.{good, taken_turn, sum_by-taken_count, ready_text}
 use Rattle.mz_desk.proofs.desk.Desk.take.Goals as goal
 
 pub job_of-requires-clause-within : goal.job_of-requires-clause-within
@@ -38,7 +38,7 @@ invariant_of-self-2 g c =
     let g1 = good g.C.Semantics.is_outcome g.C.Semantics.answers_name t.corpus law c.self.inside.turns.items t.rows c.self.invariant.0 in
     let ready = subst (λ s. is_ready s.corpus.articles s.rows c.args.row ≡ true) (sym c.self.view_is) c.requires.ready in
     let e = c.push_reserved.ensures.items ∙ ap (λ xs. xs ++ Take c.args.row c.args.worker ∷ []) c.reserve.ensures.items in
-    let n = taken_count t.corpus.articles t.rows c.claim.new.self.rows c.args.row c.args.worker g1.whole ready c.claim.ensures.rows in (
+    let n = sum_by-taken_count t.corpus.articles t.rows c.claim.new.self.rows c.args.row c.args.worker g1.whole ready c.claim.ensures.rows in (
       subst (λ z. Replays g.C.Semantics.is_outcome z.articles c.push_reserved.new.self.items c.claim.new.self.rows) (sym c.claim.ensures.corpus)
           (taken_turn g.C.Semantics.is_outcome t.corpus.articles c.self.inside.turns.items c.push_reserved.new.self.items t.rows c.claim.new.self.rows c.args.row c.args.worker c.self.invariant.0 ready e c.claim.ensures.rows),
       omega (arith, n, c.claims-claims.ensures.count, c.push_reserved.ensures.len, c.push_reserved.ensures.capacity, c.reserve.ensures.len, c.in_ok-reserve.ensures),

@@ -2,7 +2,7 @@ use Rattle.std.proofs.Common.{rules, ℕ, List, map, sym, ap, ◌∙◌, subst}
 use Rattle.std.specs.Prelude.{Contains}
 use Rattle.std.proofs.lemmas.Bool.{false≢true}
 use Rattle.mz_ground.specs.Ground.{term_at, ground_terms}
-use Rattle.mz_ground.proofs.TriggerLemmas.{args_of_atom, atom_is, atom_from_sym, atom_from_args}
+use Rattle.mz_ground.proofs.TriggerLemmas.{args_of_atom, trigger_at-atom_is, atom_from_sym, map-atom_from_args}
 use Rattle.mz_ground.proofs.ground_part.Ground.is_instance.Goals as goal
 
 pub are_instances_at-requires-clause-within : goal.are_instances_at-requires-clause-within
@@ -18,6 +18,6 @@ pub returns-then-is : goal.returns-then-is
 returns-then-is c =
     let ts = map (term_at (ground_terms c.args.self.now)) c.args.args.now in
     let same = ap (map (term_at (ground_terms c.args.self.now))) c.as_slice.ensures in (
-      λ q. atom_is c.args.self.now ts c.in-Atom-Atom.place c.args.r.now c.args.at c.in-Atom-Atom.s c.in-Atom-Atom.us c.get-atom.result.now (search rules) (search rules) c.get-atom.ensures (c.is.ensures.one.0 c.if-is.true) (c.are_instances_at.ensures.0 q ∙ same),
-      λ f. c.are_instances_at.ensures.1 (atom_from_args c.args.self.now ts c.in-Atom-Atom.place c.args.r.now c.args.at c.in-Atom-Atom.s c.in-Atom-Atom.us c.get-atom.result.now (search rules) (search rules) c.get-atom.ensures f ∙ sym same),
+      λ q. trigger_at-atom_is c.args.self.now ts c.in-Atom-Atom.place c.args.r.now c.args.at c.in-Atom-Atom.s c.in-Atom-Atom.us c.get-atom.result.now (search rules) (search rules) c.get-atom.ensures (c.is.ensures.one.0 c.if-is.true) (c.are_instances_at.ensures.0 q ∙ same),
+      λ f. c.are_instances_at.ensures.1 (map-atom_from_args c.args.self.now ts c.in-Atom-Atom.place c.args.r.now c.args.at c.in-Atom-Atom.s c.in-Atom-Atom.us c.get-atom.result.now (search rules) (search rules) c.get-atom.ensures f ∙ sym same),
     )

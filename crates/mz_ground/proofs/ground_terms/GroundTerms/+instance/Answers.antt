@@ -4,7 +4,7 @@ use Rattle.std.proofs.lemmas.Bool.{false≢true, eqb-true}
 use Rattle.mz_ground.specs.Ground.{term_at}
 use Rattle.mz_ground.specs.Table.{entry_terms}
 use Rattle.std.proofs.lemmas.List.Elements.{Contains-get_or}
-use Rattle.mz_ground.proofs.MatchLemmas.{bound_is, bound_place, bound_past, app_is, app_place_sym, app_place_args, entry_args_within, item_falls, item_is, map_more, maps_length}
+use Rattle.mz_ground.proofs.MatchLemmas.{substitute-bound_is, bound_place, bound_past, substitute-app_is, app_place_sym, map-app_place_args, entry_args_within, item_falls, substitute-item_is, map_more, maps_length}
 use Rattle.mz_ground.proofs.ground_terms.GroundTerms.+instance.Goals as goal
 
 pub is_instance_at-are_instances_at-requires : goal.is_instance_at-are_instances_at-requires
@@ -16,8 +16,8 @@ is_instance_at-returns-then-is t c =
     let ts = map (term_at (entry_terms c.args.self.now)) c.args.args.now in
     let g = c.get-in-App.ensures ∙ ap Some c.in-App-get-2.is in
     let as' = ap (map (term_at (entry_terms c.args.self.now))) c.as_slice.ensures in (
-      λ q. app_is c.args.self.now c.requires.table ts c.args.place c.in-App.r c.in-App-get-2.sym c.in-App.us c.in-App-get-2.places c.args.t.now (search rules) g (search rules) (c.are_instances_at.ensures.0 q ∙ as'),
-      λ f. c.are_instances_at.ensures.1 (app_place_args c.args.self.now c.requires.table ts c.args.place c.in-App.r c.in-App-get-2.sym c.in-App.us c.in-App-get-2.places c.args.t.now (search rules) g f ∙ sym as'),
+      λ q. substitute-app_is c.args.self.now c.requires.table ts c.args.place c.in-App.r c.in-App-get-2.sym c.in-App.us c.in-App-get-2.places c.args.t.now (search rules) g (search rules) (c.are_instances_at.ensures.0 q ∙ as'),
+      λ f. c.are_instances_at.ensures.1 (map-app_place_args c.args.self.now c.requires.table ts c.args.place c.in-App.r c.in-App-get-2.sym c.in-App.us c.in-App-get-2.places c.args.t.now (search rules) g f ∙ sym as'),
     )
 
 pub is_instance_at-returns-else-is : goal.is_instance_at-returns-else-is
@@ -30,7 +30,7 @@ is_instance_at-returns-else-is t c =
 
 pub is_instance_at-returns-in-Some : goal.is_instance_at-returns-in-Some
 is_instance_at-returns-in-Some t c = (
-  λ q. bound_is c.args.self.now c.args.args.now c.in-Bound.n c.in-Some.arg c.args.place c.args.t.now (search rules) (sym c.in-Some.ensures) (eqb-true _ _ q),
+  λ q. substitute-bound_is c.args.self.now c.args.args.now c.in-Bound.n c.in-Some.arg c.args.place c.args.t.now (search rules) (sym c.in-Some.ensures) (eqb-true _ _ q),
   λ f. eq-eqb _ _ (bound_place c.args.self.now c.requires.table c.args.args.now c.in-Bound.n c.in-Some.arg c.args.place c.args.t.now (search rules) (sym c.in-Some.ensures) c.requires.args c.requires.within f),
 )
 
@@ -53,7 +53,7 @@ are_instances_at-returns-then-len-places t c = (
 pub are_instances_at-returns-then-not-is_instance_at : goal.are_instances_at-returns-then-not-is_instance_at
 are_instances_at-returns-then-not-is_instance_at t c = (
   λ q. absurd (false≢true q),
-  λ f. absurd (false≢true (sym c.if-not-is_instance_at.true ∙ c.is_instance_at.ensures.1 (item_is _ _ c.args.us.now c.us.inside.items.items c.args.places.now c.loop-i.i c.index.result.now c.us.view_is (omega arith) c.index.ensures f))),
+  λ f. absurd (false≢true (sym c.if-not-is_instance_at.true ∙ c.is_instance_at.ensures.1 (substitute-item_is _ _ c.args.us.now c.us.inside.items.items c.args.places.now c.loop-i.i c.index.result.now c.us.view_is (omega arith) c.index.ensures f))),
 )
 
 pub are_instances_at-loop-i-preserved : goal.are_instances_at-loop-i-preserved

@@ -4,14 +4,14 @@ use Rattle.mz_ground.specs.Ground.{term_at}
 use Rattle.mz_ground.specs.Table.{entry_terms}
 use Rattle.std.proofs.Common.{◌<◌, get_or}
 use Rattle.std.proofs.lemmas.List.Elements.{Contains-get_or}
-use Rattle.mz_ground.proofs.NodeLemmas.{spent_next, spent_over, read_self, args_below_place}
+use Rattle.mz_ground.proofs.NodeLemmas.{spent_next, spent_over, get_or-read_self, args_below_place}
 use Rattle.mz_ground.proofs.ground_terms.GroundTerms.+place_nodes.Goals as goal
 
 pub after_places-returns-in-None : goal.after_places-returns-in-None
-after_places-returns-in-None t c = spent_over (term_at (entry_terms c.args.self.now)) c.args.places.now c.loop-place.place-index (get_or c.args.places.now c.loop-place.place-index 0) c.args.left c.loop-place.rest c.loop-place-test.true (read_self c.args.places.now c.loop-place.place-index) c.loop-place.invariant c.in-None.ensures
+after_places-returns-in-None t c = spent_over (term_at (entry_terms c.args.self.now)) c.args.places.now c.loop-place.place-index (get_or c.args.places.now c.loop-place.place-index 0) c.args.left c.loop-place.rest c.loop-place-test.true (get_or-read_self c.args.places.now c.loop-place.place-index) c.loop-place.invariant c.in-None.ensures
 
 pub after_places-loop-place-preserved : goal.after_places-loop-place-preserved
-after_places-loop-place-preserved t c = spent_next (term_at (entry_terms c.args.self.now)) c.args.places.now c.loop-place.place-index (get_or c.args.places.now c.loop-place.place-index 0) c.args.left c.loop-place.rest c.in-Some.less c.loop-place-test.true (read_self c.args.places.now c.loop-place.place-index) c.loop-place.invariant c.in-Some.ensures
+after_places-loop-place-preserved t c = spent_next (term_at (entry_terms c.args.self.now)) c.args.places.now c.loop-place.place-index (get_or c.args.places.now c.loop-place.place-index 0) c.args.left c.loop-place.rest c.in-Some.less c.loop-place-test.true (get_or-read_self c.args.places.now c.loop-place.place-index) c.loop-place.invariant c.in-Some.ensures
 
 pub after_place-after_places-requires : goal.after_place-after_places-requires
 after_place-after_places-requires t c =

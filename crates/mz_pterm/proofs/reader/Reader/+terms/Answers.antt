@@ -12,7 +12,7 @@ use Rattle.mz_pterm.proofs.Bases.{make_braces, make_squares}
 use Rattle.mz_pterm.proofs.Operands.{operand_first, put_operand, run_of, some_terms, list_of}
 use Rattle.mz_pterm.proofs.Steps.{is_nil, base_left_out, base_refused, it_found, argument_found, begin_braces, begin_squares, begin_brackets, left_refuses, identifier_at_end, identifier_alone, take_functor, behind_operand, operand_refuses, begin_operand, no_piece, not_begun, shorter, begin_term, begin_terms}
 use Rattle.mz_pterm.proofs.Results.{close_terms_refused, close_refused, close_found, bracket_refused, bracket_found, bracket_unopened, single_unopened, single_term_refused, single_refused, single_found, brackets_terms_refused, brackets_refused, brackets_found, call_unopened, call_closed, call_refused, call_found}
-use Rattle.mz_pterm.proofs.Loops.{prefixed_step, alone_end, base_leads, base_end, pieces_step, pieces_end, term_ends, term_stops, may_end, may_not_end, term_from, no_term, several_step, several_refused, several_end, terms_apart_refuses, terms_from, base_read, boxed_base, boxed_found, boxed_builds, identifier_read, structure_read, group_read, single_seen}
+use Rattle.mz_pterm.proofs.Loops.{prefixed_step, alone_end, base_leads, base_end, pieces_step, pieces_end, term_ends, term_stops, may_end, may_not_end, term_from, no_term, several_step, several_refused, several_end, terms_apart_refuses, terms_from, base_read, boxed_base, boxed_found, boxed_builds, identifier_read, structure_read, group_read, bracketed_of-single_seen}
 use Rattle.mz_pterm.proofs.reader.Reader.+terms.Goals as goal
 
 pub base-returns-in_default : goal.base-returns-in_default
@@ -331,7 +331,7 @@ single-returns-in_err-close t c =
 
 pub single-returns : goal.single-returns
 single-returns t c =
-    (_, single_found c.args.field _ c.in_ok-open.ensures.room _ _ _ c.in_ok-open.ensures.reads _ _ _ _ c.in_ok-first.ensures c.in_ok-close.ensures, single_seen _ _ _ c.new-more.result c.new-more.ensures.items)
+    (_, single_found c.args.field _ c.in_ok-open.ensures.room _ _ _ c.in_ok-open.ensures.reads _ _ _ _ c.in_ok-first.ensures c.in_ok-close.ensures, bracketed_of-single_seen _ _ _ c.new-more.result c.new-more.ensures.items)
 
 pub term-returns-in_err-first : goal.term-returns-in_err-first
 term-returns-in_err-first t c =

@@ -4,14 +4,14 @@ use Rattle.std.specs.Arc.{arc_value}
 use Rattle.mz_turns.specs.Row.{Rejected, is_settled, row_at}
 use Rattle.mz_rows.specs.declared.standing.Standing.TheVariants as standing
 use Rattle.mz_rows.specs.Entries.{entry_of}
-use Rattle.mz_rows.proofs.StoredLemmas.{stored_entries, stored_put, library_kept}
+use Rattle.mz_rows.proofs.StoredLemmas.{length-stored_entries, stored_put, library_kept}
 use Rattle.mz_rows.proofs.table.Table.reject.Goals as goal
 
 pub put_entry-requires : goal.put_entry-requires
 put_entry-requires c =
     let t = c.self.inside in
     let within = subst (λ u. c.args.row < length u.corpus.articles) (sym c.self.view_is) c.requires.within in
-    omega (arith, within, stored_entries (arc_value t.corpus).articles t.links t.standings.items t.verdicts t.library c.self.invariant)
+    omega (arith, within, length-stored_entries (arc_value t.corpus).articles t.links t.standings.items t.verdicts t.library c.self.invariant)
 
 pub invariant_of-self : goal.invariant_of-self
 invariant_of-self c =
