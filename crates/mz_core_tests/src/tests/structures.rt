@@ -1,7 +1,7 @@
 //! What structures, set terms and choices owe and grant.
-use crate::tests::parts::{atom, mode, more, pattern, radix, sets, sym, term};
 use crate::tests::rows::{NOTHING, Row, check};
 use mz_compare::items::item_equal;
+use mz_core::adjectives::Adjectives;
 use mz_core::item::Item;
 use mz_core::notation::{Meaning, Notation};
 use mz_core::notations::Notations;
@@ -11,7 +11,7 @@ use mz_core::soft_types::SoftTypes;
 use mz_core::structure::{Field, Fields, Structure};
 use mz_items::condition::Condition;
 use mz_logic::kind::Kind;
-use mz_logic::term::Terms;
+use mz_part_samples::parts::{atom, mode, more, pattern, sets, sym, term, typed};
 use std::alloc::Global;
 use std::process::Abort;
 
@@ -44,7 +44,7 @@ fn structure(
     fields: Fields,
     notations: Notations,
 ) -> Item {
-    let loci = sets(rt, alloc, 1);
+    let loci = sets(alloc, 1).expect(rt, "memory");
     Item::Structure(Structure {
         loci,
         sym: sym(Kind::Structure, 1),
@@ -58,10 +58,11 @@ fn structure(
 
 /// `let X be set; struct (G2) G1 over X (# U1 -> M1, U2 -> M2 of the U1 #)`.
 fn pairs(rt: &impl Abort, alloc: Global, notations: Notations) -> Item {
-    let other = radix(alloc, Kind::Structure, 2, Terms::new(alloc));
-    let ancestors = more(rt, SoftTypes::new(alloc), other);
-    let first = mode(rt, alloc, 1, &[]);
-    let second = mode(rt, alloc, 2, &[1]);
+    let plain = Adjectives::new(alloc);
+    let other = typed(alloc, plain, sym(Kind::Structure, 2), &[]).expect(rt, "memory");
+    let ancestors = more(SoftTypes::new(alloc), other).expect(rt, "memory");
+    let first = mode(alloc, 1, &[]).expect(rt, "memory");
+    let second = mode(alloc, 2, &[1]).expect(rt, "memory");
     let fields = two_fields(rt, alloc, first, second);
     structure(rt, alloc, ancestors, fields, notations)
 }
@@ -86,8 +87,8 @@ fn a_structure(rt: HostRuntime) {
 #[test]
 fn a_structure_without_ancestors(rt: HostRuntime) {
     let a = rt.alloc();
-    let first = mode(&rt, a, 1, &[3, 2]);
-    let second = mode(&rt, a, 2, &[1, 0]);
+    let first = mode(a, 1, &[3, 2]).expect(&rt, "memory");
+    let second = mode(a, 2, &[1, 0]).expect(&rt, "memory");
     let fields = two_fields(&rt, a, first, second);
     let item = structure(&rt, a, SoftTypes::new(a), fields, Notations::new(a));
     let row = Row {
@@ -106,8 +107,10 @@ fn a_structure_without_ancestors(rt: HostRuntime) {
 fn two_notations(rt: &impl Abort, alloc: Global) -> Notations {
     let mut notations = Notations::new(alloc);
     for number in 1..3u32 {
-        let pattern = pattern(alloc, sets(rt, alloc, 1));
-        let meaning = Meaning::OfType(mode(rt, alloc, number, &[0]));
+        let loci = sets(alloc, 1).expect(rt, "memory");
+        let pattern = pattern(alloc, Kind::Mode, loci);
+        let ty = mode(alloc, number, &[0]).expect(rt, "memory");
+        let meaning = Meaning::OfType(ty);
         notations
             .push(Notation { pattern, meaning })
             .expect(rt, "memory");
@@ -138,11 +141,11 @@ fn structures_that_differ(rt: HostRuntime) {
 fn set_terms(rt: HostRuntime) {
     let a = rt.alloc();
     let item = SetTerm {
-        loci: sets(&rt, a, 1),
+        loci: sets(a, 1).expect(&rt, "memory"),
         sym: sym(Kind::Functor, 2),
-        ty: mode(&rt, a, 1, &[0]),
-        term: term(&rt, a, 1, &[0]),
-        formula: atom(&rt, a, 1, &[0]),
+        ty: mode(a, 1, &[0]).expect(&rt, "memory"),
+        term: term(a, 1, &[0]).expect(&rt, "memory"),
+        formula: atom(a, 1, &[0]).expect(&rt, "memory"),
     };
     let row = Row {
         owed: &[
@@ -159,11 +162,11 @@ fn set_terms(rt: HostRuntime) {
     };
     check(&rt, a, Item::SetTerm(item), &row);
     let with_locus = SetTerm {
-        loci: sets(&rt, a, 1),
+        loci: sets(a, 1).expect(&rt, "memory"),
         sym: sym(Kind::Functor, 2),
-        ty: mode(&rt, a, 1, &[0]),
-        term: term(&rt, a, 1, &[0, 1]),
-        formula: atom(&rt, a, 1, &[0, 1]),
+        ty: mode(a, 1, &[0]).expect(&rt, "memory"),
+        term: term(a, 1, &[0, 1]).expect(&rt, "memory"),
+        formula: atom(a, 1, &[0, 1]).expect(&rt, "memory"),
     };
     let row = Row {
         owed: &[
@@ -186,9 +189,9 @@ fn set_terms(rt: HostRuntime) {
 fn a_choice(rt: HostRuntime) {
     let a = rt.alloc();
     let item = Choice {
-        loci: sets(&rt, a, 1),
+        loci: sets(a, 1).expect(&rt, "memory"),
         sym: sym(Kind::Functor, 1),
-        ty: mode(&rt, a, 1, &[0]),
+        ty: mode(a, 1, &[0]).expect(&rt, "memory"),
     };
     let row = Row {
         owed: &["|- (all (not (all (not (and (A.M1 b1 b0) true)))))"],
