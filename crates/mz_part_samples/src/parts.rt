@@ -3,6 +3,7 @@ use mz_base::numbers::Numbers;
 use mz_base::text::Text;
 use mz_core::adjective::Adjective;
 use mz_core::adjectives::Adjectives;
+use mz_core::formula_definiens::FormulaDefiniens;
 use mz_core::hidden::set_type;
 use mz_core::pattern::Pattern;
 use mz_core::radix::Radix;
@@ -43,6 +44,12 @@ pub fn term(alloc: Global, number: u32, indices: &[u32]) -> Result<Term, AllocEr
 pub fn atom(alloc: Global, number: u32, indices: &[u32]) -> Result<Statement, AllocError> {
     let args = bounds(alloc, indices)?;
     Ok(Statement::atom(sym(Kind::Predicate, number), args))
+}
+
+/// `means Rn[..]`.
+pub fn plain(alloc: Global, number: u32, indices: &[u32]) -> Result<FormulaDefiniens, AllocError> {
+    let s = atom(alloc, number, indices)?;
+    Ok(FormulaDefiniens::Plain(s))
 }
 
 /// The atom of a symbol with these arguments, or its negation.
@@ -131,4 +138,10 @@ pub fn pattern(alloc: Global, kind: Kind, loci: SoftTypes) -> Pattern {
         left: Numbers::new(alloc),
         right: Numbers::new(alloc),
     }
+}
+
+/// A pattern on so many sets.
+pub fn pattern_on_sets(alloc: Global, kind: Kind, count: u32) -> Result<Pattern, AllocError> {
+    let loci = sets(alloc, count)?;
+    Ok(pattern(alloc, kind, loci))
 }

@@ -11,7 +11,7 @@ use mz_core::soft_types::SoftTypes;
 use mz_core::structure::{Field, Fields, Structure};
 use mz_items::condition::Condition;
 use mz_logic::kind::Kind;
-use mz_part_samples::parts::{atom, mode, more, pattern, sets, sym, term, typed};
+use mz_part_samples::parts::{atom, mode, more, pattern_on_sets, sets, sym, term, typed};
 use std::alloc::Global;
 use std::process::Abort;
 
@@ -107,8 +107,7 @@ fn a_structure_without_ancestors(rt: HostRuntime) {
 fn two_notations(rt: &impl Abort, alloc: Global) -> Notations {
     let mut notations = Notations::new(alloc);
     for number in 1..3u32 {
-        let loci = sets(alloc, 1).expect(rt, "memory");
-        let pattern = pattern(alloc, Kind::Mode, loci);
+        let pattern = pattern_on_sets(alloc, Kind::Mode, 1).expect(rt, "memory");
         let ty = mode(alloc, number, &[0]).expect(rt, "memory");
         let meaning = Meaning::OfType(ty);
         notations
