@@ -5,9 +5,10 @@ use mz_core::notation::{Meaning, Notation};
 use mz_core::notations::Notations;
 use mz_core::set_term::{Choice, SetTerm};
 use mz_core::soft_types::SoftTypes;
-use mz_core::structure::{Field, Fields, Structure};
+use mz_core::structure::{Field, Fields};
 use mz_logic::kind::Kind;
 use mz_logic::term::Term;
+use mz_part_samples::parts;
 use mz_part_samples::parts::{atom, literal, mode, pattern_on_sets, sets, sym};
 use std::alloc::Global;
 use std::process::Abort;
@@ -38,15 +39,12 @@ pub fn structure(rt: &impl Abort, alloc: Global) -> Item {
             ty: set_type(alloc),
         })
         .expect(rt, "memory");
-    Item::Structure(Structure {
-        loci: SoftTypes::new(alloc),
-        sym: sym(Kind::Structure, 1),
-        strict: sym(Kind::Attribute, 1),
-        aggregate: sym(Kind::Aggregate, 1),
-        ancestors: SoftTypes::new(alloc),
+    Item::Structure(parts::structure(
+        SoftTypes::new(alloc),
+        SoftTypes::new(alloc),
         fields,
-        notations: Notations::new(alloc),
-    })
+        Notations::new(alloc),
+    ))
 }
 
 /// `let y be set`: O3 is `{ x where x is M3 : R5[x,y] }`.

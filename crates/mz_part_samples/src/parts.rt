@@ -5,11 +5,13 @@ use mz_core::adjective::Adjective;
 use mz_core::adjectives::Adjectives;
 use mz_core::formula_definiens::FormulaDefiniens;
 use mz_core::hidden::set_type;
+use mz_core::notations::Notations;
 use mz_core::pattern::Pattern;
 use mz_core::radix::Radix;
 use mz_core::soft_type::SoftType;
 use mz_core::soft_types::SoftTypes;
 use mz_core::statement::Statement;
+use mz_core::structure::{Field, Fields, Structure};
 use mz_logic::kind::Kind;
 use mz_logic::literal::Literal;
 use mz_logic::sym::Sym;
@@ -144,4 +146,39 @@ pub fn pattern(alloc: Global, kind: Kind, loci: SoftTypes) -> Pattern {
 pub fn pattern_on_sets(alloc: Global, kind: Kind, count: u32) -> Result<Pattern, AllocError> {
     let loci = sets(alloc, count)?;
     Ok(pattern(alloc, kind, loci))
+}
+
+/// `U1 -> T1, U2 -> T2`. A field's type stands under the structure's object and the fields' values, of which the last one
+/// is the innermost.
+pub fn two_fields(alloc: Global, first: SoftType, second: SoftType) -> Result<Fields, AllocError> {
+    let mut fields = Fields::new(alloc);
+    let selector = sym(Kind::Selector, 1);
+    fields.push(Field {
+        selector,
+        ty: first,
+    })?;
+    let selector = sym(Kind::Selector, 2);
+    fields.push(Field {
+        selector,
+        ty: second,
+    })?;
+    Ok(fields)
+}
+
+/// `struct (..) G1 over .. (# .. #)`, with the attribute V1 and the aggregate A1.
+pub fn structure(
+    loci: SoftTypes,
+    ancestors: SoftTypes,
+    fields: Fields,
+    notations: Notations,
+) -> Structure {
+    Structure {
+        loci,
+        sym: sym(Kind::Structure, 1),
+        strict: sym(Kind::Attribute, 1),
+        aggregate: sym(Kind::Aggregate, 1),
+        ancestors,
+        fields,
+        notations,
+    }
 }

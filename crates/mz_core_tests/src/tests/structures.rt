@@ -6,65 +6,25 @@ use mz_core::item::Item;
 use mz_core::notation::{Meaning, Notation};
 use mz_core::notations::Notations;
 use mz_core::set_term::{Choice, SetTerm};
-use mz_core::soft_type::SoftType;
 use mz_core::soft_types::SoftTypes;
-use mz_core::structure::{Field, Fields, Structure};
 use mz_items::condition::Condition;
 use mz_logic::kind::Kind;
-use mz_part_samples::parts::{atom, mode, more, pattern_on_sets, sets, sym, term, typed};
+use mz_part_samples::parts::{
+    atom, mode, more, pattern_on_sets, sets, structure, sym, term, two_fields, typed,
+};
 use std::alloc::Global;
 use std::process::Abort;
 
-/// `U1 -> T1, U2 -> T2`. A field's type stands under the structure's object and the fields' values, of which the last one is
-/// the innermost.
-fn two_fields(rt: &impl Abort, alloc: Global, first: SoftType, second: SoftType) -> Fields {
-    let mut fields = Fields::new(alloc);
-    let selector = sym(Kind::Selector, 1);
-    fields
-        .push(Field {
-            selector,
-            ty: first,
-        })
-        .expect(rt, "memory");
-    let selector = sym(Kind::Selector, 2);
-    fields
-        .push(Field {
-            selector,
-            ty: second,
-        })
-        .expect(rt, "memory");
-    fields
-}
-
-/// `let X be set; struct (..) G1 over X (# .. #)`.
-fn structure(
-    rt: &impl Abort,
-    alloc: Global,
-    ancestors: SoftTypes,
-    fields: Fields,
-    notations: Notations,
-) -> Item {
-    let loci = sets(alloc, 1).expect(rt, "memory");
-    Item::Structure(Structure {
-        loci,
-        sym: sym(Kind::Structure, 1),
-        strict: sym(Kind::Attribute, 1),
-        aggregate: sym(Kind::Aggregate, 1),
-        ancestors,
-        fields,
-        notations,
-    })
-}
-
 /// `let X be set; struct (G2) G1 over X (# U1 -> M1, U2 -> M2 of the U1 #)`.
 fn pairs(rt: &impl Abort, alloc: Global, notations: Notations) -> Item {
+    let loci = sets(alloc, 1).expect(rt, "memory");
     let plain = Adjectives::new(alloc);
     let other = typed(alloc, plain, sym(Kind::Structure, 2), &[]).expect(rt, "memory");
     let ancestors = more(SoftTypes::new(alloc), other).expect(rt, "memory");
     let first = mode(alloc, 1, &[]).expect(rt, "memory");
     let second = mode(alloc, 2, &[1]).expect(rt, "memory");
-    let fields = two_fields(rt, alloc, first, second);
-    structure(rt, alloc, ancestors, fields, notations)
+    let fields = two_fields(alloc, first, second).expect(rt, "memory");
+    Item::Structure(structure(loci, ancestors, fields, notations))
 }
 
 const PAIRS: Row = Row {
@@ -87,10 +47,11 @@ fn a_structure(rt: HostRuntime) {
 #[test]
 fn a_structure_without_ancestors(rt: HostRuntime) {
     let a = rt.alloc();
+    let loci = sets(a, 1).expect(&rt, "memory");
     let first = mode(a, 1, &[3, 2]).expect(&rt, "memory");
     let second = mode(a, 2, &[1, 0]).expect(&rt, "memory");
-    let fields = two_fields(&rt, a, first, second);
-    let item = structure(&rt, a, SoftTypes::new(a), fields, Notations::new(a));
+    let fields = two_fields(a, first, second).expect(&rt, "memory");
+    let structure = structure(loci, SoftTypes::new(a), fields, Notations::new(a));
     let row = Row {
         granted: &[
             "(all (all (not (and (A.G1 b1 b0) (not true)))))",
@@ -100,7 +61,7 @@ fn a_structure_without_ancestors(rt: HostRuntime) {
         ],
         ..NOTHING
     };
-    check(&rt, a, item, &row);
+    check(&rt, a, Item::Structure(structure), &row);
 }
 
 /// The modes M1 and M2 of one locus as notations.
