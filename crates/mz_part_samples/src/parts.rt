@@ -165,6 +165,20 @@ pub fn two_fields(alloc: Global, first: SoftType, second: SoftType) -> Result<Fi
     Ok(fields)
 }
 
+/// `U1 -> M1, U2 -> M2 of the U1`.
+pub fn pair_fields(alloc: Global) -> Result<Fields, AllocError> {
+    let first = mode(alloc, 1, &[])?;
+    let second = mode(alloc, 2, &[1])?;
+    two_fields(alloc, first, second)
+}
+
+/// The structure G2 as the only ancestor.
+pub fn one_ancestor(alloc: Global) -> Result<SoftTypes, AllocError> {
+    let adjectives = Adjectives::new(alloc);
+    let ty = typed(alloc, adjectives, sym(Kind::Structure, 2), &[])?;
+    more(SoftTypes::new(alloc), ty)
+}
+
 /// `struct (..) G1 over .. (# .. #)`, with the attribute V1 and the aggregate A1.
 pub fn structure(
     loci: SoftTypes,

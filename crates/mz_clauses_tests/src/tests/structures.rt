@@ -1,23 +1,16 @@
 //! Clauses of a structure.
 use crate::tests::gives;
-use mz_core::adjectives::Adjectives;
 use mz_core::item::Item;
 use mz_core::notations::Notations;
-use mz_core::soft_types::SoftTypes;
-use mz_logic::kind::Kind;
-use mz_part_samples::parts::{mode, more, sets, structure, sym, two_fields, typed};
+use mz_part_samples::parts::{one_ancestor, pair_fields, sets, structure};
 use std::alloc::Global;
 use std::process::Abort;
 
 /// `let X be set; struct (G2) G1 over X (# U1 -> M1, U2 -> M2 of the U1 #)`.
 pub fn pairs(rt: &impl Abort, alloc: Global) -> Item {
     let loci = sets(alloc, 1).expect(rt, "memory");
-    let plain = Adjectives::new(alloc);
-    let other = typed(alloc, plain, sym(Kind::Structure, 2), &[]).expect(rt, "memory");
-    let ancestors = more(SoftTypes::new(alloc), other).expect(rt, "memory");
-    let first = mode(alloc, 1, &[]).expect(rt, "memory");
-    let second = mode(alloc, 2, &[1]).expect(rt, "memory");
-    let fields = two_fields(alloc, first, second).expect(rt, "memory");
+    let ancestors = one_ancestor(alloc).expect(rt, "memory");
+    let fields = pair_fields(alloc).expect(rt, "memory");
     Item::Structure(structure(loci, ancestors, fields, Notations::new(alloc)))
 }
 

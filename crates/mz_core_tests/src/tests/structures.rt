@@ -1,7 +1,6 @@
 //! What structures, set terms and choices owe and grant.
 use crate::tests::rows::{NOTHING, Row, check};
 use mz_compare::items::item_equal;
-use mz_core::adjectives::Adjectives;
 use mz_core::item::Item;
 use mz_core::notation::{Meaning, Notation};
 use mz_core::notations::Notations;
@@ -10,7 +9,7 @@ use mz_core::soft_types::SoftTypes;
 use mz_items::condition::Condition;
 use mz_logic::kind::Kind;
 use mz_part_samples::parts::{
-    atom, mode, more, pattern_on_sets, sets, structure, sym, term, two_fields, typed,
+    atom, mode, one_ancestor, pair_fields, pattern_on_sets, sets, structure, sym, term, two_fields,
 };
 use std::alloc::Global;
 use std::process::Abort;
@@ -18,12 +17,8 @@ use std::process::Abort;
 /// `let X be set; struct (G2) G1 over X (# U1 -> M1, U2 -> M2 of the U1 #)`.
 fn pairs(rt: &impl Abort, alloc: Global, notations: Notations) -> Item {
     let loci = sets(alloc, 1).expect(rt, "memory");
-    let plain = Adjectives::new(alloc);
-    let other = typed(alloc, plain, sym(Kind::Structure, 2), &[]).expect(rt, "memory");
-    let ancestors = more(SoftTypes::new(alloc), other).expect(rt, "memory");
-    let first = mode(alloc, 1, &[]).expect(rt, "memory");
-    let second = mode(alloc, 2, &[1]).expect(rt, "memory");
-    let fields = two_fields(alloc, first, second).expect(rt, "memory");
+    let ancestors = one_ancestor(alloc).expect(rt, "memory");
+    let fields = pair_fields(alloc).expect(rt, "memory");
     Item::Structure(structure(loci, ancestors, fields, notations))
 }
 
