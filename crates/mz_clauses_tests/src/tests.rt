@@ -2,7 +2,6 @@
 //! variables, its trigger, `:`, its premises, `=>` and its conclusion.
 mod definitions;
 mod exports;
-mod parts;
 mod properties;
 mod registrations;
 mod structures;

@@ -1,12 +1,10 @@
 //! Statements, and the row of each item that is no definition, worked out by hand.
-mod parts;
 mod properties;
 mod registrations;
 mod rows;
 mod schemes;
 mod statements;
 mod structures;
-mod texts;
 
 use mz_items::condition::Condition;
 

@@ -1,7 +1,5 @@
 //! The row of each definition, redefinition and notation, worked out by hand, and comparisons.
 mod comparisons;
 mod definitions;
-mod parts;
 mod redefinitions;
 mod rows;
-mod texts;

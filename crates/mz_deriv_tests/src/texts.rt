@@ -3,14 +3,10 @@ use mz_deriv::derivation::{Derivation, Derivations};
 use mz_logic::rule::Rule;
 use mz_samples::forms::term;
 use mz_samples::parts::{letters, sequent};
+use mz_samples::symbols::number;
 use std::alloc::Global;
 use std::mem;
 use std::process::Abort;
-
-/// The number that a rule has behind its name.
-fn number(rt: &impl Abort, digits: &str) -> u32 {
-    digits.parse::<u32>().expect(rt, digits)
-}
 
 /// The rule of a text: its name and, behind it, its constant, its term, its axiom's number or its letter with the
 /// body.
@@ -31,10 +27,10 @@ fn rule(rt: &impl Abort, alloc: Global, text: &str) -> Rule {
         _ => {}
     }
     if let Some(digits) = text.strip_prefix("all in ") {
-        return Rule::AllIn(number(rt, digits));
+        return Rule::AllIn(number(digits.as_bytes()).expect(rt, digits));
     }
     if let Some(digits) = text.strip_prefix("axiom ") {
-        return Rule::Axiom(number(rt, digits));
+        return Rule::Axiom(number(digits.as_bytes()).expect(rt, digits));
     }
     if let Some(word) = text.strip_prefix("all out ") {
         return Rule::AllOut(term(alloc, word).expect(rt, text));

@@ -1,13 +1,13 @@
 //! Forty problems with their facts, worked out by hand from the rules.
 
-// A term: `f` as often as the first number says, over a constant with the second number, or over the variable with
-// that number where the last is true.
+/// A term: `f` as often as the first number says, over a constant with the second number, or over the variable with
+/// that number where the last is true.
 pub type T = (u32, u32, bool);
 
-// A literal: its sign, its symbol and its terms. `=` makes an equation.
+/// A literal: its sign, its symbol and its terms. `=` makes an equation.
 pub type L = (bool, u8, &'static [T]);
 
-// A clause: its premises, its conclusion, and a literal with its trigger: an atom, or the left side of an equation.
+/// A clause: its premises, its conclusion, and a literal with its trigger: an atom, or the left side of an equation.
 pub type R = (&'static [L], L, L);
 
 /// Literals of a disjunct, further ground literals, clauses, facts, literals that are none, and whether the facts are
@@ -55,6 +55,7 @@ const X: T = (0, 0, true);
 
 const Y: T = (0, 1, true);
 
+/// Equations, and what they carry.
 pub const FIRST: [Problem; 5] = [
     // the constant 0 is ground; nothing is said of what isn't
     (
@@ -127,6 +128,7 @@ pub const FIRST: [Problem; 5] = [
     ),
 ];
 
+/// A disequation, and clauses with two premises or one behind another.
 pub const SECOND: [Problem; 5] = [
     // a disequation has its sides exchanged, and isn't carried to equal terms
     (
@@ -214,6 +216,7 @@ pub const SECOND: [Problem; 5] = [
     ),
 ];
 
+/// Clauses that let others fire, layer by layer, and a trigger as it is written.
 pub const THIRD: [Problem; 5] = [
     (
         &[
@@ -325,6 +328,7 @@ pub const THIRD: [Problem; 5] = [
     ),
 ];
 
+/// Triggers that equal terms make, and triggers that are terms.
 pub const FOURTH: [Problem; 5] = [
     (
         &[(true, b'P', &[C1]), (true, b'=', &[C1, F2])],
@@ -385,6 +389,7 @@ pub const FOURTH: [Problem; 5] = [
     ),
 ];
 
+/// Disjuncts that are contradictory.
 pub const FIFTH: [Problem; 5] = [
     (
         &[(true, b'P', &[C1]), (false, b'P', &[C1])],
@@ -457,6 +462,7 @@ pub const FIFTH: [Problem; 5] = [
     ),
 ];
 
+/// Disjuncts that are contradictory with clauses, and chains of equal terms.
 pub const SIXTH: [Problem; 5] = [
     (
         &[(true, b'P', &[C1]), (false, b'=', &[F1, C1])],
@@ -554,6 +560,7 @@ pub const SIXTH: [Problem; 5] = [
     ),
 ];
 
+/// Negative facts, and premises and conclusions of each form.
 pub const SEVENTH: [Problem; 5] = [
     // a negative atom carried to two equal terms
     (
@@ -634,6 +641,7 @@ pub const SEVENTH: [Problem; 5] = [
     ),
 ];
 
+/// Arguments in two places, a clause that its own conclusion starts, and disjuncts that are contradictory.
 pub const EIGHTH: [Problem; 5] = [
     // a clause of two variables, at two terms that are equal
     (

@@ -49,7 +49,7 @@ fn term(rt: &impl Abort, alloc: Global, t: T) -> Term {
     out
 }
 
-// The sides of an equation.
+/// The sides of an equation.
 fn sides(ts: &[T]) -> (T, T) {
     match ts {
         [left, right] => (*left, *right),
@@ -112,7 +112,7 @@ fn clause(rt: &impl Abort, alloc: Global, r: R) -> Clause {
     )
 }
 
-// The disjunct of the problem, and for each of its further literals a universal in which that stands without a variable.
+/// The disjunct of the problem, and for each of its further literals a universal in which that stands without a variable.
 fn disjunct(rt: &impl Abort, alloc: Global, p: Problem) -> Disjunct {
     let mut universals = Formulas::new(alloc);
     for l in p.1 {
@@ -134,7 +134,7 @@ fn clauses(rt: &impl Abort, alloc: Global, p: Problem) -> Clauses {
     out
 }
 
-// Whether the facts of the problem are facts, the last literals none, and contradictory facts told as such.
+/// Whether the facts of the problem are facts, the last literals none, and contradictory facts told as such.
 fn is_as_told<F: FactSet>(rt: &impl Abort, alloc: Global, f: &F, p: Problem) -> bool {
     for l in p.3 {
         if !f.holds(&literal(rt, alloc, *l)) {
@@ -149,7 +149,7 @@ fn is_as_told<F: FactSet>(rt: &impl Abort, alloc: Global, f: &F, p: Problem) -> 
     f.contradictory() == p.5
 }
 
-// The class of the term with a number, in the one form and in the other.
+/// The class of the term with a number, in the one form and in the other.
 fn class_number(f: &Classes, number: u32) -> u32 {
     if (number as usize) < f.ground().terms.len() {
         f.class_of(number)
@@ -168,7 +168,7 @@ fn plain_class(f: &Classes, plain: &Facts, number: u32) -> usize {
     0
 }
 
-// Whether two terms have one class in the one form exactly where they have one in the other.
+/// Whether two terms have one class in the one form exactly where they have one in the other.
 fn have_same_classes(f: &Classes, plain: &Facts) -> bool {
     let count = u32::try_from(f.ground().terms.len()).unwrap_or(u32::MAX);
     for i in 0..count {
@@ -182,7 +182,7 @@ fn have_same_classes(f: &Classes, plain: &Facts) -> bool {
     true
 }
 
-// How many atoms with the symbol are facts with the sign, in the plain form.
+/// How many atoms with the symbol are facts with the sign, in the plain form.
 fn count_signed(plain: &Facts, sym: Sym, positive: bool) -> usize {
     let mut count = 0usize;
     for k in 0..plain.ground().atoms.len() {
@@ -193,7 +193,7 @@ fn count_signed(plain: &Facts, sym: Sym, positive: bool) -> usize {
     count
 }
 
-// Whether as many atoms of each symbol and sign are facts in the one form as in the other.
+/// Whether as many atoms of each symbol and sign are facts in the one form as in the other.
 fn have_same_signs(f: &Classes, plain: &Facts) -> bool {
     for a in &plain.ground().atoms.items {
         for positive in [true, false] {

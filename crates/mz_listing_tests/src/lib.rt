@@ -8,8 +8,6 @@ mod listings;
 #[cfg(test)]
 mod others;
 #[cfg(test)]
-mod parts;
-#[cfg(test)]
 mod registrations;
 #[cfg(test)]
 mod reports;

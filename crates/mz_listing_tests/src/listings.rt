@@ -66,11 +66,13 @@ fn items(rt: &impl Abort, alloc: Global) -> Vec<Item> {
     items.push(theorem(rt, alloc)).expect(rt, "memory");
     items.push(scheme(rt, alloc)).expect(rt, "memory");
     items.push(functor_by_means(rt, alloc)).expect(rt, "memory");
-    items.push(functor_by_equals(alloc)).expect(rt, "memory");
+    items
+        .push(functor_by_equals(rt, alloc))
+        .expect(rt, "memory");
     items.push(predicate(rt, alloc)).expect(rt, "memory");
     items.push(attribute(rt, alloc)).expect(rt, "memory");
     items.push(mode_by_means(rt, alloc)).expect(rt, "memory");
-    items.push(abbreviation(alloc)).expect(rt, "memory");
+    items.push(abbreviation(rt, alloc)).expect(rt, "memory");
     items.push(synonym(rt, alloc)).expect(rt, "memory");
     items
         .push(redefined_functor(rt, alloc))
@@ -86,11 +88,11 @@ fn items(rt: &impl Abort, alloc: Global) -> Vec<Item> {
     items.push(existential(rt, alloc)).expect(rt, "memory");
     items.push(conditional(rt, alloc)).expect(rt, "memory");
     items.push(functorial(rt, alloc)).expect(rt, "memory");
-    items.push(reduction(alloc)).expect(rt, "memory");
-    items.push(identification(alloc)).expect(rt, "memory");
+    items.push(reduction(rt, alloc)).expect(rt, "memory");
+    items.push(identification(rt, alloc)).expect(rt, "memory");
     items.push(structure(rt, alloc)).expect(rt, "memory");
     items.push(set_term(rt, alloc)).expect(rt, "memory");
-    items.push(choice(alloc)).expect(rt, "memory");
+    items.push(choice(rt, alloc)).expect(rt, "memory");
     items
 }
 

@@ -1,11 +1,11 @@
 //! Registrations of each kind.
-use crate::parts::{adjective, functor};
 use mz_core::hidden::set_type;
 use mz_core::item::Item;
 use mz_core::registration::{
     ConditionalRegistration, EquationRegistration, ExistentialRegistration, FunctorialRegistration,
 };
 use mz_core::soft_types::SoftTypes;
+use mz_part_samples::parts::{adjectives, term};
 use std::alloc::Global;
 use std::process::Abort;
 
@@ -13,7 +13,7 @@ use std::process::Abort;
 pub fn existential(rt: &impl Abort, alloc: Global) -> Item {
     Item::Existential(ExistentialRegistration {
         loci: SoftTypes::new(alloc),
-        adjectives: adjective(rt, alloc, 1),
+        adjectives: adjectives(alloc, &[(true, 1, &[])]).expect(rt, "memory"),
         ty: set_type(alloc),
     })
 }
@@ -22,8 +22,8 @@ pub fn existential(rt: &impl Abort, alloc: Global) -> Item {
 pub fn conditional(rt: &impl Abort, alloc: Global) -> Item {
     Item::Conditional(ConditionalRegistration {
         loci: SoftTypes::new(alloc),
-        from: adjective(rt, alloc, 1),
-        to: adjective(rt, alloc, 2),
+        from: adjectives(alloc, &[(true, 1, &[])]).expect(rt, "memory"),
+        to: adjectives(alloc, &[(true, 2, &[])]).expect(rt, "memory"),
         ty: set_type(alloc),
     })
 }
@@ -32,27 +32,27 @@ pub fn conditional(rt: &impl Abort, alloc: Global) -> Item {
 pub fn functorial(rt: &impl Abort, alloc: Global) -> Item {
     Item::Functorial(FunctorialRegistration {
         loci: SoftTypes::new(alloc),
-        term: functor(alloc, 1),
-        adjectives: adjective(rt, alloc, 1),
+        term: term(alloc, 1, &[]).expect(rt, "memory"),
+        adjectives: adjectives(alloc, &[(true, 1, &[])]).expect(rt, "memory"),
         ty: None,
     })
 }
 
 /// `O1` and `O2`.
-fn equation(alloc: Global) -> EquationRegistration {
+fn equation(rt: &impl Abort, alloc: Global) -> EquationRegistration {
     EquationRegistration {
         loci: SoftTypes::new(alloc),
-        left: functor(alloc, 1),
-        right: functor(alloc, 2),
+        left: term(alloc, 1, &[]).expect(rt, "memory"),
+        right: term(alloc, 2, &[]).expect(rt, "memory"),
     }
 }
 
 /// `reduce O1 to O2`.
-pub fn reduction(alloc: Global) -> Item {
-    Item::Reduction(equation(alloc))
+pub fn reduction(rt: &impl Abort, alloc: Global) -> Item {
+    Item::Reduction(equation(rt, alloc))
 }
 
 /// `identify O1 with O2`.
-pub fn identification(alloc: Global) -> Item {
-    Item::Identification(equation(alloc))
+pub fn identification(rt: &impl Abort, alloc: Global) -> Item {
+    Item::Identification(equation(rt, alloc))
 }

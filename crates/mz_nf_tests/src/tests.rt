@@ -1,24 +1,17 @@
 //! Small problems with their disjuncts, worked out by hand.
+use crate::samples::problem;
 use mz_logic::texts::push_formula;
 use mz_nf::disjuncts::disjuncts;
 use mz_nf::nf_fault::NfFault;
-use mz_nf::problem::Problem;
-use mz_samples::parts::sequent;
 use std::alloc::Global;
+use std::mem::forget;
 use std::process::Abort;
-
-/// The problem of a text: its premises and its conclusion, as those of a sequent.
-fn problem(rt: &impl Abort, alloc: Global, text: &str) -> Problem {
-    let s = sequent(alloc, text).expect(rt, "a sequent");
-    Problem {
-        premises: s.premises,
-        conclusion: s.conclusion,
-    }
-}
 
 /// The problem's disjuncts: of each its literals, `/` and its universals, with `;` at its end.
 fn found(rt: &impl Abort, alloc: Global, text: &str) -> Vec<u8> {
-    let ds = disjuncts(alloc, &problem(rt, alloc, text)).expect(rt, "disjuncts");
+    let p = problem(alloc, text).expect(rt, "a sequent");
+    let ds = disjuncts(alloc, &p).expect(rt, "disjuncts");
+    forget(p);
     let mut out = Vec::new(alloc);
     for d in &ds.items {
         for l in &d.literals.items {
@@ -190,7 +183,7 @@ fn too_many(rt: HostRuntime) {
         (100, 1_000_000_000),
     ] {
         let text = repeated(&rt, alloc, times);
-        match disjuncts(alloc, &problem(&rt, alloc, &text)) {
+        match disjuncts(alloc, &problem(alloc, &text).expect(&rt, "a sequent")) {
             Err(NfFault::TooManyDisjuncts { count }) => assert!(rt; count == want),
             _ => assert!(rt; false, "at {times}"),
         }

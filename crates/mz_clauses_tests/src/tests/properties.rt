@@ -1,10 +1,10 @@
 //! Clauses of properties.
 use crate::tests::adds;
-use crate::tests::parts::{element, mode, two_elements};
 use mz_core::item::Item;
 use mz_core::property::{Operation, Property, PropertyForm, Relation, UnaryOperation};
 use mz_core::soft_types::SoftTypes;
 use mz_logic::kind::Kind;
+use mz_part_samples::parts::{element, mode, more, sym, two_elements};
 use mz_samples::forms::term;
 use mz_samples::parts::literal;
 use std::alloc::Global;
@@ -38,22 +38,26 @@ fn property(loci: SoftTypes, form: PropertyForm) -> Item {
     Item::Property(Property { loci, form })
 }
 
+/// A property of `let X be set, x,y be M1 of X`.
+fn of_two_elements(rt: &impl Abort, alloc: Global, form: PropertyForm) -> Item {
+    let loci = two_elements(alloc).expect(rt, "memory");
+    property(loci, form)
+}
+
 /// Symmetry of R1.
 pub fn symmetry(rt: &impl Abort, alloc: Global) -> Item {
     let r = relation(rt, alloc, "(A.R1 b2 b1 b0)");
-    property(two_elements(rt, alloc), PropertyForm::Symmetry(r))
+    of_two_elements(rt, alloc, PropertyForm::Symmetry(r))
 }
 
 #[test]
 fn reflexive_predicates(rt: HostRuntime) {
     let r = relation(&rt, rt.alloc(), "(A.R1 b2 b1 b0)");
-    let loci = two_elements(&rt, rt.alloc());
-    let item = property(loci, PropertyForm::Reflexivity(r));
+    let item = of_two_elements(&rt, rt.alloc(), PropertyForm::Reflexivity(r));
     let wanted = ["3 (A.R1 b2 b1 b0) : (A.M1 b2 b1) (A.M1 b2 b0) (= b1 b0) => (A.R1 b2 b1 b0)"];
     assert!(rt; adds(&rt, rt.alloc(), &item, &wanted));
     let r = relation(&rt, rt.alloc(), "(A.R1 b2 b1 b0)");
-    let loci = two_elements(&rt, rt.alloc());
-    let item = property(loci, PropertyForm::Irreflexivity(r));
+    let item = of_two_elements(&rt, rt.alloc(), PropertyForm::Irreflexivity(r));
     let wanted = [
         "3 (A.R1 b2 b1 b0) : (A.M1 b2 b1) (A.M1 b2 b0) (= b1 b0) => (not (A.R1 b2 b1 b0))",
     ];
@@ -63,19 +67,16 @@ fn reflexive_predicates(rt: HostRuntime) {
 #[test]
 fn an_antonym_and_an_equation(rt: HostRuntime) {
     let r = relation(&rt, rt.alloc(), "(not (A.R1 b2 b0 b1))");
-    let loci = two_elements(&rt, rt.alloc());
-    let item = property(loci, PropertyForm::Reflexivity(r));
+    let item = of_two_elements(&rt, rt.alloc(), PropertyForm::Reflexivity(r));
     let wanted = [
         "3 (A.R1 b2 b0 b1) : (A.M1 b2 b1) (A.M1 b2 b0) (= b1 b0) => (not (A.R1 b2 b0 b1))",
     ];
     assert!(rt; adds(&rt, rt.alloc(), &item, &wanted));
     let r = relation(&rt, rt.alloc(), "(= b1 b0)");
-    let loci = two_elements(&rt, rt.alloc());
-    let item = property(loci, PropertyForm::Symmetry(r));
+    let item = of_two_elements(&rt, rt.alloc(), PropertyForm::Symmetry(r));
     assert!(rt; adds(&rt, rt.alloc(), &item, &[]));
     let r = relation(&rt, rt.alloc(), "(A.R1 b1 b0)");
-    let loci = two_elements(&rt, rt.alloc());
-    let item = property(loci, PropertyForm::Symmetry(r));
+    let item = of_two_elements(&rt, rt.alloc(), PropertyForm::Symmetry(r));
     assert!(rt; adds(&rt, rt.alloc(), &item, &[]));
 }
 
@@ -87,9 +88,9 @@ fn symmetric_predicates(rt: HostRuntime) {
         "3 (A.R1 b2 b1 b0) : (A.M1 b2 b1) (A.M1 b2 b0) (not (A.R1 b2 b1 b0)) => (not (A.R1 b2 b0 b1))",
     ];
     assert!(rt; adds(&rt, rt.alloc(), &item, &both));
-    let mut loci = element(&rt, rt.alloc());
-    loci.push(mode(&rt, rt.alloc(), 2, "b1"))
-        .expect(&rt, "memory");
+    let loci = element(rt.alloc()).expect(&rt, "memory");
+    let ty = mode(rt.alloc(), 2, &[1]).expect(&rt, "memory");
+    let loci = more(loci, ty).expect(&rt, "memory");
     let r = relation(&rt, rt.alloc(), "(A.R1 b2 b1 b0)");
     let item = property(loci, PropertyForm::Symmetry(r));
     let one = ["3 (A.R1 b2 b1 b0) : (A.M1 b2 b1) (A.M2 b2 b0) (A.R1 b2 b1 b0) => (A.R1 b2 b0 b1)"];
@@ -99,15 +100,13 @@ fn symmetric_predicates(rt: HostRuntime) {
 #[test]
 fn asymmetric_and_connected_predicates(rt: HostRuntime) {
     let r = relation(&rt, rt.alloc(), "(A.R1 b2 b1 b0)");
-    let loci = two_elements(&rt, rt.alloc());
-    let item = property(loci, PropertyForm::Asymmetry(r));
+    let item = of_two_elements(&rt, rt.alloc(), PropertyForm::Asymmetry(r));
     let wanted = [
         "3 (A.R1 b2 b1 b0) : (A.M1 b2 b1) (A.M1 b2 b0) (A.R1 b2 b1 b0) => (not (A.R1 b2 b0 b1))",
     ];
     assert!(rt; adds(&rt, rt.alloc(), &item, &wanted));
     let r = relation(&rt, rt.alloc(), "(A.R1 b2 b1 b0)");
-    let loci = two_elements(&rt, rt.alloc());
-    let item = property(loci, PropertyForm::Connectedness(r));
+    let item = of_two_elements(&rt, rt.alloc(), PropertyForm::Connectedness(r));
     let wanted = [
         "3 (A.R1 b2 b1 b0) : (A.M1 b2 b1) (A.M1 b2 b0) (not (A.R1 b2 b1 b0)) => (A.R1 b2 b0 b1)",
     ];
@@ -117,15 +116,13 @@ fn asymmetric_and_connected_predicates(rt: HostRuntime) {
 #[test]
 fn commutative_and_idempotent_functors(rt: HostRuntime) {
     let o = operation(&rt, rt.alloc());
-    let loci = two_elements(&rt, rt.alloc());
-    let item = property(loci, PropertyForm::Commutativity(o));
+    let item = of_two_elements(&rt, rt.alloc(), PropertyForm::Commutativity(o));
     let wanted = [
         "3 (A.O1 b2 b1 b0) : (A.M1 b2 b1) (A.M1 b2 b0) => (= (A.O1 b2 b1 b0) (A.O1 b2 b0 b1))",
     ];
     assert!(rt; adds(&rt, rt.alloc(), &item, &wanted));
     let o = operation(&rt, rt.alloc());
-    let loci = two_elements(&rt, rt.alloc());
-    let item = property(loci, PropertyForm::Idempotence(o));
+    let item = of_two_elements(&rt, rt.alloc(), PropertyForm::Idempotence(o));
     let wanted = [
         "3 (A.O1 b2 b1 b0) : (A.M1 b2 b1) (A.M1 b2 b0) (= b1 b0) => (= (A.O1 b2 b1 b0) b1)",
     ];
@@ -135,14 +132,14 @@ fn commutative_and_idempotent_functors(rt: HostRuntime) {
 #[test]
 fn iterated_functors(rt: HostRuntime) {
     let o = unary(&rt, rt.alloc());
-    let loci = element(&rt, rt.alloc());
+    let loci = element(rt.alloc()).expect(&rt, "memory");
     let item = property(loci, PropertyForm::Involutiveness(o));
     let wanted = [
         "2 (A.O2 b1 b0) : (A.M1 b1 b0) (A.M1 b1 (A.O2 b1 b0)) => (= (A.O2 b1 (A.O2 b1 b0)) b0)",
     ];
     assert!(rt; adds(&rt, rt.alloc(), &item, &wanted));
     let o = unary(&rt, rt.alloc());
-    let loci = element(&rt, rt.alloc());
+    let loci = element(rt.alloc()).expect(&rt, "memory");
     let item = property(loci, PropertyForm::Projectivity(o));
     let wanted = [
         "2 (A.O2 b1 b0) : (A.M1 b1 b0) (A.M1 b1 (A.O2 b1 b0)) => (= (A.O2 b1 (A.O2 b1 b0)) (A.O2 b1 b0))",
@@ -152,8 +149,8 @@ fn iterated_functors(rt: HostRuntime) {
 
 #[test]
 fn sethood(rt: HostRuntime) {
-    let loci = element(&rt, rt.alloc());
-    let form = PropertyForm::Sethood(crate::tests::parts::sym(Kind::Mode, 3));
+    let loci = element(rt.alloc()).expect(&rt, "memory");
+    let form = PropertyForm::Sethood(sym(Kind::Mode, 3));
     let item = property(loci, form);
     assert!(rt; adds(&rt, rt.alloc(), &item, &[]));
 }

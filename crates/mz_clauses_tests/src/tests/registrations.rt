@@ -1,5 +1,4 @@
 //! Clauses of registrations.
-use crate::tests::parts::{adjective, element, mode, one_set, single};
 use crate::tests::{adds, types};
 use mz_core::adjectives::Adjectives;
 use mz_core::hidden::set_type;
@@ -10,6 +9,7 @@ use mz_core::registration::{
 use mz_core::soft_type::SoftType;
 use mz_core::soft_types::SoftTypes;
 use mz_logic::term::Term;
+use mz_part_samples::parts::{adjectives, element, mode, sets};
 use mz_samples::forms::term;
 use std::alloc::Global;
 use std::process::Abort;
@@ -22,10 +22,7 @@ fn functorial(
     text: &str,
     ty: Option<SoftType>,
 ) -> Item {
-    let mut adjectives = single(rt, alloc, adjective(rt, alloc, true, 1, ""));
-    adjectives
-        .push(adjective(rt, alloc, false, 2, ""))
-        .expect(rt, "memory");
+    let adjectives = adjectives(alloc, &[(true, 1, &[]), (false, 2, &[])]).expect(rt, "memory");
     Item::Functorial(FunctorialRegistration {
         loci,
         term: term(alloc, text).expect(rt, "sample"),
@@ -36,8 +33,9 @@ fn functorial(
 
 /// `cluster O1(X,x) -> V1 non V2 for M2 of X`.
 pub fn of_a_term(rt: &impl Abort, alloc: Global) -> Item {
-    let ty = Some(mode(rt, alloc, 2, "b1"));
-    functorial(rt, alloc, element(rt, alloc), "(A.O1 b1 b0)", ty)
+    let ty = Some(mode(alloc, 2, &[1]).expect(rt, "memory"));
+    let loci = element(alloc).expect(rt, "memory");
+    functorial(rt, alloc, loci, "(A.O1 b1 b0)", ty)
 }
 
 #[test]
@@ -48,9 +46,11 @@ fn functorial_registrations(rt: HostRuntime) {
         "2 (A.O1 b1 b0) : (A.M1 b1 b0) (A.M2 b1 (A.O1 b1 b0)) => (not (A.V2 (A.O1 b1 b0)))",
     ];
     assert!(rt; types(&rt, rt.alloc(), &item, &wanted));
-    let item = functorial(&rt, rt.alloc(), element(&rt, rt.alloc()), "(A.O2 b0)", None);
+    let loci = element(rt.alloc()).expect(&rt, "memory");
+    let item = functorial(&rt, rt.alloc(), loci, "(A.O2 b0)", None);
     assert!(rt; types(&rt, rt.alloc(), &item, &[]));
-    let item = functorial(&rt, rt.alloc(), one_set(&rt, rt.alloc()), "b0", None);
+    let loci = sets(rt.alloc(), 1).expect(&rt, "memory");
+    let item = functorial(&rt, rt.alloc(), loci, "b0", None);
     let wanted = ["1 b0 : => (A.V1 b0)", "1 b0 : => (not (A.V2 b0))"];
     assert!(rt; types(&rt, rt.alloc(), &item, &wanted));
 }
@@ -64,7 +64,7 @@ fn conditional(
     ty: SoftType,
 ) -> Item {
     Item::Conditional(ConditionalRegistration {
-        loci: one_set(rt, alloc),
+        loci: sets(alloc, 1).expect(rt, "memory"),
         from,
         to,
         ty,
@@ -73,9 +73,9 @@ fn conditional(
 
 /// `cluster V1 -> non V2 for M1 of X`.
 pub fn of_a_type(rt: &impl Abort, alloc: Global) -> Item {
-    let from = single(rt, alloc, adjective(rt, alloc, true, 1, ""));
-    let to = single(rt, alloc, adjective(rt, alloc, false, 2, ""));
-    let ty = mode(rt, alloc, 1, "b0");
+    let from = adjectives(alloc, &[(true, 1, &[])]).expect(rt, "memory");
+    let to = adjectives(alloc, &[(false, 2, &[])]).expect(rt, "memory");
+    let ty = mode(alloc, 1, &[0]).expect(rt, "memory");
     conditional(rt, alloc, from, to, ty)
 }
 
@@ -88,13 +88,13 @@ fn a_conditional_registration(rt: HostRuntime) {
 
 #[test]
 fn the_trigger_of_an_adjective(rt: HostRuntime) {
-    let from = single(&rt, rt.alloc(), adjective(&rt, rt.alloc(), false, 1, "b0"));
-    let to = single(&rt, rt.alloc(), adjective(&rt, rt.alloc(), true, 2, ""));
-    let ty = mode(&rt, rt.alloc(), 5, "");
+    let from = adjectives(rt.alloc(), &[(false, 1, &[0])]).expect(&rt, "memory");
+    let to = adjectives(rt.alloc(), &[(true, 2, &[])]).expect(&rt, "memory");
+    let ty = mode(rt.alloc(), 5, &[]).expect(&rt, "memory");
     let item = conditional(&rt, rt.alloc(), from, to, ty);
     let wanted = ["2 (A.V1 b1 b0) : (A.M5 b0) (not (A.V1 b1 b0)) => (A.V2 b0)"];
     assert!(rt; types(&rt, rt.alloc(), &item, &wanted));
-    let to = single(&rt, rt.alloc(), adjective(&rt, rt.alloc(), true, 2, "b0"));
+    let to = adjectives(rt.alloc(), &[(true, 2, &[0])]).expect(&rt, "memory");
     let ty = set_type(rt.alloc());
     let item = conditional(&rt, rt.alloc(), Adjectives::new(rt.alloc()), to, ty);
     let wanted = ["2 (A.V2 b1 b0) : => (A.V2 b1 b0)"];
@@ -103,9 +103,9 @@ fn the_trigger_of_an_adjective(rt: HostRuntime) {
 
 #[test]
 fn no_trigger(rt: HostRuntime) {
-    let from = single(&rt, rt.alloc(), adjective(&rt, rt.alloc(), true, 1, ""));
-    let to = single(&rt, rt.alloc(), adjective(&rt, rt.alloc(), true, 2, ""));
-    let ty = mode(&rt, rt.alloc(), 5, "");
+    let from = adjectives(rt.alloc(), &[(true, 1, &[])]).expect(&rt, "memory");
+    let to = adjectives(rt.alloc(), &[(true, 2, &[])]).expect(&rt, "memory");
+    let ty = mode(rt.alloc(), 5, &[]).expect(&rt, "memory");
     let item = conditional(&rt, rt.alloc(), from, to, ty);
     assert!(rt; types(&rt, rt.alloc(), &item, &[]));
 }
@@ -113,7 +113,7 @@ fn no_trigger(rt: HostRuntime) {
 /// `O1(X)` and X.
 fn equation(rt: &impl Abort, alloc: Global) -> EquationRegistration {
     EquationRegistration {
-        loci: one_set(rt, alloc),
+        loci: sets(alloc, 1).expect(rt, "memory"),
         left: term(alloc, "(A.O1 b0)").expect(rt, "sample"),
         right: Term::bound(0),
     }

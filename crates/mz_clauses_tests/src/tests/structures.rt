@@ -1,50 +1,17 @@
 //! Clauses of a structure.
 use crate::tests::gives;
-use crate::tests::parts::{mode, one_set, sym, typed};
-use mz_core::adjectives::Adjectives;
 use mz_core::item::Item;
 use mz_core::notations::Notations;
-use mz_core::soft_types::SoftTypes;
-use mz_core::structure::{Field, Fields, Structure};
-use mz_logic::kind::Kind;
+use mz_part_samples::parts::{one_ancestor, pair_fields, sets, structure};
 use std::alloc::Global;
 use std::process::Abort;
 
-/// `U1 -> M1, U2 -> M2 of the U1`. A field's type stands under the structure's object and the fields' values, of
-/// which the last one is the innermost.
-fn two_fields(rt: &impl Abort, alloc: Global) -> Fields {
-    let mut fields = Fields::new(alloc);
-    for (number, args) in [(1, ""), (2, "b1")] {
-        fields
-            .push(Field {
-                selector: sym(Kind::Selector, number),
-                ty: mode(rt, alloc, number, args),
-            })
-            .expect(rt, "memory");
-    }
-    fields
-}
-
 /// `let X be set; struct (G2) G1 over X (# U1 -> M1, U2 -> M2 of the U1 #)`.
 pub fn pairs(rt: &impl Abort, alloc: Global) -> Item {
-    let mut ancestors = SoftTypes::new(alloc);
-    let ancestor = typed(
-        rt,
-        alloc,
-        Adjectives::new(alloc),
-        sym(Kind::Structure, 2),
-        "",
-    );
-    ancestors.push(ancestor).expect(rt, "memory");
-    Item::Structure(Structure {
-        loci: one_set(rt, alloc),
-        sym: sym(Kind::Structure, 1),
-        strict: sym(Kind::Attribute, 1),
-        aggregate: sym(Kind::Aggregate, 1),
-        ancestors,
-        fields: two_fields(rt, alloc),
-        notations: Notations::new(alloc),
-    })
+    let loci = sets(alloc, 1).expect(rt, "memory");
+    let ancestors = one_ancestor(alloc).expect(rt, "memory");
+    let fields = pair_fields(alloc).expect(rt, "memory");
+    Item::Structure(structure(loci, ancestors, fields, Notations::new(alloc)))
 }
 
 #[test]

@@ -3,8 +3,8 @@ use mz_ground::clause::Clause;
 use mz_ground::clauses::Clauses;
 use mz_ground::trigger::Trigger;
 use mz_logic::formula::Formula;
-use mz_logic::literal::Literal;
 use mz_logic::texts::{formula_text, term_text};
+use mz_part_samples::texts::{digit, literal_text};
 use std::alloc::Global;
 use std::process::Abort;
 
@@ -18,11 +18,6 @@ fn trigger_text(rt: &impl Abort, alloc: Global, r: &Trigger) -> Vec<u8> {
     }
 }
 
-fn literal_text(rt: &impl Abort, alloc: Global, l: &Literal) -> Vec<u8> {
-    let f = l.formula(alloc).expect(rt, "memory");
-    formula_text(alloc, &f).expect(rt, "memory")
-}
-
 fn put(rt: &impl Abort, out: &mut Vec<u8>, bytes: &[u8]) {
     out.extend_from_slice(bytes).expect(rt, "memory");
 }
@@ -30,25 +25,19 @@ fn put(rt: &impl Abort, out: &mut Vec<u8>, bytes: &[u8]) {
 /// The text of a clause with fewer than ten variables.
 fn clause_text(rt: &impl Abort, alloc: Global, c: &Clause) -> Vec<u8> {
     let mut out = Vec::new(alloc);
-    let digit = if c.variables < 10 {
-        b'0' + c.variables as u8
-    } else {
-        b'+'
-    };
+    let digit = digit(u64::from(c.variables));
     put(rt, &mut out, &[digit]);
     put(rt, &mut out, b" ");
     put(rt, &mut out, trigger_text(rt, alloc, &c.trigger).as_slice());
     put(rt, &mut out, b" :");
     for l in &c.premises.items {
         put(rt, &mut out, b" ");
-        put(rt, &mut out, literal_text(rt, alloc, l).as_slice());
+        let text = literal_text(alloc, l).expect(rt, "memory");
+        put(rt, &mut out, text.as_slice());
     }
     put(rt, &mut out, b" => ");
-    put(
-        rt,
-        &mut out,
-        literal_text(rt, alloc, &c.conclusion).as_slice(),
-    );
+    let text = literal_text(alloc, &c.conclusion).expect(rt, "memory");
+    put(rt, &mut out, text.as_slice());
     out
 }
 

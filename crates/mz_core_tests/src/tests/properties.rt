@@ -1,22 +1,16 @@
 //! What properties state and owe.
-use crate::tests::parts::{bounds, mode, more, sets, sym, term};
 use crate::tests::rows::{NOTHING, Row, check};
 use mz_core::item::Item;
 use mz_core::property::{Operation, Property, PropertyForm, Relation, UnaryOperation};
 use mz_core::soft_types::SoftTypes;
 use mz_logic::kind::Kind;
-use mz_logic::literal::Literal;
+use mz_part_samples::parts::{element, literal, mode, more, sets, sym, term, two_elements};
 use std::alloc::Global;
 use std::process::Abort;
 
 /// `R1[x,y]`.
 fn relation(rt: &impl Abort, alloc: Global) -> Relation {
-    let args = bounds(rt, alloc, &[1, 0]);
-    let literal = Literal::Atom {
-        positive: true,
-        sym: sym(Kind::Predicate, 1),
-        args,
-    };
+    let literal = literal(alloc, true, sym(Kind::Predicate, 1), &[1, 0]).expect(rt, "memory");
     Relation {
         literal,
         left: 1,
@@ -26,7 +20,7 @@ fn relation(rt: &impl Abort, alloc: Global) -> Relation {
 
 /// `O1(x,y)`.
 fn operation(rt: &impl Abort, alloc: Global) -> Operation {
-    let term = term(rt, alloc, 1, &[1, 0]);
+    let term = term(alloc, 1, &[1, 0]).expect(rt, "memory");
     Operation {
         term,
         left: 1,
@@ -36,7 +30,7 @@ fn operation(rt: &impl Abort, alloc: Global) -> Operation {
 
 /// `O1(x)`.
 fn unary(rt: &impl Abort, alloc: Global) -> UnaryOperation {
-    let term = term(rt, alloc, 1, &[0]);
+    let term = term(alloc, 1, &[0]).expect(rt, "memory");
     UnaryOperation { term, place: 0 }
 }
 
@@ -48,7 +42,7 @@ fn of_sets(
     property: &'static str,
     owed: &'static [&'static str],
 ) {
-    let loci = sets(rt, alloc, 2);
+    let loci = sets(alloc, 2).expect(rt, "memory");
     let row = Row {
         owed,
         property,
@@ -113,8 +107,7 @@ fn properties_of_functors(rt: HostRuntime) {
 #[test]
 fn symmetry_of_typed_loci(rt: HostRuntime) {
     let a = rt.alloc();
-    let loci = more(&rt, sets(&rt, a, 1), mode(&rt, a, 1, &[0]));
-    let loci = more(&rt, loci, mode(&rt, a, 1, &[1]));
+    let loci = two_elements(a).expect(&rt, "memory");
     let form = PropertyForm::Symmetry(relation(&rt, a));
     let row = Row {
         owed: &[
@@ -127,10 +120,15 @@ fn symmetry_of_typed_loci(rt: HostRuntime) {
 }
 
 /// `let x be M1`.
+fn one_mode(rt: &impl Abort, alloc: Global) -> SoftTypes {
+    let ty = mode(alloc, 1, &[]).expect(rt, "memory");
+    more(SoftTypes::new(alloc), ty).expect(rt, "memory")
+}
+
 #[test]
 fn properties_of_unary_functors(rt: HostRuntime) {
     let a = rt.alloc();
-    let loci = more(&rt, SoftTypes::new(a), mode(&rt, a, 1, &[]));
+    let loci = one_mode(&rt, a);
     let form = PropertyForm::Involutiveness(unary(&rt, a));
     let row = Row {
         owed: &[
@@ -140,7 +138,7 @@ fn properties_of_unary_functors(rt: HostRuntime) {
         ..NOTHING
     };
     check(&rt, a, Item::Property(Property { loci, form }), &row);
-    let loci = more(&rt, SoftTypes::new(a), mode(&rt, a, 1, &[]));
+    let loci = one_mode(&rt, a);
     let form = PropertyForm::Projectivity(unary(&rt, a));
     let row = Row {
         owed: &[
@@ -156,9 +154,9 @@ fn properties_of_unary_functors(rt: HostRuntime) {
 #[test]
 fn involutiveness_with_a_hidden_locus(rt: HostRuntime) {
     let a = rt.alloc();
-    let loci = more(&rt, sets(&rt, a, 1), mode(&rt, a, 1, &[0]));
+    let loci = element(a).expect(&rt, "memory");
     let form = PropertyForm::Involutiveness(UnaryOperation {
-        term: term(&rt, a, 1, &[1, 0]),
+        term: term(a, 1, &[1, 0]).expect(&rt, "memory"),
         place: 0,
     });
     let row = Row {
@@ -175,7 +173,7 @@ fn involutiveness_with_a_hidden_locus(rt: HostRuntime) {
 #[test]
 fn sethood_of_a_mode(rt: HostRuntime) {
     let a = rt.alloc();
-    let loci = sets(&rt, a, 1);
+    let loci = sets(a, 1).expect(&rt, "memory");
     let form = PropertyForm::Sethood(sym(Kind::Mode, 1));
     let row = Row {
         owed: &[

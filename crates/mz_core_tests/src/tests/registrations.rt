@@ -1,5 +1,4 @@
 //! What registrations owe.
-use crate::tests::parts::{adjectives, mode, sets, term};
 use crate::tests::rows::{NOTHING, Row, check};
 use mz_core::adjectives::Adjectives;
 use mz_core::hidden::set_type;
@@ -10,6 +9,7 @@ use mz_core::registration::{
 use mz_core::soft_types::SoftTypes;
 use mz_items::condition::Condition;
 use mz_logic::term::Term;
+use mz_part_samples::parts::{adjectives, mode, sets, term};
 
 /// `cluster non V1 M1`, and `let X be set; cluster V1(X) non V2 M1 of X`.
 #[test]
@@ -17,8 +17,8 @@ fn existential_registrations(rt: HostRuntime) {
     let a = rt.alloc();
     let one = ExistentialRegistration {
         loci: SoftTypes::new(a),
-        adjectives: adjectives(&rt, a, &[(false, 1, &[])]),
-        ty: mode(&rt, a, 1, &[]),
+        adjectives: adjectives(a, &[(false, 1, &[])]).expect(&rt, "memory"),
+        ty: mode(a, 1, &[]).expect(&rt, "memory"),
     };
     let row = Row {
         owed: &["|- (not (all (not (and (A.M1 b0) (not (A.V1 b0))))))"],
@@ -30,9 +30,9 @@ fn existential_registrations(rt: HostRuntime) {
     };
     check(&rt, a, Item::Existential(one), &row);
     let two = ExistentialRegistration {
-        loci: sets(&rt, a, 1),
-        adjectives: adjectives(&rt, a, &[(true, 1, &[0]), (false, 2, &[])]),
-        ty: mode(&rt, a, 1, &[0]),
+        loci: sets(a, 1).expect(&rt, "memory"),
+        adjectives: adjectives(a, &[(true, 1, &[0]), (false, 2, &[])]).expect(&rt, "memory"),
+        ty: mode(a, 1, &[0]).expect(&rt, "memory"),
     };
     let row = Row {
         owed: &["|- (all (not (all (not (and (A.M1 b1 b0) (and (A.V1 b1 b0) (not (A.V2 b0))))))))"],
@@ -51,9 +51,9 @@ fn conditional_registrations(rt: HostRuntime) {
     let a = rt.alloc();
     let from_one = ConditionalRegistration {
         loci: SoftTypes::new(a),
-        from: adjectives(&rt, a, &[(true, 1, &[])]),
-        to: adjectives(&rt, a, &[(false, 2, &[])]),
-        ty: mode(&rt, a, 1, &[]),
+        from: adjectives(a, &[(true, 1, &[])]).expect(&rt, "memory"),
+        to: adjectives(a, &[(false, 2, &[])]).expect(&rt, "memory"),
+        ty: mode(a, 1, &[]).expect(&rt, "memory"),
     };
     let row = Row {
         owed: &["|- (all (not (and (A.M1 b0) (and (A.V1 b0) (A.V2 b0)))))"],
@@ -65,9 +65,9 @@ fn conditional_registrations(rt: HostRuntime) {
     };
     check(&rt, a, Item::Conditional(from_one), &row);
     let from_none = ConditionalRegistration {
-        loci: sets(&rt, a, 1),
+        loci: sets(a, 1).expect(&rt, "memory"),
         from: Adjectives::new(a),
-        to: adjectives(&rt, a, &[(true, 1, &[0]), (false, 2, &[])]),
+        to: adjectives(a, &[(true, 1, &[0]), (false, 2, &[])]).expect(&rt, "memory"),
         ty: set_type(a),
     };
     let row = Row {
@@ -87,10 +87,10 @@ fn conditional_registrations(rt: HostRuntime) {
 fn functorial_registrations(rt: HostRuntime) {
     let a = rt.alloc();
     let for_mode = FunctorialRegistration {
-        loci: sets(&rt, a, 1),
-        term: term(&rt, a, 1, &[0]),
-        adjectives: adjectives(&rt, a, &[(true, 1, &[])]),
-        ty: Some(mode(&rt, a, 1, &[])),
+        loci: sets(a, 1).expect(&rt, "memory"),
+        term: term(a, 1, &[0]).expect(&rt, "memory"),
+        adjectives: adjectives(a, &[(true, 1, &[])]).expect(&rt, "memory"),
+        ty: Some(mode(a, 1, &[]).expect(&rt, "memory")),
     };
     let row = Row {
         owed: &["|- (all (not (and (A.M1 (A.O1 b0)) (not (A.V1 (A.O1 b0))))))"],
@@ -102,9 +102,9 @@ fn functorial_registrations(rt: HostRuntime) {
     };
     check(&rt, a, Item::Functorial(for_mode), &row);
     let for_set = FunctorialRegistration {
-        loci: sets(&rt, a, 1),
-        term: term(&rt, a, 1, &[0]),
-        adjectives: adjectives(&rt, a, &[(false, 1, &[])]),
+        loci: sets(a, 1).expect(&rt, "memory"),
+        term: term(a, 1, &[0]).expect(&rt, "memory"),
+        adjectives: adjectives(a, &[(false, 1, &[])]).expect(&rt, "memory"),
         ty: Some(set_type(a)),
     };
     let row = Row {
@@ -120,8 +120,8 @@ fn functorial_registrations(rt: HostRuntime) {
 fn registrations_of_equations(rt: HostRuntime) {
     let a = rt.alloc();
     let reduction = EquationRegistration {
-        loci: sets(&rt, a, 1),
-        left: term(&rt, a, 1, &[0]),
+        loci: sets(a, 1).expect(&rt, "memory"),
+        left: term(a, 1, &[0]).expect(&rt, "memory"),
         right: Term::bound(0),
     };
     let row = Row {
@@ -131,9 +131,9 @@ fn registrations_of_equations(rt: HostRuntime) {
     };
     check(&rt, a, Item::Reduction(reduction), &row);
     let identification = EquationRegistration {
-        loci: sets(&rt, a, 1),
-        left: term(&rt, a, 1, &[0]),
-        right: term(&rt, a, 2, &[0]),
+        loci: sets(a, 1).expect(&rt, "memory"),
+        left: term(a, 1, &[0]).expect(&rt, "memory"),
+        right: term(a, 2, &[0]).expect(&rt, "memory"),
     };
     let row = Row {
         owed: &["|- (all (= (A.O1 b0) (A.O2 b0)))"],

@@ -1,22 +1,24 @@
 //! Statements with terms for their indices, their conjuncts, and what is in force.
-use crate::tests::parts::{atom, mode, negative_mode, sym};
-use crate::tests::texts::{are_formulas, is_formula};
 use mz_core::abstraction::statement_over;
 use mz_core::erasure::erase;
 use mz_core::guard::guard;
 use mz_core::in_force::{statement_in_force, type_in_force};
 use mz_core::parts::{conjunction, parts};
+use mz_core::soft_type::SoftType;
 use mz_core::statement::Statement;
 use mz_core::statements::Statements;
 use mz_core::type_substitution::statement_at;
 use mz_logic::kind::Kind;
 use mz_logic::term::{Term, Terms};
+use mz_part_samples::parts::{adjectives, atom, mode, sym, typed};
+use mz_part_samples::texts::{are_formulas, is_formula};
 use std::alloc::Global;
 use std::process::Abort;
 
 /// Whether the statement is the formula of this text.
 fn is_text(rt: &impl Abort, alloc: Global, s: &Statement, text: &str) -> bool {
-    is_formula(rt, alloc, &erase(alloc, s).expect(rt, "memory"), text)
+    let f = erase(alloc, s).expect(rt, "memory");
+    is_formula(alloc, &f, text).expect(rt, "memory")
 }
 
 /// `R1[c5, c2]`.
@@ -29,8 +31,8 @@ fn of_constants(rt: &impl Abort, alloc: Global) -> Statement {
 
 /// `for x being M1 of b0 holds R1[x, b1, b2]`, under two more binders.
 fn under_binders(rt: &impl Abort, alloc: Global) -> Statement {
-    let ty = mode(rt, alloc, 1, &[0]);
-    let s = atom(rt, alloc, 1, &[0, 1, 2]);
+    let ty = mode(alloc, 1, &[0]).expect(rt, "memory");
+    let s = atom(alloc, 1, &[0, 1, 2]).expect(rt, "memory");
     Statement::each(alloc, ty, s).expect(rt, "memory")
 }
 
@@ -54,9 +56,10 @@ fn a_constant_made_an_index(rt: HostRuntime) {
 #[test]
 fn conjuncts_from_left_to_right(rt: HostRuntime) {
     let mut ss = Statements::new(rt.alloc());
-    ss.push(atom(&rt, rt.alloc(), 1, &[])).expect(&rt, "memory");
-    ss.push(atom(&rt, rt.alloc(), 2, &[])).expect(&rt, "memory");
-    ss.push(atom(&rt, rt.alloc(), 3, &[])).expect(&rt, "memory");
+    for number in 1..4u32 {
+        let s = atom(rt.alloc(), number, &[]).expect(&rt, "memory");
+        ss.push(s).expect(&rt, "memory");
+    }
     let s = conjunction(rt.alloc(), &ss).expect(&rt, "memory");
     assert!(rt; is_text(&rt, rt.alloc(), &s, "(and (and A.R1 A.R2) A.R3)"));
     assert!(rt; parts(rt.alloc(), &s).expect(&rt, "memory").equals(&ss));
@@ -69,6 +72,12 @@ fn constants_in_force(rt: HostRuntime) {
     assert!(rt; !statement_in_force(&s, 5));
 }
 
+/// `non V1 M1`.
+pub fn negative_mode(rt: &impl Abort, alloc: Global) -> SoftType {
+    let adjectives = adjectives(alloc, &[(false, 1, &[])]).expect(rt, "memory");
+    typed(alloc, adjectives, sym(Kind::Mode, 1), &[]).expect(rt, "memory")
+}
+
 /// `non V1 M1`: the radix first, then the adjective with its sign.
 #[test]
 fn the_guard_of_a_type(rt: HostRuntime) {
@@ -76,5 +85,5 @@ fn the_guard_of_a_type(rt: HostRuntime) {
     assert!(rt; type_in_force(&ty, 0));
     let fs = guard(rt.alloc(), &ty, &Term::constant(3)).expect(&rt, "memory");
     let texts = ["(A.M1 c3)", "(not (A.V1 c3))"];
-    assert!(rt; are_formulas(&rt, rt.alloc(), &fs, &texts));
+    assert!(rt; are_formulas(rt.alloc(), &fs, &texts).expect(&rt, "memory"));
 }

@@ -1,69 +1,25 @@
 //! What structures, set terms and choices owe and grant.
-use crate::tests::parts::{atom, mode, more, pattern, radix, sets, sym, term};
 use crate::tests::rows::{NOTHING, Row, check};
 use mz_compare::items::item_equal;
 use mz_core::item::Item;
 use mz_core::notation::{Meaning, Notation};
 use mz_core::notations::Notations;
 use mz_core::set_term::{Choice, SetTerm};
-use mz_core::soft_type::SoftType;
 use mz_core::soft_types::SoftTypes;
-use mz_core::structure::{Field, Fields, Structure};
 use mz_items::condition::Condition;
 use mz_logic::kind::Kind;
-use mz_logic::term::Terms;
+use mz_part_samples::parts::{
+    atom, mode, one_ancestor, pair_fields, pattern_on_sets, sets, structure, sym, term, two_fields,
+};
 use std::alloc::Global;
 use std::process::Abort;
 
-/// `U1 -> T1, U2 -> T2`. A field's type stands under the structure's object and the fields' values, of which the last one is
-/// the innermost.
-fn two_fields(rt: &impl Abort, alloc: Global, first: SoftType, second: SoftType) -> Fields {
-    let mut fields = Fields::new(alloc);
-    let selector = sym(Kind::Selector, 1);
-    fields
-        .push(Field {
-            selector,
-            ty: first,
-        })
-        .expect(rt, "memory");
-    let selector = sym(Kind::Selector, 2);
-    fields
-        .push(Field {
-            selector,
-            ty: second,
-        })
-        .expect(rt, "memory");
-    fields
-}
-
-/// `let X be set; struct (..) G1 over X (# .. #)`.
-fn structure(
-    rt: &impl Abort,
-    alloc: Global,
-    ancestors: SoftTypes,
-    fields: Fields,
-    notations: Notations,
-) -> Item {
-    let loci = sets(rt, alloc, 1);
-    Item::Structure(Structure {
-        loci,
-        sym: sym(Kind::Structure, 1),
-        strict: sym(Kind::Attribute, 1),
-        aggregate: sym(Kind::Aggregate, 1),
-        ancestors,
-        fields,
-        notations,
-    })
-}
-
 /// `let X be set; struct (G2) G1 over X (# U1 -> M1, U2 -> M2 of the U1 #)`.
 fn pairs(rt: &impl Abort, alloc: Global, notations: Notations) -> Item {
-    let other = radix(alloc, Kind::Structure, 2, Terms::new(alloc));
-    let ancestors = more(rt, SoftTypes::new(alloc), other);
-    let first = mode(rt, alloc, 1, &[]);
-    let second = mode(rt, alloc, 2, &[1]);
-    let fields = two_fields(rt, alloc, first, second);
-    structure(rt, alloc, ancestors, fields, notations)
+    let loci = sets(alloc, 1).expect(rt, "memory");
+    let ancestors = one_ancestor(alloc).expect(rt, "memory");
+    let fields = pair_fields(alloc).expect(rt, "memory");
+    Item::Structure(structure(loci, ancestors, fields, notations))
 }
 
 const PAIRS: Row = Row {
@@ -86,10 +42,11 @@ fn a_structure(rt: HostRuntime) {
 #[test]
 fn a_structure_without_ancestors(rt: HostRuntime) {
     let a = rt.alloc();
-    let first = mode(&rt, a, 1, &[3, 2]);
-    let second = mode(&rt, a, 2, &[1, 0]);
-    let fields = two_fields(&rt, a, first, second);
-    let item = structure(&rt, a, SoftTypes::new(a), fields, Notations::new(a));
+    let loci = sets(a, 1).expect(&rt, "memory");
+    let first = mode(a, 1, &[3, 2]).expect(&rt, "memory");
+    let second = mode(a, 2, &[1, 0]).expect(&rt, "memory");
+    let fields = two_fields(a, first, second).expect(&rt, "memory");
+    let structure = structure(loci, SoftTypes::new(a), fields, Notations::new(a));
     let row = Row {
         granted: &[
             "(all (all (not (and (A.G1 b1 b0) (not true)))))",
@@ -99,15 +56,16 @@ fn a_structure_without_ancestors(rt: HostRuntime) {
         ],
         ..NOTHING
     };
-    check(&rt, a, item, &row);
+    check(&rt, a, Item::Structure(structure), &row);
 }
 
 /// The modes M1 and M2 of one locus as notations.
 fn two_notations(rt: &impl Abort, alloc: Global) -> Notations {
     let mut notations = Notations::new(alloc);
     for number in 1..3u32 {
-        let pattern = pattern(alloc, sets(rt, alloc, 1));
-        let meaning = Meaning::OfType(mode(rt, alloc, number, &[0]));
+        let pattern = pattern_on_sets(alloc, Kind::Mode, 1).expect(rt, "memory");
+        let ty = mode(alloc, number, &[0]).expect(rt, "memory");
+        let meaning = Meaning::OfType(ty);
         notations
             .push(Notation { pattern, meaning })
             .expect(rt, "memory");
@@ -138,11 +96,11 @@ fn structures_that_differ(rt: HostRuntime) {
 fn set_terms(rt: HostRuntime) {
     let a = rt.alloc();
     let item = SetTerm {
-        loci: sets(&rt, a, 1),
+        loci: sets(a, 1).expect(&rt, "memory"),
         sym: sym(Kind::Functor, 2),
-        ty: mode(&rt, a, 1, &[0]),
-        term: term(&rt, a, 1, &[0]),
-        formula: atom(&rt, a, 1, &[0]),
+        ty: mode(a, 1, &[0]).expect(&rt, "memory"),
+        term: term(a, 1, &[0]).expect(&rt, "memory"),
+        formula: atom(a, 1, &[0]).expect(&rt, "memory"),
     };
     let row = Row {
         owed: &[
@@ -159,11 +117,11 @@ fn set_terms(rt: HostRuntime) {
     };
     check(&rt, a, Item::SetTerm(item), &row);
     let with_locus = SetTerm {
-        loci: sets(&rt, a, 1),
+        loci: sets(a, 1).expect(&rt, "memory"),
         sym: sym(Kind::Functor, 2),
-        ty: mode(&rt, a, 1, &[0]),
-        term: term(&rt, a, 1, &[0, 1]),
-        formula: atom(&rt, a, 1, &[0, 1]),
+        ty: mode(a, 1, &[0]).expect(&rt, "memory"),
+        term: term(a, 1, &[0, 1]).expect(&rt, "memory"),
+        formula: atom(a, 1, &[0, 1]).expect(&rt, "memory"),
     };
     let row = Row {
         owed: &[
@@ -186,9 +144,9 @@ fn set_terms(rt: HostRuntime) {
 fn a_choice(rt: HostRuntime) {
     let a = rt.alloc();
     let item = Choice {
-        loci: sets(&rt, a, 1),
+        loci: sets(a, 1).expect(&rt, "memory"),
         sym: sym(Kind::Functor, 1),
-        ty: mode(&rt, a, 1, &[0]),
+        ty: mode(a, 1, &[0]).expect(&rt, "memory"),
     };
     let row = Row {
         owed: &["|- (all (not (all (not (and (A.M1 b1 b0) true)))))"],

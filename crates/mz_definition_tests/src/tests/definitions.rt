@@ -1,5 +1,4 @@
 //! What definitions owe and grant.
-use crate::tests::parts::{atom, mode, pattern, sets, sym, term};
 use crate::tests::rows::{NOTHING, Row, check};
 use mz_core::definition::{AtomDefinition, AttributeDefinition, EqualsDefinition, MeansDefinition};
 use mz_core::formula_definiens::{FormulaCase, FormulaCases, FormulaDefiniens};
@@ -9,6 +8,7 @@ use mz_core::term_definiens::{TermCase, TermCases, TermDefiniens};
 use mz_items::condition::Condition;
 use mz_logic::kind::Kind;
 use mz_logic::term::Term;
+use mz_part_samples::parts::{atom, mode, pattern_on_sets, plain, sym, term};
 use std::alloc::Global;
 use std::process::Abort;
 
@@ -17,10 +17,10 @@ use std::process::Abort;
 fn a_functor_by_means(rt: HostRuntime) {
     let a = rt.alloc();
     let item = MeansDefinition {
-        pattern: pattern(a, Kind::Functor, sets(&rt, a, 1)),
+        pattern: pattern_on_sets(a, Kind::Functor, 1).expect(&rt, "memory"),
         sym: sym(Kind::Functor, 1),
-        ty: mode(&rt, a, 1, &[0]),
-        definiens: FormulaDefiniens::Plain(atom(&rt, a, 1, &[0, 1])),
+        ty: mode(a, 1, &[0]).expect(&rt, "memory"),
+        definiens: plain(a, 1, &[0, 1]).expect(&rt, "memory"),
     };
     let row = Row {
         owed: &[
@@ -49,8 +49,8 @@ fn a_functor_by_means(rt: HostRuntime) {
 
 /// `Rd[it,X] if Rc[X]`, by these numbers.
 fn case(rt: &impl Abort, alloc: Global, condition: u32, definiens: u32) -> FormulaCase {
-    let condition = atom(rt, alloc, condition, &[0]);
-    let definiens = atom(rt, alloc, definiens, &[0, 1]);
+    let condition = atom(alloc, condition, &[0]).expect(rt, "memory");
+    let definiens = atom(alloc, definiens, &[0, 1]).expect(rt, "memory");
     FormulaCase {
         condition,
         definiens,
@@ -71,11 +71,12 @@ fn one_case_and_otherwise(rt: HostRuntime) {
     let a = rt.alloc();
     let mut cases = FormulaCases::new(a);
     cases.push(case(&rt, a, 3, 1)).expect(&rt, "memory");
+    let otherwise = atom(a, 2, &[1, 0]).expect(&rt, "memory");
     let item = MeansDefinition {
-        pattern: pattern(a, Kind::Functor, sets(&rt, a, 1)),
+        pattern: pattern_on_sets(a, Kind::Functor, 1).expect(&rt, "memory"),
         sym: sym(Kind::Functor, 1),
         ty: set_type(a),
-        definiens: FormulaDefiniens::CasesOtherwise(cases, atom(&rt, a, 2, &[1, 0])),
+        definiens: FormulaDefiniens::CasesOtherwise(cases, otherwise),
     };
     let row = Row {
         owed: &[
@@ -107,9 +108,9 @@ fn one_case_and_otherwise(rt: HostRuntime) {
 fn a_mode_by_means(rt: HostRuntime) {
     let a = rt.alloc();
     let item = MeansDefinition {
-        pattern: pattern(a, Kind::Mode, sets(&rt, a, 1)),
+        pattern: pattern_on_sets(a, Kind::Mode, 1).expect(&rt, "memory"),
         sym: sym(Kind::Mode, 2),
-        ty: mode(&rt, a, 1, &[0]),
+        ty: mode(a, 1, &[0]).expect(&rt, "memory"),
         definiens: two_cases(&rt, a),
     };
     let row = Row {
@@ -141,8 +142,8 @@ fn a_mode_by_means(rt: HostRuntime) {
 fn term_cases(rt: &impl Abort, alloc: Global, numbers: u32, more: u32) -> TermCases {
     let mut cases = TermCases::new(alloc);
     for number in 1..=numbers {
-        let condition = atom(rt, alloc, number, &[0]);
-        let definiens = term(rt, alloc, number.wrapping_add(more), &[0]);
+        let condition = atom(alloc, number, &[0]).expect(rt, "memory");
+        let definiens = term(alloc, number.wrapping_add(more), &[0]).expect(rt, "memory");
         cases
             .push(TermCase {
                 condition,
@@ -158,9 +159,9 @@ fn term_cases(rt: &impl Abort, alloc: Global, numbers: u32, more: u32) -> TermCa
 fn a_functor_by_equals(rt: HostRuntime) {
     let a = rt.alloc();
     let item = EqualsDefinition {
-        pattern: pattern(a, Kind::Functor, sets(&rt, a, 1)),
+        pattern: pattern_on_sets(a, Kind::Functor, 1).expect(&rt, "memory"),
         sym: sym(Kind::Functor, 1),
-        ty: mode(&rt, a, 1, &[]),
+        ty: mode(a, 1, &[]).expect(&rt, "memory"),
         definiens: TermDefiniens::CasesOtherwise(term_cases(&rt, a, 2, 1), Term::bound(0)),
     };
     let row = Row {
@@ -193,7 +194,7 @@ fn a_functor_by_equals(rt: HostRuntime) {
 fn three_cases(rt: HostRuntime) {
     let a = rt.alloc();
     let item = EqualsDefinition {
-        pattern: pattern(a, Kind::Functor, sets(&rt, a, 1)),
+        pattern: pattern_on_sets(a, Kind::Functor, 1).expect(&rt, "memory"),
         sym: sym(Kind::Functor, 9),
         ty: set_type(a),
         definiens: TermDefiniens::Cases(term_cases(&rt, a, 3, 0)),
@@ -225,7 +226,7 @@ fn three_cases(rt: HostRuntime) {
 
 /// `let X,Y be set; pred R5[X,Y] means R1[Y,X] if R3[Y], R2[Y,X] if R4[Y]`.
 pub fn predicate(rt: &impl Abort, alloc: Global) -> Item {
-    let pattern = pattern(alloc, Kind::Predicate, sets(rt, alloc, 2));
+    let pattern = pattern_on_sets(alloc, Kind::Predicate, 2).expect(rt, "memory");
     let definiens = two_cases(rt, alloc);
     Item::Predicate(AtomDefinition {
         pattern,
@@ -255,8 +256,8 @@ fn a_predicate(rt: HostRuntime) {
 
 /// `attr V1 means R2[..]` of this many sets, where the places of the formula are these and the subject is that locus.
 pub fn attribute(rt: &impl Abort, alloc: Global, loci: u32, subject: u32, places: &[u32]) -> Item {
-    let pattern = pattern(alloc, Kind::Attribute, sets(rt, alloc, loci));
-    let definiens = FormulaDefiniens::Plain(atom(rt, alloc, 2, places));
+    let pattern = pattern_on_sets(alloc, Kind::Attribute, loci).expect(rt, "memory");
+    let definiens = plain(alloc, 2, places).expect(rt, "memory");
     Item::Attribute(AttributeDefinition {
         pattern,
         subject,

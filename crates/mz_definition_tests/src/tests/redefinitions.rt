@@ -1,5 +1,4 @@
 //! What redefinitions and notations owe.
-use crate::tests::parts::{atom, bounds, mode, pattern, sets, sym, term};
 use crate::tests::rows::{NOTHING, Row, check};
 use mz_core::formula_definiens::FormulaDefiniens;
 use mz_core::hidden::set_type;
@@ -11,14 +10,15 @@ use mz_core::redefinition::{
 use mz_core::soft_type::SoftType;
 use mz_items::condition::Condition;
 use mz_logic::kind::Kind;
-use mz_logic::literal::Literal;
+use mz_part_samples::parts::{literal, mode, pattern_on_sets, plain, sym, term};
 use std::alloc::Global;
 use std::process::Abort;
 
 /// The mode Mn of one locus as a notation.
 fn notation(rt: &impl Abort, alloc: Global, number: u32) -> Notation {
-    let pattern = pattern(alloc, Kind::Mode, sets(rt, alloc, 1));
-    let meaning = Meaning::OfType(mode(rt, alloc, number, &[0]));
+    let pattern = pattern_on_sets(alloc, Kind::Mode, 1).expect(rt, "memory");
+    let ty = mode(alloc, number, &[0]).expect(rt, "memory");
+    let meaning = Meaning::OfType(ty);
     Notation { pattern, meaning }
 }
 
@@ -46,12 +46,12 @@ fn notations(rt: HostRuntime) {
 #[test]
 fn a_redefined_functor(rt: HostRuntime) {
     let a = rt.alloc();
-    let definiens = FormulaDefiniens::Plain(atom(&rt, a, 1, &[0, 1]));
+    let definiens = plain(a, 1, &[0, 1]).expect(&rt, "memory");
     let item = FunctorRedefinition {
-        pattern: pattern(a, Kind::Functor, sets(&rt, a, 1)),
-        term: term(&rt, a, 1, &[0]),
+        pattern: pattern_on_sets(a, Kind::Functor, 1).expect(&rt, "memory"),
+        term: term(a, 1, &[0]).expect(&rt, "memory"),
         old: set_type(a),
-        ty: Some(mode(&rt, a, 1, &[])),
+        ty: Some(mode(a, 1, &[]).expect(&rt, "memory")),
         meaning: Some(FunctorMeaning::Means(definiens)),
     };
     let row = Row {
@@ -81,8 +81,8 @@ fn mode_again(
     ty: Option<SoftType>,
     meaning: Option<FormulaDefiniens>,
 ) -> Item {
-    let pattern = pattern(alloc, Kind::Mode, sets(rt, alloc, 1));
-    let mode = mode(rt, alloc, 2, &[0]);
+    let pattern = pattern_on_sets(alloc, Kind::Mode, 1).expect(rt, "memory");
+    let mode = mode(alloc, 2, &[0]).expect(rt, "memory");
     Item::RedefinedMode(ModeRedefinition {
         pattern,
         mode,
@@ -96,8 +96,9 @@ fn mode_again(
 #[test]
 fn a_mode_with_a_new_meaning(rt: HostRuntime) {
     let a = rt.alloc();
-    let meaning = Some(FormulaDefiniens::Plain(atom(&rt, a, 1, &[0, 1])));
-    let item = mode_again(&rt, a, mode(&rt, a, 1, &[0]), None, meaning);
+    let meaning = Some(plain(a, 1, &[0, 1]).expect(&rt, "memory"));
+    let old = mode(a, 1, &[0]).expect(&rt, "memory");
+    let item = mode_again(&rt, a, old, None, meaning);
     let row = Row {
         owed: &[
             "|- (all (all (not (and (A.M1 b1 b0) (not (and (not (and (A.M2 b1 b0) (not (A.R1 b0 b1)))) (not (and (A.R1 b0 b1) (not (A.M2 b1 b0))))))))))",
@@ -117,8 +118,9 @@ fn a_mode_with_a_new_meaning(rt: HostRuntime) {
 #[test]
 fn a_mode_with_a_new_type(rt: HostRuntime) {
     let a = rt.alloc();
-    let ty = Some(mode(&rt, a, 3, &[]));
-    let item = mode_again(&rt, a, mode(&rt, a, 1, &[0]), ty, None);
+    let ty = Some(mode(a, 3, &[]).expect(&rt, "memory"));
+    let old = mode(a, 1, &[0]).expect(&rt, "memory");
+    let item = mode_again(&rt, a, old, ty, None);
     let row = Row {
         owed: &["|- (all (all (not (and (A.M2 b1 b0) (not (A.M3 b0))))))"],
         theses: &[(
@@ -135,8 +137,8 @@ fn a_mode_with_a_new_type(rt: HostRuntime) {
 #[test]
 fn a_mode_with_type_and_meaning(rt: HostRuntime) {
     let a = rt.alloc();
-    let ty = Some(mode(&rt, a, 3, &[0]));
-    let meaning = Some(FormulaDefiniens::Plain(atom(&rt, a, 1, &[0, 1])));
+    let ty = Some(mode(a, 3, &[0]).expect(&rt, "memory"));
+    let meaning = Some(plain(a, 1, &[0, 1]).expect(&rt, "memory"));
     let item = mode_again(&rt, a, set_type(a), ty, meaning);
     let row = Row {
         owed: &[
@@ -162,14 +164,9 @@ fn a_mode_with_type_and_meaning(rt: HostRuntime) {
 
 /// `let X be set; redefine S X means R2[X]`, where `S X` reads to the symbol's atom or its negation.
 fn atom_again(rt: &impl Abort, alloc: Global, kind: Kind, positive: bool) -> AtomRedefinition {
-    let pattern = pattern(alloc, kind, sets(rt, alloc, 1));
-    let args = bounds(rt, alloc, &[0]);
-    let literal = Literal::Atom {
-        positive,
-        sym: sym(kind, 1),
-        args,
-    };
-    let meaning = Some(FormulaDefiniens::Plain(atom(rt, alloc, 2, &[0])));
+    let pattern = pattern_on_sets(alloc, kind, 1).expect(rt, "memory");
+    let literal = literal(alloc, positive, sym(kind, 1), &[0]).expect(rt, "memory");
+    let meaning = Some(plain(alloc, 2, &[0]).expect(rt, "memory"));
     AtomRedefinition {
         pattern,
         literal,

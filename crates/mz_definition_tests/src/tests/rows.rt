@@ -1,5 +1,4 @@
 //! Rows of the table of items as texts, and the calls that read an item compared with one.
-use crate::tests::texts::{are_formulas, are_sequents, is_formula};
 use mz_compare::items::item_equal;
 use mz_copies::items::item_copy;
 use mz_core::erasure::erase;
@@ -14,6 +13,7 @@ use mz_items::owed::owes;
 use mz_items::theses::{definitional_theorem, thesis_of};
 use mz_logic::term::Term;
 use mz_logic::texts::term_text;
+use mz_part_samples::texts::{are_formulas, are_sequents, is_formula};
 use std::alloc::Global;
 use std::process::Abort;
 
@@ -42,7 +42,10 @@ pub const NOTHING: Row = Row {
 fn is_text(rt: &impl Abort, alloc: Global, s: Option<Statement>, text: &str) -> bool {
     match s {
         None => text.is_empty(),
-        Some(s) => is_formula(rt, alloc, &erase(alloc, &s).expect(rt, "memory"), text),
+        Some(s) => {
+            let f = erase(alloc, &s).expect(rt, "memory");
+            is_formula(alloc, &f, text).expect(rt, "memory")
+        }
     }
 }
 
@@ -85,11 +88,11 @@ fn is_meaning(rt: &impl Abort, alloc: Global, m: &Meaning, text: &str) -> bool {
         }
         Meaning::OfLiteral(l) => {
             let f = l.formula(alloc).expect(rt, "memory");
-            is_formula(rt, alloc, &f, text)
+            is_formula(alloc, &f, text).expect(rt, "memory")
         }
         Meaning::OfType(ty) => {
             let fs = guard(alloc, ty, &Term::bound(9)).expect(rt, "memory");
-            are_formulas(rt, alloc, &fs, &[text])
+            are_formulas(alloc, &fs, &[text]).expect(rt, "memory")
         }
     }
 }
@@ -104,7 +107,8 @@ fn is_read(rt: &impl Abort, alloc: Global, item: &Item, text: &str) -> bool {
 fn is_given(rt: &impl Abort, alloc: Global, item: &Item, row: &Row) -> bool {
     let ss = owes(alloc, item).expect(rt, "memory");
     let fs = grants(alloc, item).expect(rt, "memory");
-    are_sequents(rt, alloc, &ss, row.owed) && are_formulas(rt, alloc, &fs, row.granted)
+    are_sequents(alloc, &ss, row.owed).expect(rt, "memory")
+        && are_formulas(alloc, &fs, row.granted).expect(rt, "memory")
 }
 
 /// Whether a copy of the item is equal to it.

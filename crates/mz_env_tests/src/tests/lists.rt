@@ -1,6 +1,5 @@
 //! The lists of an environment as a text: for each list that isn't empty its word and its entries, by their symbols.
 //! Those of HIDDEN are left out.
-use mz_base::name::Name;
 use mz_environment::cited::{CitedSchemes, CitedStatements};
 use mz_environment::environment::Environment;
 use mz_environment::existentials::Existentials;
@@ -11,8 +10,9 @@ use mz_ground::clauses::Clauses;
 use mz_ground::trigger::Trigger;
 use mz_logic::kind::Kind;
 use mz_logic::sym::Sym;
-use mz_logic::term::{Term, TermNode, Terms};
-use mz_logic::texts::term_text;
+use mz_logic::term::TermNode;
+use mz_logic::texts::push_sym;
+use mz_part_samples::texts::digit;
 use std::alloc::Global;
 use std::process::Abort;
 
@@ -21,9 +21,8 @@ fn put(rt: &impl Abort, out: &mut Vec<u8>, bytes: &[u8]) {
 }
 
 fn put_sym(rt: &impl Abort, alloc: Global, out: &mut Vec<u8>, s: Sym) {
-    let text = term_text(alloc, &Term::apply(s, Terms::new(alloc))).expect(rt, "memory");
     put(rt, out, b" ");
-    put(rt, out, text.as_slice());
+    push_sym(alloc, out, s).expect(rt, "memory");
 }
 
 fn head_of(r: &Trigger) -> Sym {
@@ -102,11 +101,7 @@ fn put_registrations(rt: &impl Abort, alloc: Global, out: &mut Vec<u8>, rs: &Exi
 
 /// The first byte of the article's name, and a number below ten.
 fn put_number(rt: &impl Abort, out: &mut Vec<u8>, article: u64, word: &[u8], number: u64) {
-    let digit = if number < 10 {
-        b'0' + number as u8
-    } else {
-        b'+'
-    };
+    let digit = digit(number);
     put(rt, out, b" ");
     put(rt, out, &[(article >> 56) as u8]);
     put(rt, out, word);

@@ -16,7 +16,6 @@ use mz_core::items::Items;
 use mz_core::notations::Notations;
 use mz_core::outcome::Export;
 use mz_core::pattern::Pattern;
-use mz_core::radix::Radix;
 use mz_core::registration::{ConditionalRegistration, ExistentialRegistration};
 use mz_core::scheme::{Scheme, SchemeLetters};
 use mz_core::soft_type::SoftType;
@@ -27,6 +26,7 @@ use mz_core::term_definiens::TermDefiniens;
 use mz_logic::kind::Kind;
 use mz_logic::sym::Sym;
 use mz_logic::term::{Term, Terms};
+use mz_part_samples::parts;
 use std::alloc::Global;
 use std::process::Abort;
 use std::sync::Arc;
@@ -45,15 +45,6 @@ pub fn sym(rt: &impl Abort, article: &str, kind: Kind, number: u32) -> Sym {
     }
 }
 
-/// `let` as many sets.
-fn sets(rt: &impl Abort, alloc: Global, count: u32) -> SoftTypes {
-    let mut out = SoftTypes::new(alloc);
-    for _ in 0..count {
-        out.push(set_type(alloc)).expect(rt, "memory");
-    }
-    out
-}
-
 /// The pattern of the symbol on so many sets, all of them on its right.
 fn pattern(rt: &impl Abort, alloc: Global, symbol: &str, kind: Kind, count: u32) -> Pattern {
     let mut right = Numbers::new(alloc);
@@ -64,7 +55,7 @@ fn pattern(rt: &impl Abort, alloc: Global, symbol: &str, kind: Kind, count: u32)
         symbol: Text::from_slice(alloc, symbol.as_bytes()).expect(rt, "memory"),
         closing: Text::new(alloc),
         kind,
-        loci: sets(rt, alloc, count),
+        loci: parts::sets(alloc, count).expect(rt, "memory"),
         left: Numbers::new(alloc),
         right,
     }
@@ -72,13 +63,7 @@ fn pattern(rt: &impl Abort, alloc: Global, symbol: &str, kind: Kind, count: u32)
 
 /// The type of the mode M1 of A.
 fn mode_of_a(rt: &impl Abort, alloc: Global) -> SoftType {
-    SoftType {
-        adjectives: Adjectives::new(alloc),
-        radix: Radix {
-            sym: sym(rt, "A", Kind::Mode, 1),
-            args: Terms::new(alloc),
-        },
-    }
+    parts::mode(alloc, 1, &[]).expect(rt, "memory")
 }
 
 fn plain() -> FormulaDefiniens {
