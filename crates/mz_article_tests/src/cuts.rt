@@ -1,21 +1,20 @@
 //! An article that is cut after each of its bytes: each part has an outcome, whose place lies in it or just after its end.
 use crate::rows::SUBSETS;
-use mz_base::name::Name;
 use mz_base::place::Place;
-use mz_base::text::Text;
-use mz_base::vocabularies::{Vocabularies, VocabularyText};
+use mz_base::vocabularies::Vocabularies;
 use mz_lex::head::head;
 use mz_lex::head_fault::HeadFault;
 use mz_lex::lex_fault::LexFault;
 use mz_lex::symbol_table::SymbolTable;
 use mz_lex::table::table;
 use mz_lex::tokens::tokens;
+use mz_parser_samples::places::stands_in;
+use mz_parser_samples::texts::vocabulary;
 use mz_pitem::parse::article;
 use mz_pterm::parse::ParseFault;
 use std::alloc::Global;
 use std::mem::forget;
 use std::process::Abort;
-use std::sync::Arc;
 
 /// What a text comes to.
 #[derive(Clone, Copy, Debug, PartialEq, Eq)]
@@ -55,18 +54,6 @@ fn of_parse(fault: &ParseFault) -> Outcome {
     }
 }
 
-fn vocabularies(rt: &impl Abort, alloc: Global) -> Vocabularies {
-    let text = Text::from_slice(alloc, b"Rc=").expect(rt, "memory");
-    let mut items = Vec::new(alloc);
-    items
-        .push(VocabularyText {
-            name: Name::read(b"A").expect(rt, "a name"),
-            text: Some(Arc::new(alloc, text).expect(rt, "memory")),
-        })
-        .expect(rt, "memory");
-    Vocabularies { items }
-}
-
 /// What the text comes to behind its environment part.
 fn behind_head(alloc: Global, symbols: &SymbolTable, text: &[u8]) -> Outcome {
     match tokens(alloc, symbols, text) {
@@ -94,33 +81,6 @@ fn comes_to(rt: &impl Abort, alloc: Global, all: &Vocabularies, text: &[u8]) -> 
     }
 }
 
-/// The place behind the byte.
-fn behind(place: Place, byte: u8) -> Place {
-    if byte == b'\n' {
-        Place {
-            line: place.line.saturating_add(1),
-            column: 1,
-        }
-    } else {
-        Place {
-            line: place.line,
-            column: place.column.saturating_add(1),
-        }
-    }
-}
-
-/// Whether the place is that of a byte of the text, or just after its last one.
-fn stands_in(text: &[u8], place: Place) -> bool {
-    let mut here = Place { line: 1, column: 1 };
-    for byte in text {
-        if here == place {
-            return true;
-        }
-        here = behind(here, *byte);
-    }
-    here == place
-}
-
 /// Whether the text comes to something whose place stands in it.
 fn is_placed(rt: &impl Abort, alloc: Global, all: &Vocabularies, text: &[u8]) -> bool {
     match comes_to(rt, alloc, all, text) {
@@ -138,7 +98,7 @@ fn check(rt: &impl Abort, alloc: Global, all: &Vocabularies, len: usize) {
 
 #[test]
 fn each_part_of_an_article_has_an_outcome(rt: HostRuntime) {
-    let all = vocabularies(&rt, rt.alloc());
+    let all = vocabulary(rt.alloc(), b"A", b"Rc=").expect(&rt, "a vocabulary");
     for len in 0..=SUBSETS.len() {
         check(&rt, rt.alloc(), &all, len);
     }

@@ -3,14 +3,13 @@ use mz_article::check::check_article;
 use mz_axioms::built_in::built_in;
 use mz_axioms::exports::Exports;
 use mz_base::name::Name;
-use mz_base::text::Text;
-use mz_base::vocabularies::{Vocabularies, VocabularyText};
+use mz_base::vocabularies::Vocabularies;
 use mz_core::fault::{Fault, Faults};
 use mz_core::outcome::{Export, Outcome};
+use mz_parser_samples::texts;
 use std::alloc::Global;
 use std::mem::forget;
 use std::process::Abort;
-use std::sync::Arc;
 use std::thread::Threads;
 
 /// An article, and `accepted` with the number of its items; or its faults: line, column, number of the code, and the number
@@ -31,15 +30,7 @@ pub fn no_vocabularies(alloc: Global) -> Vocabularies {
 
 /// The vocabulary of this name alone.
 pub fn vocabulary(rt: &impl Abort, alloc: Global, name: &[u8], text: &[u8]) -> Vocabularies {
-    let text = Text::from_slice(alloc, text).expect(rt, "memory");
-    let mut items = Vec::new(alloc);
-    items
-        .push(VocabularyText {
-            name: Name::read(name).expect(rt, "a name"),
-            text: Some(Arc::new(alloc, text).expect(rt, "memory")),
-        })
-        .expect(rt, "memory");
-    Vocabularies { items }
+    texts::vocabulary(alloc, name, text).expect(rt, "a vocabulary")
 }
 
 /// The outcome of the article of this name.

@@ -1,10 +1,10 @@
 //! Articles that are cut after each of their bytes: each part has an outcome, and its faults lie in it or just after its end.
 use crate::checking::{check, exports, no_vocabularies, outcome_of, vocabulary};
 use mz_axioms::exports::Exports;
-use mz_base::place::Place;
 use mz_base::vocabularies::Vocabularies;
 use mz_core::fault::Fault;
 use mz_core::outcome::Outcome;
+use mz_parser_samples::places::stands_in;
 use std::alloc::Global;
 use std::mem::forget;
 use std::process::Abort;
@@ -63,33 +63,6 @@ fn only_fault(rt: &impl Abort, outcome: Outcome) -> Option<Fault> {
             Some(faults.items[0])
         }
     }
-}
-
-/// The place behind the byte.
-fn behind(place: Place, byte: u8) -> Place {
-    if byte == b'\n' {
-        Place {
-            line: place.line.saturating_add(1),
-            column: 1,
-        }
-    } else {
-        Place {
-            line: place.line,
-            column: place.column.saturating_add(1),
-        }
-    }
-}
-
-/// Whether the place is that of a byte of the text, or just after its last one.
-fn stands_in(text: &[u8], place: Place) -> bool {
-    let mut here = Place { line: 1, column: 1 };
-    for byte in text {
-        if here == place {
-            return true;
-        }
-        here = behind(here, *byte);
-    }
-    here == place
 }
 
 /// The outcome of a part that is an article by the grammar.

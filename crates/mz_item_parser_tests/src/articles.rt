@@ -1,6 +1,7 @@
 //! Whole articles.
-use crate::texts::{article_tokens, spelled};
 use mz_parser_samples::answer::{Answer, refused, taken};
+use mz_parser_samples::spelled::spelled;
+use mz_parser_samples::texts::tokens_behind_begin;
 use mz_pexpr::marked_tokens::marked_tokens;
 use mz_pitem::parse::article;
 use std::alloc::Global;
@@ -8,11 +9,11 @@ use std::process::Abort;
 
 /// What is answered to an article with this text behind its `begin`.
 fn answered(rt: &impl Abort, alloc: Global, text: &[u8]) -> Answer {
-    let tokens = article_tokens(rt, alloc, text);
+    let tokens = tokens_behind_begin(alloc, text).expect(rt, "tokens");
     let all = marked_tokens(alloc, &tokens).expect(rt, "memory");
     match article(alloc, &tokens) {
         Ok(tree) => {
-            let spelled = spelled(rt, alloc, &tree);
+            let spelled = spelled(alloc, &tree).expect(rt, "memory");
             taken(spelled.as_slice(), all.as_slice(), 0, all.len())
         }
         Err(fault) => refused(&fault),

@@ -1,14 +1,10 @@
 //! Blocks of registrations, theorems, schemes, and conditions and properties.
-use crate::texts::{article_tokens, taken};
-use mz_forms::refusal::Refusal;
-use mz_parser_samples::answer::{Answer, refused};
+use mz_parser_samples::answer::Answer;
+use mz_parser_samples::marked::{marked_behind_begin, reader_behind_begin};
+use mz_parser_samples::spelled::told;
 use mz_pblock::conditions::owed;
 use mz_pblock::registrations::registration;
 use mz_pblock::schemes::{scheme, theorem};
-use mz_pexpr::marked_tokens::marked_tokens;
-use mz_pterm::parse::fault;
-use mz_pterm::reader::Reader;
-use mz_tree::tree::Spell;
 use std::alloc::Global;
 use std::process::Abort;
 
@@ -24,60 +20,33 @@ enum Part {
     Due,
 }
 
-/// The tokens that were taken, or the refusal.
-fn answer_of<T: Spell + Drop>(
-    rt: &impl Abort,
-    alloc: Global,
-    tokens: (&[mz_base::token::MarkedToken], mz_base::place::Place),
-    reader: &Reader<'_>,
-    read: Result<T, Refusal>,
-) -> Answer {
-    match read {
-        Ok(tree) => taken(
-            rt,
-            alloc,
-            &tree,
-            tokens.0,
-            tokens.0.len().saturating_sub(reader.rest.len()),
-        ),
-        Err(refusal) => refused(&fault(reader.rest, tokens.1, refusal)),
-    }
-}
-
 /// What is answered to this text, where so many constructs may still be opened.
 fn answered(rt: &impl Abort, alloc: Global, part: Part, text: &[u8], room: usize) -> Answer {
-    let tokens = article_tokens(rt, alloc, text);
-    let all = marked_tokens(alloc, &tokens).expect(rt, "memory");
-    if all.len() < 5 {
-        return Answer::TooFew;
-    }
-    let mut reader = Reader {
-        rest: &all.as_slice()[5..],
-        alloc,
-    };
-    let given = (all.as_slice(), tokens.end);
-    match part {
+    let all = marked_behind_begin(alloc, text).expect(rt, "tokens");
+    let mut reader = reader_behind_begin(alloc, &all);
+    let answer = match part {
         Part::Registration => {
             let read = registration(&mut reader, room);
-            answer_of(rt, alloc, given, &reader, read)
+            told(alloc, &all, reader.rest, read)
         }
         Part::Theorem => {
             let read = theorem(&mut reader, room);
-            answer_of(rt, alloc, given, &reader, read)
+            told(alloc, &all, reader.rest, read)
         }
         Part::Scheme => {
             let read = scheme(&mut reader, room);
-            answer_of(rt, alloc, given, &reader, read)
+            told(alloc, &all, reader.rest, read)
         }
         Part::Owed => {
             let read = owed(&mut reader, false, room);
-            answer_of(rt, alloc, given, &reader, read)
+            told(alloc, &all, reader.rest, read)
         }
         Part::Due => {
             let read = owed(&mut reader, true, room);
-            answer_of(rt, alloc, given, &reader, read)
+            told(alloc, &all, reader.rest, read)
         }
-    }
+    };
+    answer.expect(rt, "memory")
 }
 
 /// What is read, texts behind `begin`, how many constructs may be opened, and the answer. The text begins in column 31.

@@ -1,34 +1,17 @@
 //! Clusters of registrations.
-use crate::texts::{article_tokens, taken};
-use mz_parser_samples::answer::{Answer, refused};
+use mz_parser_samples::answer::Answer;
+use mz_parser_samples::marked::{marked_behind_begin, reader_behind_begin};
+use mz_parser_samples::spelled::told;
 use mz_pcluster::clusters::cluster;
-use mz_pexpr::marked_tokens::marked_tokens;
-use mz_pterm::parse::fault;
-use mz_pterm::reader::Reader;
 use std::alloc::Global;
 use std::process::Abort;
 
 /// What is answered to this text, where so many constructs may still be opened.
 fn answered(rt: &impl Abort, alloc: Global, text: &[u8], room: usize) -> Answer {
-    let tokens = article_tokens(rt, alloc, text);
-    let all = marked_tokens(alloc, &tokens).expect(rt, "memory");
-    if all.len() < 5 {
-        return Answer::TooFew;
-    }
-    let mut reader = Reader {
-        rest: &all.as_slice()[5..],
-        alloc,
-    };
-    match cluster(&mut reader, room) {
-        Ok(tree) => taken(
-            rt,
-            alloc,
-            &tree,
-            all.as_slice(),
-            all.len().saturating_sub(reader.rest.len()),
-        ),
-        Err(refusal) => refused(&fault(reader.rest, tokens.end, refusal)),
-    }
+    let all = marked_behind_begin(alloc, text).expect(rt, "tokens");
+    let mut reader = reader_behind_begin(alloc, &all);
+    let read = cluster(&mut reader, room);
+    told(alloc, &all, reader.rest, read).expect(rt, "memory")
 }
 
 /// Texts behind `begin`, how many constructs may be opened, and the answer. The token behind `cluster` stands in column
@@ -79,9 +62,8 @@ const ROWS: [(&[u8], usize, Answer); 37] = [
 
 #[test]
 fn clusters(rt: HostRuntime) {
-    let alloc = rt.alloc();
     for (number, (text, room, answer)) in ROWS.iter().enumerate() {
-        let given = answered(&rt, alloc, text, *room);
+        let given = answered(&rt, rt.alloc(), text, *room);
         assert!(rt; given == *answer, "row {number} gives {given:?}");
     }
 }

@@ -7,5 +7,3 @@ mod articles;
 mod blocks;
 #[cfg(test)]
 mod clusters;
-#[cfg(test)]
-mod texts;

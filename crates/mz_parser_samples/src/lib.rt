@@ -2,4 +2,7 @@
 #![tactic(auto)]
 
 pub mod answer;
+pub mod marked;
+pub mod places;
+pub mod spelled;
 pub mod texts;

@@ -13,9 +13,9 @@ use std::sync::Arc;
 /// A structure, brackets, a mode, functors, a predicate, a selector and an attribute.
 pub const SYMBOLS: &[u8] = b"Gstr\nKlb\nLrb\nLrc\nMmod\nO+\nO*\nRless\nUcar\nVodd\n";
 
-/// The vocabulary `A` with these symbols.
-fn vocabularies(alloc: Global, symbols: &[u8]) -> Result<Vocabularies, SampleFault> {
-    let name = Name::read(b"A").ok().ok_or(SampleFault::Text)?;
+/// The vocabulary of this name alone, with these symbols.
+pub fn vocabulary(alloc: Global, name: &[u8], symbols: &[u8]) -> Result<Vocabularies, SampleFault> {
+    let name = Name::read(name).ok().ok_or(SampleFault::Text)?;
     let text = Text::from_slice(alloc, symbols)?;
     let text = Arc::new(alloc, text)?;
     let mut items = Vec::new(alloc);
@@ -33,7 +33,7 @@ pub fn article_tokens(
     article: &[u8],
 ) -> Result<Tokens, SampleFault> {
     let environment = head(alloc, article).ok().ok_or(SampleFault::Text)?;
-    let vocabularies = vocabularies(alloc, symbols)?;
+    let vocabularies = vocabulary(alloc, b"A", symbols)?;
     let table = table(alloc, &vocabularies, &environment);
     let table = table.ok().ok_or(SampleFault::Text)?;
     tokens(alloc, &table, article).ok().ok_or(SampleFault::Text)

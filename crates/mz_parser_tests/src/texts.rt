@@ -106,15 +106,13 @@ pub type Piece = (&'static [u8], usize);
 /// The tokens of an article with this text behind its `begin`, the sixth of which is the first of the text. Its first byte
 /// stands in column 31.
 pub fn tokens_behind_begin(rt: &impl Abort, alloc: Global, text: &[Piece]) -> Tokens {
-    let mut bytes = Vec::from_slice(alloc, b"environ vocabularies A; begin ".as_slice()).expect(
-        rt, "memory",
-    );
+    let mut bytes = Vec::new(alloc);
     for (piece, times) in text {
         for _ in 0..*times {
             bytes.extend_from_slice(piece).expect(rt, "memory");
         }
     }
-    article_tokens(rt, alloc, bytes.as_slice())
+    texts::tokens_behind_begin(alloc, bytes.as_slice()).expect(rt, "tokens")
 }
 
 /// What the parser answers to a text behind `begin`.

@@ -5,5 +5,3 @@
 mod headings;
 #[cfg(test)]
 mod patterns;
-#[cfg(test)]
-mod texts;

@@ -1,17 +1,11 @@
 //! Statements that introduce names, steps that need no justification, splits, and steps of an iterative equality.
-use crate::texts::{article_tokens, taken};
-use mz_base::place::Place;
-use mz_base::token::MarkedToken;
-use mz_forms::refusal::Refusal;
-use mz_parser_samples::answer::{Answer, refused};
-use mz_pexpr::marked_tokens::marked_tokens;
+use mz_parser_samples::answer::Answer;
+use mz_parser_samples::marked::{Marked, marked_behind_begin, reader_behind_begin};
+use mz_parser_samples::spelled::told;
 use mz_pstep::equalities::equality_step;
 use mz_pstep::introductions::{consider, deffunc, defpred, reconsider, set_statement};
 use mz_pstep::skeletons::{assume, given, let_step, split, take};
-use mz_pterm::parse::fault;
-use mz_pterm::reader::Reader;
-use mz_tree::tree::Spell;
-use std::alloc::Global;
+use std::alloc::{AllocError, Global};
 use std::process::Abort;
 
 /// What is read.
@@ -30,117 +24,74 @@ enum Part {
     Take,
 }
 
-fn told<T: Spell>(
-    rt: &impl Abort,
-    alloc: Global,
-    tokens: &[MarkedToken],
-    left: (&[MarkedToken], Place),
-    outcome: Result<T, Refusal>,
-) -> Answer {
-    match outcome {
-        Ok(tree) => taken(
-            rt,
-            alloc,
-            &tree,
-            tokens,
-            tokens.len().saturating_sub(left.0.len()),
-        ),
-        Err(refusal) => refused(&fault(left.0, left.1, refusal)),
-    }
-}
-
 /// What is answered by the parser of a statement that introduces names, or of `set`.
-fn introduced(
-    rt: &impl Abort,
-    alloc: Global,
-    part: Part,
-    all: &[MarkedToken],
-    left: (&[MarkedToken], Place),
-    room: usize,
-) -> Answer {
-    let mut reader = Reader {
-        rest: left.0,
-        alloc,
-    };
+fn introduced(alloc: Global, part: Part, all: &Marked, room: usize) -> Result<Answer, AllocError> {
+    let mut reader = reader_behind_begin(alloc, all);
     match part {
         Part::Consider => {
-            let result = consider(&mut reader, None, room);
-            told(rt, alloc, all, (reader.rest, left.1), result)
+            let read = consider(&mut reader, None, room);
+            told(alloc, all, reader.rest, read)
         }
         Part::Deffunc => {
-            let result = deffunc(&mut reader, room);
-            told(rt, alloc, all, (reader.rest, left.1), result)
+            let read = deffunc(&mut reader, room);
+            told(alloc, all, reader.rest, read)
         }
         Part::Defpred => {
-            let result = defpred(&mut reader, room);
-            told(rt, alloc, all, (reader.rest, left.1), result)
+            let read = defpred(&mut reader, room);
+            told(alloc, all, reader.rest, read)
         }
         Part::Reconsider => {
-            let result = reconsider(&mut reader, None, room);
-            told(rt, alloc, all, (reader.rest, left.1), result)
+            let read = reconsider(&mut reader, None, room);
+            told(alloc, all, reader.rest, read)
         }
         _ => {
-            let result = set_statement(&mut reader, room);
-            told(rt, alloc, all, (reader.rest, left.1), result)
+            let read = set_statement(&mut reader, room);
+            told(alloc, all, reader.rest, read)
         }
     }
 }
 
 /// What is answered by the parser of a step, or of `take`.
-fn stepped(
-    rt: &impl Abort,
-    alloc: Global,
-    part: Part,
-    all: &[MarkedToken],
-    left: (&[MarkedToken], Place),
-    room: usize,
-) -> Answer {
-    let mut reader = Reader {
-        rest: left.0,
-        alloc,
-    };
+fn stepped(alloc: Global, part: Part, all: &Marked, room: usize) -> Result<Answer, AllocError> {
+    let mut reader = reader_behind_begin(alloc, all);
     match part {
         Part::Assume => {
-            let result = assume(&mut reader, room);
-            told(rt, alloc, all, (reader.rest, left.1), result)
+            let read = assume(&mut reader, room);
+            told(alloc, all, reader.rest, read)
         }
         Part::Equality => {
-            let result = equality_step(&mut reader, room);
-            told(rt, alloc, all, (reader.rest, left.1), result)
+            let read = equality_step(&mut reader, room);
+            told(alloc, all, reader.rest, read)
         }
         Part::Given => {
-            let result = given(&mut reader, room);
-            told(rt, alloc, all, (reader.rest, left.1), result)
+            let read = given(&mut reader, room);
+            told(alloc, all, reader.rest, read)
         }
         Part::Let => {
-            let result = let_step(&mut reader, room);
-            told(rt, alloc, all, (reader.rest, left.1), result)
+            let read = let_step(&mut reader, room);
+            told(alloc, all, reader.rest, read)
         }
         Part::Split => {
-            let result = split(&mut reader, None, room);
-            told(rt, alloc, all, (reader.rest, left.1), result)
+            let read = split(&mut reader, None, room);
+            told(alloc, all, reader.rest, read)
         }
         _ => {
-            let result = take(&mut reader, room);
-            told(rt, alloc, all, (reader.rest, left.1), result)
+            let read = take(&mut reader, room);
+            told(alloc, all, reader.rest, read)
         }
     }
 }
 
 /// What is answered to this text, where so many constructs may still be opened.
 fn answered(rt: &impl Abort, alloc: Global, part: Part, text: &[u8], room: usize) -> Answer {
-    let tokens = article_tokens(rt, alloc, text);
-    let all = marked_tokens(alloc, &tokens).expect(rt, "memory");
-    if all.len() < 5 {
-        return Answer::TooFew;
-    }
-    let left = (&all.as_slice()[5..], tokens.end);
-    match part {
+    let all = marked_behind_begin(alloc, text).expect(rt, "tokens");
+    let answer = match part {
         Part::Consider | Part::Deffunc | Part::Defpred | Part::Reconsider | Part::Set => {
-            introduced(rt, alloc, part, all.as_slice(), left, room)
+            introduced(alloc, part, &all, room)
         }
-        _ => stepped(rt, alloc, part, all.as_slice(), left, room),
-    }
+        _ => stepped(alloc, part, &all, room),
+    };
+    answer.expect(rt, "memory")
 }
 
 const ROWS: [(Part, &[u8], usize, Answer); 34] = [

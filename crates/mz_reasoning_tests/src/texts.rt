@@ -1,7 +1,8 @@
 //! What the parsers of proofs answer to a text.
-use mz_base::token::{MarkedToken, Tokens};
+use mz_base::token::MarkedToken;
 use mz_parser_samples::answer;
 use mz_parser_samples::answer::Answer;
+use mz_parser_samples::spelled::taken_behind_begin;
 use mz_parser_samples::texts::tokens_behind_begin;
 use mz_pexpr::marked_tokens::marked_tokens;
 use mz_pproof::forms::{ProofForm, ProofTree};
@@ -9,24 +10,6 @@ use mz_pproof::parse::proof;
 use mz_tree::tree::Spell;
 use std::alloc::Global;
 use std::process::Abort;
-
-/// The number of tokens that were taken from the sixth on, which the tree is spelled by.
-fn taken<T: Spell>(
-    rt: &impl Abort,
-    alloc: Global,
-    tree: &T,
-    tokens: &[MarkedToken],
-    until: usize,
-) -> Answer {
-    let mut spelled = Vec::new(alloc);
-    tree.spell(alloc, &mut spelled).expect(rt, "memory");
-    answer::taken(spelled.as_slice(), tokens, 5, until)
-}
-
-/// The tokens of an article with this text behind its `begin`.
-fn article_tokens(rt: &impl Abort, alloc: Global, text: &[u8]) -> Tokens {
-    tokens_behind_begin(alloc, text).expect(rt, "tokens")
-}
 
 /// What a tree that was read answers: whether it spells the tokens up to the one with the number.
 fn of_tree(
@@ -38,7 +21,9 @@ fn of_tree(
 ) -> Answer {
     let mut spelled = Vec::new(alloc);
     match tree {
-        ProofTree::Proposition(tree) => return taken(rt, alloc, tree, all, until),
+        ProofTree::Proposition(tree) => return taken_behind_begin(alloc, tree, all, until).expect(
+            rt, "memory",
+        ),
         ProofTree::Justification(tree) => tree.spell(alloc, &mut spelled).expect(rt, "memory"),
         ProofTree::Statement(tree) => tree.spell(alloc, &mut spelled).expect(rt, "memory"),
         ProofTree::Reasoning(tree) => tree.spell(alloc, &mut spelled).expect(rt, "memory"),
@@ -48,7 +33,7 @@ fn of_tree(
 
 /// What the parser answers to this text.
 pub fn answered(rt: &impl Abort, alloc: Global, form: ProofForm, text: &[u8]) -> Answer {
-    let tokens = article_tokens(rt, alloc, text);
+    let tokens = tokens_behind_begin(alloc, text).expect(rt, "tokens");
     if tokens.items.len() < 5 {
         return Answer::TooFew;
     }
