@@ -19,7 +19,7 @@ use mz_core::statement::Statement;
 use mz_env::accommodate::accommodate;
 use mz_environment::environment::Environment;
 use mz_environment::numbering::Numbering;
-use mz_fits_tests::samples::{T, ty, types};
+use mz_item_samples::types::{OBJECT, SET, T, ty, types};
 use mz_lex::head::head;
 use mz_lex::table::table;
 use mz_lex::tokens::tokens;
@@ -127,10 +127,6 @@ fn non_empty(rt: &impl Abort, alloc: Global) -> Item {
         ty: set_type(alloc),
     })
 }
-
-const OBJECT: T = ("HIDDEN.M1", "");
-
-const SET: T = ("HIDDEN.M2", "");
 
 /// `+` of two objects, which is a set; the mode `Elm of` a set; the attributes `empty` of sets and `big` of a set before it
 /// and a set; the predicate `##` of a set and an element of it. There is a set that isn't empty.

@@ -20,11 +20,10 @@ use mz_core::soft_type::SoftType;
 use mz_core::statement::Statement;
 use mz_environment::environment::Environment;
 use mz_environment::numbering::Numbering;
-use mz_fits_tests::samples::{T, ty, types};
-use mz_logic::formula::{Formula, FormulaNode};
+use mz_item_samples::statements::statement;
+use mz_item_samples::types::{OBJECT, SET, T, ty, types};
 use mz_logic::kind::Kind;
 use mz_parser_samples::texts::article_tokens;
-use mz_samples::forms::formula;
 use mz_samples::parts::literal;
 use mz_samples::symbols::symbol;
 use std::alloc::Global;
@@ -55,41 +54,9 @@ pub fn tokens_of(rt: &impl Abort, alloc: Global, text: &str) -> Tokens {
     found
 }
 
-const OBJECT: T = ("HIDDEN.M1", "");
-
-const SET: T = ("HIDDEN.M2", "");
-
-/// The formula as a statement, whose quantifiers are of objects.
-fn typed(rt: &impl Abort, alloc: Global, f: &Formula) -> Statement {
-    match &f.node {
-        FormulaNode::Truth => Statement::truth(),
-        FormulaNode::Eq(t, u) => Statement::equation(
-            t.copy(alloc).expect(rt, "memory"),
-            u.copy(alloc).expect(rt, "memory"),
-        ),
-        FormulaNode::Atom(sym, ts) => Statement::atom(*sym, ts.copy(alloc).expect(rt, "memory")),
-        FormulaNode::Not(g) => {
-            let s = typed(rt, alloc, g);
-            Statement::not(alloc, s).expect(rt, "memory")
-        }
-        FormulaNode::And(g, h) => {
-            let s = typed(rt, alloc, g);
-            let t = typed(rt, alloc, h);
-            Statement::and(alloc, s, t).expect(rt, "memory")
-        }
-        FormulaNode::All(g) => {
-            let s = typed(rt, alloc, g);
-            Statement::each(alloc, object_type(alloc), s).expect(rt, "memory")
-        }
-    }
-}
-
 /// The statement of a text, whose quantifiers are of objects.
 pub fn statement_of(rt: &impl Abort, alloc: Global, text: &str) -> Statement {
-    let f = formula(alloc, text).expect(rt, "a formula");
-    let s = typed(rt, alloc, &f);
-    forget(f);
-    s
+    statement(alloc, text, &[], OBJECT).expect(rt, "a statement")
 }
 
 fn definiens(rt: &impl Abort, alloc: Global, text: &str) -> FormulaDefiniens {

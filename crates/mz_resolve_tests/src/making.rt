@@ -17,10 +17,10 @@ use mz_core::scheme::SchemeLetter;
 use mz_core::soft_type::SoftType;
 use mz_core::soft_types::SoftTypes;
 use mz_core::statement::Statement;
-use mz_core::type_statements::literal_statement;
 use mz_environment::environment::Environment;
 use mz_environment::numbering::Numbering;
-use mz_fits_tests::samples::{T, ty, types};
+use mz_item_samples::statements::statement;
+use mz_item_samples::types::{OBJECT, SET, T, ty, types};
 use mz_logic::kind::Kind;
 use mz_logic::sym::Sym;
 use mz_logic::term::Term;
@@ -30,12 +30,6 @@ use mz_samples::symbols::symbol;
 use std::alloc::Global;
 use std::mem::forget;
 use std::process::Abort;
-
-/// The type `object`.
-pub const OBJECT: T = ("HIDDEN.M1", "");
-
-/// The type `set`.
-pub const SET: T = ("HIDDEN.M2", "");
 
 /// A pattern: its symbol, its loci, and the places of the visible loci before and behind it.
 pub type P = (&'static str, &'static [T], &'static [u64], &'static [u64]);
@@ -279,20 +273,12 @@ pub fn put_functors(rt: &impl Abort, alloc: Global, ctx: &mut Context, rows: &[P
     }
 }
 
-/// The statement that is the literal.
-fn statement_of(rt: &impl Abort, alloc: Global, text: &str) -> Statement {
-    let l = literal(alloc, text).expect(rt, "a literal");
-    let s = literal_statement(alloc, &l).expect(rt, "memory");
-    forget(l);
-    s
-}
-
 /// Puts private predicates into force; their bodies are literals.
 pub fn put_predicates(rt: &impl Abort, alloc: Global, ctx: &mut Context, rows: &[Private]) {
     for (word, places, body) in rows {
         let name = text_of(rt, alloc, word);
         let places = types_of(rt, alloc, places);
-        let body = statement_of(rt, alloc, body);
+        let body = statement(alloc, body, &[], OBJECT).expect(rt, "a statement");
         let pushed = ctx.predicates.push(PrivatePredicate { name, places, body });
         pushed.expect(rt, "memory");
     }

@@ -1,12 +1,12 @@
 //! A small article, at a place of which the tables' texts stand.
 use crate::making::{
-    ItemRow, Letter, OBJECT, P, Private, SET, empty, put_constants, put_functors, put_letters,
-    put_predicates, put_reserved, term_of,
+    ItemRow, Letter, P, Private, empty, put_constants, put_functors, put_letters, put_predicates,
+    put_reserved, term_of,
 };
 use crate::reading::Symbols;
 use mz_context::context::Context;
 use mz_core::statement::Statement;
-use mz_fits_tests::samples::T;
+use mz_item_samples::types::{OBJECT, SET, T};
 use mz_logic::kind::Kind;
 use std::alloc::Global;
 use std::mem::{forget, replace};

@@ -1,8 +1,8 @@
 //! Small articles that were worked out by hand: what is covered by a registration, functors of two priorities, a predicate
 //! that is defined twice, and elements of structures.
 use crate::making::{
-    ItemRow, OBJECT, P, SET, empty, environment, pattern, put, put_constants, put_items, sym_of,
-    term_of, type_of,
+    ItemRow, P, empty, environment, pattern, put, put_constants, put_items, sym_of, term_of,
+    type_of,
 };
 use crate::reading::{Call, Row, Symbols, check};
 use mz_context::context::Context;
@@ -12,7 +12,7 @@ use mz_core::notations::Notations;
 use mz_core::soft_types::SoftTypes;
 use mz_core::structure::{Field, Fields, Structure};
 use mz_environment::environment::Environment;
-use mz_fits_tests::samples::T;
+use mz_item_samples::types::{OBJECT, SET, T};
 use mz_logic::kind::Kind;
 use std::alloc::Global;
 use std::mem::{forget, replace};

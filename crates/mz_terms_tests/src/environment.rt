@@ -9,7 +9,7 @@ use mz_core::pattern::Pattern;
 use mz_core::registration::ExistentialRegistration;
 use mz_core::soft_types::SoftTypes;
 use mz_environment::environment::Environment;
-use mz_fits_tests::samples::{T, ty};
+use mz_item_samples::types::{T, ty};
 use mz_logic::kind::Kind;
 use mz_samples::forms::term;
 use mz_samples::parts::literal;

@@ -1,13 +1,13 @@
 //! Chosen notations, worked out by hand from the rules.
 use crate::items::{
-    Made, OBJECT, P, SET, attribute, functor, functor_again, in_force, mode, predicate, structure,
-    text_of, with_letter,
+    Made, P, attribute, functor, functor_again, in_force, mode, predicate, structure, text_of,
+    with_letter,
 };
 use crate::making::{A, Row, applied, check_as, check_rows, means, reads};
 use mz_choice::choice::{Wanted, chosen_by};
 use mz_choice::resolve::resolve_by;
 use mz_context::context::Context;
-use mz_fits_tests::samples::K;
+use mz_item_samples::types::{K, OBJECT, SET};
 use mz_logic::kind::Kind;
 use mz_logic::term::Term;
 use std::alloc::Global;

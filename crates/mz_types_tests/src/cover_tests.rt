@@ -1,9 +1,8 @@
 //! Types whose adjectives are covered, worked out by hand from the rules.
-use crate::items::{Made, P, SET, attribute, conditional, existential, in_force, mode, type_of};
+use crate::items::{Made, P, attribute, conditional, existential, in_force, mode, type_of};
 use mz_choice::cover::is_covered_by;
 use mz_choice::resolve::is_covered;
-use mz_context::context::Context;
-use mz_fits_tests::samples::{K, T};
+use mz_item_samples::types::{K, SET, T};
 use std::alloc::Global;
 use std::mem::forget;
 use std::process::Abort;

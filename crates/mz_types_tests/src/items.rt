@@ -20,7 +20,7 @@ use mz_core::statement::Statement;
 use mz_core::structure::{Field, Fields, Structure};
 use mz_environment::environment::Environment;
 use mz_environment::numbering::Numbering;
-use mz_fits_tests::samples::{K, T, constants, ty, types};
+use mz_item_samples::types::{K, OBJECT, T, constants, ty, types};
 use mz_logic::kind::Kind;
 use mz_logic::sym::Sym;
 use mz_logic::term::Term;
@@ -29,12 +29,6 @@ use mz_samples::symbols::symbol;
 use std::alloc::Global;
 use std::mem::{forget, replace};
 use std::process::Abort;
-
-/// The type `object`.
-pub const OBJECT: T = ("HIDDEN.M1", "");
-
-/// The type `set`.
-pub const SET: T = ("HIDDEN.M2", "");
 
 const NO_SYMBOLS: SymbolCounts = SymbolCounts {
     modes: 0,

@@ -1,7 +1,7 @@
 //! What fits, and chains, worked out by hand from the rules.
 use crate::items::{
-    F, Made, OBJECT, P, SET, conditional, functor, functor_again, functorial, in_force, mode,
-    mode_again, structure, sym_of, term_of, type_of, with_letter,
+    F, Made, P, conditional, functor, functor_again, functorial, in_force, mode, mode_again,
+    structure, sym_of, term_of, type_of, with_letter,
 };
 use mz_base::text::Text;
 use mz_context::constants::Constant;
@@ -9,7 +9,7 @@ use mz_context::context::Context;
 use mz_core::adjectives::Adjectives;
 use mz_core::radix::Radix;
 use mz_core::soft_type::SoftType;
-use mz_fits_tests::samples::{K, T};
+use mz_item_samples::types::{K, OBJECT, SET};
 use mz_logic::term::{Term, Terms};
 use mz_logic::texts::term_text;
 use mz_types::radices::Radixes;
