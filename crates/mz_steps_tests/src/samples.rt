@@ -1,7 +1,5 @@
 //! Statements, variables and parts of a `now`, read from their texts.
 use mz_base::text::Text;
-use mz_context::constants::Constants;
-use mz_context::context::{Context, SymbolCounts};
 use mz_core::soft_type::SoftType;
 use mz_core::statement::Statement;
 use mz_item_samples::statements::statement;
@@ -80,23 +78,4 @@ pub fn variables(rt: &impl Abort, alloc: Global, t: T) -> Variables {
     let mut out = Variables::new(alloc);
     out.push(variable(rt, alloc, t)).expect(rt, "memory");
     out
-}
-
-/// A context with the constants and the thesis.
-pub fn context(alloc: Global, constants: Constants, thesis: Option<Statement>) -> Context {
-    let counts = SymbolCounts {
-        modes: 0,
-        structures: 0,
-        attributes: 0,
-        functors: 0,
-        selectors: 0,
-        aggregates: 0,
-        predicates: 0,
-        functor_letters: 0,
-        predicate_letters: 0,
-    };
-    let mut ctx = Context::new(alloc, 0, counts);
-    ctx.constants = constants;
-    ctx.thesis = thesis;
-    ctx
 }

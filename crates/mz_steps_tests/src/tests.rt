@@ -1,14 +1,13 @@
 //! Parts of a `now` and steps with what becomes of them, worked out by hand from the rules. What a question is done with
 //! is forgotten, not dropped.
-use crate::samples::{
-    P, conjuncts, context, part, parts, statement_of, term_of, variable, variables,
-};
+use crate::samples::{P, conjuncts, part, parts, statement_of, term_of, variable, variables};
 use mz_context::context::Context;
 use mz_core::erasure::erase;
 use mz_core::statement::Statement;
 use mz_environment::unfoldings::Unfoldings;
 use mz_ground::clauses::Clauses;
-use mz_item_samples::types::{K, SET, T, constants};
+use mz_item_samples::contexts::in_force;
+use mz_item_samples::types::{K, SET, T};
 use mz_logic::formula::Formula;
 use mz_now::hidden::{brings_hidden, defined};
 use mz_now::now_part::{NowPart, NowParts};
@@ -229,9 +228,9 @@ fn a_term_with_a_hidden_constant_hides(rt: HostRuntime) {
 const IN_FORCE: [K; 1] = [(MODE, "")];
 
 fn context_of(rt: &impl Abort, alloc: Global, thesis: &str) -> Context {
-    let ks = constants(alloc, &IN_FORCE).expect(rt, "constants");
-    let s = statement_of(rt, alloc, thesis);
-    context(alloc, ks, Some(s))
+    let mut ctx = in_force(alloc, 0, &IN_FORCE).expect(rt, "constants");
+    ctx.thesis = Some(statement_of(rt, alloc, thesis));
+    ctx
 }
 
 /// What the step does: `=` where it leaves everything, `+` where a `now` states more, the text of what is left of a thesis,
