@@ -2,12 +2,11 @@
 use crate::making::{context, environment, tokens_of};
 use mz_base::place::Place;
 use mz_context::context::Context;
-use mz_core::erasure::erase;
 use mz_core::statement::Statement;
 use mz_environment::environment::Environment;
 use mz_formulas::formulas::read_formula;
 use mz_formulas::sentence::{Sentence, read_sentence};
-use mz_logic::texts::formula_text;
+use mz_item_samples::texts::statement_text;
 use mz_names::refusal::Refusal;
 use mz_pexpr::forms::{Expression, Form};
 use mz_pexpr::parse::expression;
@@ -45,11 +44,9 @@ fn refusal_text(rt: &impl Abort, alloc: Global, r: Refusal) -> Vec<u8> {
     text.into_bytes()
 }
 
-fn statement_text(rt: &impl Abort, alloc: Global, s: Statement) -> Vec<u8> {
-    let f = erase(alloc, &s).expect(rt, "memory");
-    let text = formula_text(alloc, &f).expect(rt, "memory");
+fn text_of(rt: &impl Abort, alloc: Global, s: Statement) -> Vec<u8> {
+    let text = statement_text(alloc, &s).expect(rt, "memory");
     forget(s);
-    forget(f);
     text
 }
 
@@ -65,7 +62,7 @@ fn formula_read(
     let o = read_formula(alloc, env, &mut ctx, 0, &tree.node).expect(rt, "memory");
     forget(tree);
     let text = match o {
-        Ok(s) => statement_text(rt, alloc, s),
+        Ok(s) => text_of(rt, alloc, s),
         Err(r) => refusal_text(rt, alloc, r),
     };
     (ctx, text)
@@ -95,7 +92,7 @@ fn sentence_read(
     let o = read_sentence(alloc, env, &mut ctx, 0, &tree.node).expect(rt, "memory");
     forget(tree);
     let text = match o {
-        Ok(s) => statement_text(rt, alloc, closed(s)),
+        Ok(s) => text_of(rt, alloc, closed(s)),
         Err(r) => refusal_text(rt, alloc, r),
     };
     (ctx, text)

@@ -2,17 +2,15 @@
 use mz_base::place::Place;
 use mz_base::token::{MarkedToken, Tokens};
 use mz_context::context::Context;
-use mz_core::adjective::Adjective;
-use mz_core::erasure::erase;
 use mz_core::items::Items;
 use mz_core::outcome::Left;
 use mz_core::soft_type::SoftType;
 use mz_core::statement::Statement;
 use mz_environment::environment::Environment;
 use mz_formulas::sentence::Sentence;
-use mz_logic::literal::Literal;
+use mz_item_samples::texts::{statement_text, type_text};
 use mz_logic::term::Term;
-use mz_logic::texts::{formula_text, term_text};
+use mz_logic::texts::term_text;
 use mz_names::refusal::Refusal;
 use mz_parser_samples::texts::article_tokens;
 use mz_pexpr::marked_tokens::marked_tokens;
@@ -78,39 +76,15 @@ fn text_of_term(rt: &impl Abort, alloc: Global, t: Term) -> Vec<u8> {
 }
 
 fn text_of_statement(rt: &impl Abort, alloc: Global, s: Statement) -> Vec<u8> {
-    let f = erase(alloc, &s).expect(rt, "memory");
-    let text = formula_text(alloc, &f).expect(rt, "memory");
+    let text = statement_text(alloc, &s).expect(rt, "memory");
     forget(s);
-    forget(f);
     text
 }
 
-/// Puts a blank and the adjective, as a literal without its subject, behind the text.
-fn push_adjective(rt: &impl Abort, alloc: Global, out: &mut Vec<u8>, a: &Adjective) {
-    let args = a.args.copy(alloc).expect(rt, "memory");
-    let l = Literal::Atom {
-        positive: a.positive,
-        sym: a.sym,
-        args,
-    };
-    let f = l.formula(alloc).expect(rt, "memory");
-    let text = formula_text(alloc, &f).expect(rt, "memory");
-    out.push(b' ').expect(rt, "memory");
-    out.extend_from_slice(text.as_slice()).expect(rt, "memory");
-    forget(l);
-    forget(f);
-    forget(text);
-}
-
-/// The radix, and behind it the adjectives.
 fn text_of_type(rt: &impl Abort, alloc: Global, ty: SoftType) -> Vec<u8> {
-    let SoftType { adjectives, radix } = ty;
-    let mut out = text_of_term(rt, alloc, Term::apply(radix.sym, radix.args));
-    for a in &adjectives.items {
-        push_adjective(rt, alloc, &mut out, a);
-    }
-    forget(adjectives);
-    out
+    let text = type_text(alloc, &ty).expect(rt, "memory");
+    forget(ty);
+    text
 }
 
 fn text_of_sentence(rt: &impl Abort, alloc: Global, s: Sentence) -> Vec<u8> {

@@ -5,10 +5,12 @@ use mz_choice::choice::{Applied, Wanted};
 use mz_choice::resolve::{Resolution, resolve};
 use mz_context::context::Context;
 use mz_core::notation::Meaning;
+use mz_core::soft_type::SoftType;
+use mz_item_samples::texts::{literal_text, radix_text};
 use mz_logic::kind::Kind;
 use mz_logic::literal::Literal;
 use mz_logic::term::{Term, Terms};
-use mz_logic::texts::{formula_text, term_text};
+use mz_logic::texts::term_text;
 use mz_samples::forms::terms;
 use std::alloc::Global;
 use std::mem::forget;
@@ -41,11 +43,17 @@ fn is_term(rt: &impl Abort, alloc: Global, t: Term, wanted: &str) -> bool {
 }
 
 fn is_literal(rt: &impl Abort, alloc: Global, l: Literal, wanted: &str) -> bool {
-    let f = l.formula(alloc).expect(rt, "memory");
-    let text = formula_text(alloc, &f).expect(rt, "memory");
+    let text = literal_text(alloc, &l).expect(rt, "memory");
     let same = text.as_slice() == wanted.as_bytes();
     forget(l);
-    forget(f);
+    forget(text);
+    same
+}
+
+fn has_radix(rt: &impl Abort, alloc: Global, ty: SoftType, wanted: &str) -> bool {
+    let text = radix_text(alloc, &ty.radix).expect(rt, "memory");
+    let same = text.as_slice() == wanted.as_bytes();
+    forget(ty);
     forget(text);
     same
 }
@@ -55,10 +63,7 @@ pub fn means(rt: &impl Abort, alloc: Global, m: Meaning, wanted: &str) -> bool {
     match m {
         Meaning::OfTerm(t) => is_term(rt, alloc, t, wanted),
         Meaning::OfLiteral(l) => is_literal(rt, alloc, l, wanted),
-        Meaning::OfType(ty) => {
-            forget(ty.adjectives);
-            is_term(rt, alloc, Term::apply(ty.radix.sym, ty.radix.args), wanted)
-        }
+        Meaning::OfType(ty) => has_radix(rt, alloc, ty, wanted),
     }
 }
 

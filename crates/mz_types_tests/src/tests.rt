@@ -8,9 +8,9 @@ use mz_core::radix::Radix;
 use mz_core::soft_type::SoftType;
 use mz_item_samples::contexts::L;
 use mz_item_samples::items::{F, ItemRow, P, mode_again};
+use mz_item_samples::texts::radix_text;
 use mz_item_samples::types::{K, OBJECT, SET};
 use mz_logic::term::{Term, Terms};
-use mz_logic::texts::term_text;
 use mz_types::radices::Radixes;
 use mz_types::types::{chain, fits};
 use std::alloc::Global;
@@ -60,9 +60,7 @@ fn chain_of(rt: &impl Abort, alloc: Global, made: &Made, ctx: &Context, t: &str)
 /// The symbol and the arguments, as the text of a term, with a blank.
 fn with_radix(rt: &impl Abort, alloc: Global, front: Text, r: &Radix) -> Text {
     let mut out = front;
-    let t = Term::apply(r.sym, r.args.copy(alloc).expect(rt, "memory"));
-    let text = term_text(alloc, &t).expect(rt, "memory");
-    forget(t);
+    let text = radix_text(alloc, r).expect(rt, "memory");
     out.extend_from_slice(text.as_slice()).expect(rt, "memory");
     forget(text);
     out.push(b' ').expect(rt, "memory");
