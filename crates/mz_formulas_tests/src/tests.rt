@@ -68,16 +68,11 @@ fn formula_read(
     (ctx, text)
 }
 
-/// The sentence for all.
-fn closed(s: Sentence) -> Statement {
-    let Sentence {
-        variables,
-        inner,
-        closed,
-    } = s;
-    forget(variables);
-    forget(inner);
-    closed
+/// The text of the sentence for all.
+fn text_of_sentence(rt: &impl Abort, alloc: Global, s: Sentence) -> Vec<u8> {
+    let text = statement_text(alloc, &s.closed).expect(rt, "memory");
+    forget(s);
+    text
 }
 
 fn sentence_read(
@@ -92,7 +87,7 @@ fn sentence_read(
     let o = read_sentence(alloc, env, &mut ctx, 0, &tree.node).expect(rt, "memory");
     forget(tree);
     let text = match o {
-        Ok(s) => text_of(rt, alloc, closed(s)),
+        Ok(s) => text_of_sentence(rt, alloc, s),
         Err(r) => refusal_text(rt, alloc, r),
     };
     (ctx, text)

@@ -88,14 +88,9 @@ fn text_of_type(rt: &impl Abort, alloc: Global, ty: SoftType) -> Vec<u8> {
 }
 
 fn text_of_sentence(rt: &impl Abort, alloc: Global, s: Sentence) -> Vec<u8> {
-    let Sentence {
-        variables,
-        inner,
-        closed,
-    } = s;
-    forget(variables);
-    forget(inner);
-    text_of_statement(rt, alloc, closed)
+    let text = statement_text(alloc, &s.closed).expect(rt, "memory");
+    forget(s);
+    text
 }
 
 /// What a text is read to, as a text, or why it is refused.
