@@ -8,10 +8,10 @@ use mz_core::soft_type::SoftType;
 use mz_core::statement::Statement;
 use mz_environment::environment::Environment;
 use mz_formulas::sentence::Sentence;
+use mz_item_samples::refusals::refusal_text;
 use mz_item_samples::texts::{statement_text, type_text};
 use mz_logic::term::Term;
 use mz_logic::texts::term_text;
-use mz_names::refusal::Refusal;
 use mz_parser_samples::texts::article_tokens;
 use mz_pexpr::marked_tokens::marked_tokens;
 use mz_pformula::parse::formula as parse_formula;
@@ -51,22 +51,6 @@ fn tokens_of(rt: &impl Abort, alloc: Global, symbols: Symbols, text: &str) -> To
     forget(bytes);
     assert!(rt; tokens.items.len() > 5);
     tokens
-}
-
-/// The refusal's letter and its column.
-fn refusal_text(rt: &impl Abort, alloc: Global, f: ResolveFault) -> Vec<u8> {
-    let (letter, place) = match f {
-        ResolveFault::Refused(Refusal::UnknownSymbol(p)) => ('S', p),
-        ResolveFault::Refused(Refusal::NoNotation(p)) => ('N', p),
-        ResolveFault::Refused(Refusal::UnknownVariable(p)) => ('V', p),
-        ResolveFault::Refused(Refusal::Unregistered(p)) => ('U', p),
-        ResolveFault::Refused(Refusal::UnfitArgument(p)) => ('A', p),
-        ResolveFault::Refused(Refusal::TooLarge(p)) => ('L', p),
-        ResolveFault::Memory => rt.abort(),
-    };
-    let column = place.column;
-    let text = format!(in alloc; "{letter}{column}").expect(rt, "memory");
-    text.into_bytes()
 }
 
 fn text_of_term(rt: &impl Abort, alloc: Global, t: Term) -> Vec<u8> {
@@ -238,7 +222,8 @@ pub fn answer(
     forget(left);
     match o {
         Ok(text) => (text, nodes),
-        Err(f) => (refusal_text(rt, alloc, f), nodes),
+        Err(ResolveFault::Refused(r)) => (refusal_text(alloc, r).expect(rt, "memory"), nodes),
+        Err(ResolveFault::Memory) => rt.abort(),
     }
 }
 
