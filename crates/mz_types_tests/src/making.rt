@@ -5,11 +5,9 @@ use mz_choice::choice::{Applied, Wanted};
 use mz_choice::resolve::{Resolution, resolve};
 use mz_context::context::Context;
 use mz_core::notation::Meaning;
-use mz_core::soft_type::SoftType;
 use mz_item_samples::texts::{literal_text, radix_text};
 use mz_logic::kind::Kind;
-use mz_logic::literal::Literal;
-use mz_logic::term::{Term, Terms};
+use mz_logic::term::Terms;
 use mz_logic::texts::term_text;
 use mz_samples::forms::terms;
 use std::alloc::Global;
@@ -34,37 +32,18 @@ pub fn applied(rt: &impl Abort, alloc: Global, a: A) -> Applied {
     }
 }
 
-fn is_term(rt: &impl Abort, alloc: Global, t: Term, wanted: &str) -> bool {
-    let text = term_text(alloc, &t).expect(rt, "memory");
-    let same = text.as_slice() == wanted.as_bytes();
-    forget(t);
-    forget(text);
-    same
-}
-
-fn is_literal(rt: &impl Abort, alloc: Global, l: Literal, wanted: &str) -> bool {
-    let text = literal_text(alloc, &l).expect(rt, "memory");
-    let same = text.as_slice() == wanted.as_bytes();
-    forget(l);
-    forget(text);
-    same
-}
-
-fn has_radix(rt: &impl Abort, alloc: Global, ty: SoftType, wanted: &str) -> bool {
-    let text = radix_text(alloc, &ty.radix).expect(rt, "memory");
-    let same = text.as_slice() == wanted.as_bytes();
-    forget(ty);
-    forget(text);
-    same
-}
-
 /// Whether the term, the literal, or the type's radix is that of the text.
 pub fn means(rt: &impl Abort, alloc: Global, m: Meaning, wanted: &str) -> bool {
-    match m {
-        Meaning::OfTerm(t) => is_term(rt, alloc, t, wanted),
-        Meaning::OfLiteral(l) => is_literal(rt, alloc, l, wanted),
-        Meaning::OfType(ty) => has_radix(rt, alloc, ty, wanted),
-    }
+    let text = match &m {
+        Meaning::OfTerm(t) => term_text(alloc, t),
+        Meaning::OfLiteral(l) => literal_text(alloc, l),
+        Meaning::OfType(ty) => radix_text(alloc, &ty.radix),
+    };
+    let text = text.expect(rt, "memory");
+    let same = text.as_slice() == wanted.as_bytes();
+    forget(m);
+    forget(text);
+    same
 }
 
 /// Whether it reads to the text's, or to nothing for the reason that is the text.
