@@ -1,95 +1,44 @@
 //! A chain of registrations: what is `one` is `two`, what is `two` is `three`, what is `three` is `four`, and each
 //! value of the functor is `one`. They have no type in their premises.
+use crate::tests::problem;
 use mz_by::by::{ByVerdict, by_first};
-use mz_ground::clause::Clause;
 use mz_ground::clauses::Clauses;
 use mz_ground::ground::ground;
 use mz_ground::layer_ends::LayerEnd;
-use mz_ground::trigger::Trigger;
-use mz_logic::literal::Literal;
-use mz_logic::term::Term;
+use mz_item_samples::types::{C, clauses};
 use mz_nf::disjuncts::disjuncts;
-use mz_nf::problem::Problem;
-use mz_samples::forms::term;
-use mz_samples::parts::{literal, literals, sequent};
 use std::alloc::Global;
 use std::mem::forget;
 use std::process::Abort;
 
-/// The trigger is the atom or the term that the first text is, the second the premises, the third the conclusion.
-type Row = (&'static str, &'static str, &'static str);
+const FUNCTORIAL: C = (1, "(A.O1 b0)", "", "(A.V1 (A.O1 b0))");
 
-const FUNCTORIAL: Row = ("(A.O1 b0)", "", "(A.V1 (A.O1 b0))");
+const ONE: C = (1, "(A.V1 b0)", "(A.V1 b0)", "(A.V2 b0)");
 
-const ONE: Row = ("(A.V1 b0)", "(A.V1 b0)", "(A.V2 b0)");
+const TWO: C = (1, "(A.V2 b0)", "(A.V2 b0)", "(A.V3 b0)");
 
-const TWO: Row = ("(A.V2 b0)", "(A.V2 b0)", "(A.V3 b0)");
+const THREE: C = (1, "(A.V3 b0)", "(A.V3 b0)", "(A.V4 b0)");
 
-const THREE: Row = ("(A.V3 b0)", "(A.V3 b0)", "(A.V4 b0)");
-
-const FOUR: Row = ("(A.V4 b0)", "(A.V4 b0)", "(A.V5 b0)");
-
-fn trigger(rt: &impl Abort, alloc: Global, text: &str) -> Trigger {
-    if text == FUNCTORIAL.0 {
-        return Trigger::Term(term(alloc, text).expect(rt, "a term"));
-    }
-    match literal(alloc, text).expect(rt, "a literal") {
-        Literal::Atom {
-            sym,
-            args,
-            positive: _,
-        } => Trigger::Atom(sym, args),
-        Literal::Eq {
-            left,
-            right: _,
-            positive: _,
-        } => Trigger::Term(left),
-    }
-}
-
-/// The clause of a row, whose variable is `b0`.
-fn clause(rt: &impl Abort, alloc: Global, row: Row) -> Clause {
-    let (head, premises, conclusion) = row;
-    let trigger = trigger(rt, alloc, head);
-    let premises = literals(alloc, premises).expect(rt, "literals");
-    let conclusion = literal(alloc, conclusion).expect(rt, "a literal");
-    Clause::new(1, trigger, premises, conclusion).expect(rt, "its variable is in the trigger")
-}
-
-fn with(rt: &impl Abort, alloc: Global, clauses: Clauses, row: Row) -> Clauses {
-    let mut clauses = clauses;
-    clauses.push(clause(rt, alloc, row)).expect(rt, "memory");
-    clauses
-}
+const FOUR: C = (1, "(A.V4 b0)", "(A.V4 b0)", "(A.V5 b0)");
 
 /// The clauses of the rows, in their order.
-fn clauses(rt: &impl Abort, alloc: Global, rows: &[Row]) -> Clauses {
-    let mut clauses = Clauses::new(alloc);
-    for row in rows {
-        clauses = with(rt, alloc, clauses, *row);
-    }
-    clauses
+fn clauses_of(rt: &impl Abort, alloc: Global, rows: &[C]) -> Clauses {
+    clauses(alloc, rows).expect(rt, "clauses")
 }
 
 /// That each value of the functor has the fourth attribute.
-fn problem(rt: &impl Abort, alloc: Global) -> Problem {
-    let s = sequent(alloc, "|- (all (A.V4 (A.O1 b0)))").expect(rt, "a sequent");
-    Problem {
-        premises: s.premises,
-        conclusion: s.conclusion,
-    }
-}
+const PROBLEM: &str = "|- (all (A.V4 (A.O1 b0)))";
 
-fn verdict(rt: &impl Abort, alloc: Global, rows: &[Row], count: usize) -> ByVerdict {
-    let p = problem(rt, alloc);
-    let clauses = clauses(rt, alloc, rows);
+fn verdict(rt: &impl Abort, alloc: Global, rows: &[C], count: usize) -> ByVerdict {
+    let p = problem(rt, alloc, PROBLEM);
+    let clauses = clauses_of(rt, alloc, rows);
     let found = by_first(alloc, &p, &clauses, count).expect(rt, "memory");
     forget(p);
     forget(clauses);
     found
 }
 
-fn check(rt: &impl Abort, alloc: Global, rows: &[Row], count: usize, wanted: ByVerdict) {
+fn check(rt: &impl Abort, alloc: Global, rows: &[C], count: usize, wanted: ByVerdict) {
     let found = verdict(rt, alloc, rows, count);
     assert!(rt; found == wanted, "{count}");
 }
@@ -107,7 +56,7 @@ fn the_chain_is_closed_where_no_cluster_lacks(rt: HostRuntime) {
     check(&rt, rt.alloc(), &[FUNCTORIAL], all, OPEN);
 }
 
-const FIVE: [Row; 5] = [FUNCTORIAL, THREE, ONE, TWO, FOUR];
+const FIVE: [C; 5] = [FUNCTORIAL, THREE, ONE, TWO, FOUR];
 
 /// How many of the five clauses count, and the verdict.
 const FIRST: [(usize, ByVerdict); 6] = [
@@ -145,10 +94,10 @@ fn check_layers(rt: &impl Abort, ends: &[LayerEnd], wanted: &[usize]) {
 #[test]
 fn one_attribute_a_layer(rt: HostRuntime) {
     let alloc = rt.alloc();
-    let p = problem(&rt, alloc);
+    let p = problem(&rt, alloc, PROBLEM);
     let split = disjuncts(alloc, &p).expect(&rt, "few disjuncts");
     forget(p);
-    let chain = clauses(&rt, alloc, &[ONE, TWO, THREE, FUNCTORIAL]);
+    let chain = clauses_of(&rt, alloc, &[ONE, TWO, THREE, FUNCTORIAL]);
     let d = split.items.first().expect(&rt, "a disjunct");
     let g = ground(alloc, d, chain.as_slice()).expect(&rt, "a ground part");
     forget(chain);

@@ -9,7 +9,7 @@ use std::mem::forget;
 use std::process::Abort;
 
 /// The problem of a text: its premises and its conclusion, as those of a sequent.
-fn problem(rt: &impl Abort, alloc: Global, text: &str) -> Problem {
+pub fn problem(rt: &impl Abort, alloc: Global, text: &str) -> Problem {
     let s = sequent(alloc, text).expect(rt, "a sequent");
     Problem {
         premises: s.premises,

@@ -1,6 +1,5 @@
-//! What fits and what matches in small contexts; types, constants and clauses for tests, read from their texts.
+//! What fits and what matches in small contexts, worked out by hand.
 #![tactic(auto)]
 
-pub mod samples;
 #[cfg(test)]
 mod tests;

@@ -1,6 +1,5 @@
 //! Questions with their answers, worked out by hand from the rules. What a question is done with is forgotten, not
 //! dropped.
-use crate::samples::{C, K, T, clauses, constants, ty, types};
 use mz_answers::answers::Answers;
 use mz_answers::kept::type_fits_kept;
 use mz_context::constants::Constants;
@@ -11,6 +10,7 @@ use mz_fits::fits::{are_equal, literal_fits, loci_fit, type_fits};
 use mz_fits::fixed::Fixed;
 use mz_fits::matches::{accepted, all_match};
 use mz_ground::clauses::Clauses;
+use mz_item_samples::types::{C, K, SET, T, clauses, constants, ty, types};
 use mz_logic::literal::Literal;
 use mz_logic::term::{Term, Terms};
 use mz_samples::forms::{term, terms};
@@ -18,8 +18,6 @@ use mz_samples::parts::{literal, literals};
 use std::alloc::Global;
 use std::mem::forget;
 use std::process::Abort;
-
-const SET: T = ("HIDDEN.M2", "");
 
 const OF_MODE: K = (("A.M1", ""), "");
 

@@ -1,14 +1,12 @@
 //! Texts, and what they are read to.
 use crate::making::{context, environment, tokens_of};
-use mz_base::place::Place;
 use mz_context::context::Context;
-use mz_core::erasure::erase;
 use mz_core::statement::Statement;
 use mz_environment::environment::Environment;
 use mz_formulas::formulas::read_formula;
 use mz_formulas::sentence::{Sentence, read_sentence};
-use mz_logic::texts::formula_text;
-use mz_names::refusal::Refusal;
+use mz_item_samples::refusals::refusal_text;
+use mz_item_samples::texts::statement_text;
 use mz_pexpr::forms::{Expression, Form};
 use mz_pexpr::parse::expression;
 use mz_tree::expressions::FormulaTree;
@@ -30,26 +28,9 @@ fn parsed(rt: &impl Abort, alloc: Global, text: &str) -> FormulaTree {
     }
 }
 
-/// The letter of the refusal and its column.
-fn refusal_text(rt: &impl Abort, alloc: Global, r: Refusal) -> Vec<u8> {
-    let (letter, place) = match r {
-        Refusal::UnknownSymbol(p) => ('S', p),
-        Refusal::NoNotation(p) => ('N', p),
-        Refusal::UnknownVariable(p) => ('V', p),
-        Refusal::Unregistered(p) => ('U', p),
-        Refusal::UnfitArgument(p) => ('A', p),
-        Refusal::TooLarge(p) => ('L', p),
-    };
-    let Place { column, .. } = place;
-    let text = format!(in alloc; "{letter}{column}").expect(rt, "memory");
-    text.into_bytes()
-}
-
-fn statement_text(rt: &impl Abort, alloc: Global, s: Statement) -> Vec<u8> {
-    let f = erase(alloc, &s).expect(rt, "memory");
-    let text = formula_text(alloc, &f).expect(rt, "memory");
+fn text_of(rt: &impl Abort, alloc: Global, s: Statement) -> Vec<u8> {
+    let text = statement_text(alloc, &s).expect(rt, "memory");
     forget(s);
-    forget(f);
     text
 }
 
@@ -65,22 +46,17 @@ fn formula_read(
     let o = read_formula(alloc, env, &mut ctx, 0, &tree.node).expect(rt, "memory");
     forget(tree);
     let text = match o {
-        Ok(s) => statement_text(rt, alloc, s),
-        Err(r) => refusal_text(rt, alloc, r),
+        Ok(s) => text_of(rt, alloc, s),
+        Err(r) => refusal_text(alloc, r).expect(rt, "memory"),
     };
     (ctx, text)
 }
 
-/// The sentence for all.
-fn closed(s: Sentence) -> Statement {
-    let Sentence {
-        variables,
-        inner,
-        closed,
-    } = s;
-    forget(variables);
-    forget(inner);
-    closed
+/// The text of the sentence for all.
+fn text_of_sentence(rt: &impl Abort, alloc: Global, s: Sentence) -> Vec<u8> {
+    let text = statement_text(alloc, &s.closed).expect(rt, "memory");
+    forget(s);
+    text
 }
 
 fn sentence_read(
@@ -95,8 +71,8 @@ fn sentence_read(
     let o = read_sentence(alloc, env, &mut ctx, 0, &tree.node).expect(rt, "memory");
     forget(tree);
     let text = match o {
-        Ok(s) => statement_text(rt, alloc, closed(s)),
-        Err(r) => refusal_text(rt, alloc, r),
+        Ok(s) => text_of_sentence(rt, alloc, s),
+        Err(r) => refusal_text(alloc, r).expect(rt, "memory"),
     };
     (ctx, text)
 }

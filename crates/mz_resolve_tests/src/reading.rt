@@ -2,18 +2,16 @@
 use mz_base::place::Place;
 use mz_base::token::{MarkedToken, Tokens};
 use mz_context::context::Context;
-use mz_core::adjective::Adjective;
-use mz_core::erasure::erase;
 use mz_core::items::Items;
 use mz_core::outcome::Left;
 use mz_core::soft_type::SoftType;
 use mz_core::statement::Statement;
 use mz_environment::environment::Environment;
 use mz_formulas::sentence::Sentence;
-use mz_logic::literal::Literal;
+use mz_item_samples::refusals::refusal_text;
+use mz_item_samples::texts::{statement_text, type_text};
 use mz_logic::term::Term;
-use mz_logic::texts::{formula_text, term_text};
-use mz_names::refusal::Refusal;
+use mz_logic::texts::term_text;
 use mz_parser_samples::texts::article_tokens;
 use mz_pexpr::marked_tokens::marked_tokens;
 use mz_pformula::parse::formula as parse_formula;
@@ -55,22 +53,6 @@ fn tokens_of(rt: &impl Abort, alloc: Global, symbols: Symbols, text: &str) -> To
     tokens
 }
 
-/// The refusal's letter and its column.
-fn refusal_text(rt: &impl Abort, alloc: Global, f: ResolveFault) -> Vec<u8> {
-    let (letter, place) = match f {
-        ResolveFault::Refused(Refusal::UnknownSymbol(p)) => ('S', p),
-        ResolveFault::Refused(Refusal::NoNotation(p)) => ('N', p),
-        ResolveFault::Refused(Refusal::UnknownVariable(p)) => ('V', p),
-        ResolveFault::Refused(Refusal::Unregistered(p)) => ('U', p),
-        ResolveFault::Refused(Refusal::UnfitArgument(p)) => ('A', p),
-        ResolveFault::Refused(Refusal::TooLarge(p)) => ('L', p),
-        ResolveFault::Memory => rt.abort(),
-    };
-    let column = place.column;
-    let text = format!(in alloc; "{letter}{column}").expect(rt, "memory");
-    text.into_bytes()
-}
-
 fn text_of_term(rt: &impl Abort, alloc: Global, t: Term) -> Vec<u8> {
     let text = term_text(alloc, &t).expect(rt, "memory");
     forget(t);
@@ -78,50 +60,21 @@ fn text_of_term(rt: &impl Abort, alloc: Global, t: Term) -> Vec<u8> {
 }
 
 fn text_of_statement(rt: &impl Abort, alloc: Global, s: Statement) -> Vec<u8> {
-    let f = erase(alloc, &s).expect(rt, "memory");
-    let text = formula_text(alloc, &f).expect(rt, "memory");
+    let text = statement_text(alloc, &s).expect(rt, "memory");
     forget(s);
-    forget(f);
     text
 }
 
-/// Puts a blank and the adjective, as a literal without its subject, behind the text.
-fn push_adjective(rt: &impl Abort, alloc: Global, out: &mut Vec<u8>, a: &Adjective) {
-    let args = a.args.copy(alloc).expect(rt, "memory");
-    let l = Literal::Atom {
-        positive: a.positive,
-        sym: a.sym,
-        args,
-    };
-    let f = l.formula(alloc).expect(rt, "memory");
-    let text = formula_text(alloc, &f).expect(rt, "memory");
-    out.push(b' ').expect(rt, "memory");
-    out.extend_from_slice(text.as_slice()).expect(rt, "memory");
-    forget(l);
-    forget(f);
-    forget(text);
-}
-
-/// The radix, and behind it the adjectives.
 fn text_of_type(rt: &impl Abort, alloc: Global, ty: SoftType) -> Vec<u8> {
-    let SoftType { adjectives, radix } = ty;
-    let mut out = text_of_term(rt, alloc, Term::apply(radix.sym, radix.args));
-    for a in &adjectives.items {
-        push_adjective(rt, alloc, &mut out, a);
-    }
-    forget(adjectives);
-    out
+    let text = type_text(alloc, &ty).expect(rt, "memory");
+    forget(ty);
+    text
 }
 
 fn text_of_sentence(rt: &impl Abort, alloc: Global, s: Sentence) -> Vec<u8> {
-    let Sentence {
-        variables,
-        inner,
-        closed,
-    } = s;
-    forget(variables);
-    forget(inner);
-    text_of_statement(rt, alloc, closed)
+    let text = statement_text(alloc, &s.closed).expect(rt, "memory");
+    forget(s);
+    text
 }
 
 /// What a text is read to, as a text, or why it is refused.
@@ -269,7 +222,8 @@ pub fn answer(
     forget(left);
     match o {
         Ok(text) => (text, nodes),
-        Err(f) => (refusal_text(rt, alloc, f), nodes),
+        Err(ResolveFault::Refused(r)) => (refusal_text(alloc, r).expect(rt, "memory"), nodes),
+        Err(ResolveFault::Memory) => rt.abort(),
     }
 }
 

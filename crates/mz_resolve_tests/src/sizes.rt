@@ -1,9 +1,10 @@
 //! The limits on nodes and depth, met exactly and passed by one.
-use crate::making::{OBJECT, environment, put_functor, sym_of, term_of};
+use crate::making::{environment, put_functor, sym_of, term_of};
 use crate::reading::{Call, answer};
 use crate::small::{ITEMS, SYMBOLS, context};
 use mz_context::context::Context;
 use mz_environment::environment::Environment;
+use mz_item_samples::types::OBJECT;
 use mz_logic::term::{Term, Terms};
 use std::alloc::Global;
 use std::mem::forget;

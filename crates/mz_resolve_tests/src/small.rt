@@ -1,12 +1,11 @@
 //! A small article, at a place of which the tables' texts stand.
-use crate::making::{
-    ItemRow, Letter, OBJECT, P, Private, SET, empty, put_constants, put_functors, put_letters,
-    put_predicates, put_reserved, term_of,
-};
+use crate::making::{Private, put_functors, put_predicates, term_of};
 use crate::reading::Symbols;
 use mz_context::context::Context;
 use mz_core::statement::Statement;
-use mz_fits_tests::samples::T;
+use mz_item_samples::contexts::{L, V, put_constants, put_letters, put_reserved, start};
+use mz_item_samples::items::{ItemRow, MeaningRow, P};
+use mz_item_samples::types::{OBJECT, SET, T};
 use mz_logic::kind::Kind;
 use std::alloc::Global;
 use std::mem::{forget, replace};
@@ -25,30 +24,30 @@ const SUM_AGAIN: P = ("+", &[SET, ELEMENT], &[0], &[1]);
 /// attributes, where `near` is one of elements, whose set is hidden; the predicate `##` of a set and an element of it; `full`
 /// stands for `non empty`; there is a set that isn't empty.
 pub const ITEMS: [ItemRow; 12] = [
-    ItemRow::Functor("A.O1", ("+", &[OBJECT, OBJECT], &[0], &[1])),
-    ItemRow::Functor("A.O2", ("*", &[SET, SET], &[0], &[1])),
-    ItemRow::Functor("A.O3", ("!", &[OBJECT], &[0], &[])),
-    ItemRow::Functor("A.O4", ("^", &[SET, ELEMENT], &[0], &[1])),
-    ItemRow::Mode("A.M1", ("Elm", &[SET], &[], &[0])),
-    ItemRow::FunctorAgain("(A.O1 b1 b0)", SUM_AGAIN, ("(A.M1 b1)", "")),
-    ItemRow::Attribute("A.V1", ("empty", &[SET], &[], &[0])),
-    ItemRow::Attribute("A.V2", ("big", &[SET, SET], &[0], &[1])),
-    ItemRow::Attribute("A.V3", ("near", &[SET, ELEMENT], &[], &[1])),
-    ItemRow::Predicate("A.R1", ("##", &[SET, ELEMENT], &[0], &[1])),
-    ItemRow::OfLiteral(
+    ItemRow::Functor("A.O1", ("+", &[OBJECT, OBJECT], &[0], &[1]), SET, "true"),
+    ItemRow::Functor("A.O2", ("*", &[SET, SET], &[0], &[1]), SET, "true"),
+    ItemRow::Functor("A.O3", ("!", &[OBJECT], &[0], &[]), SET, "true"),
+    ItemRow::Functor("A.O4", ("^", &[SET, ELEMENT], &[0], &[1]), SET, "true"),
+    ItemRow::Mode("A.M1", ("Elm", &[SET], &[], &[0]), OBJECT, "true"),
+    ItemRow::FunctorAgain("(A.O1 b1 b0)", SUM_AGAIN, SET, ("(A.M1 b1)", "")),
+    ItemRow::Attribute("A.V1", ("empty", &[SET], &[], &[0]), "true"),
+    ItemRow::Attribute("A.V2", ("big", &[SET, SET], &[0], &[1]), "true"),
+    ItemRow::Attribute("A.V3", ("near", &[SET, ELEMENT], &[], &[1]), "true"),
+    ItemRow::Predicate("A.R1", ("##", &[SET, ELEMENT], &[0], &[1]), "true"),
+    ItemRow::Notation((
         Kind::Attribute,
-        "(not (A.V1 b0))",
         ("full", &[SET], &[], &[0]),
-    ),
-    ItemRow::Cluster(("HIDDEN.M2", "(not A.V1)")),
+        MeaningRow::Literal("(not (A.V1 b0))"),
+    )),
+    ItemRow::Existential(&[], "(not A.V1)", SET),
 ];
 
 /// An element of the constant 2.
 const OF_D: T = ("(A.M1 c2)", "");
 
-const CONSTANTS: [(&str, T); 3] = [("c", OBJECT), ("d", SET), ("e", OF_D)];
+const CONSTANTS: [V; 3] = [("c", OBJECT), ("d", SET), ("e", OF_D)];
 
-const RESERVED: [(&str, T); 4] = [("x", OBJECT), ("y", OBJECT), ("X", SET), ("w", OF_D)];
+const RESERVED: [V; 4] = [("x", OBJECT), ("y", OBJECT), ("X", SET), ("w", OF_D)];
 
 /// Of the two `F` the later one counts.
 const FUNCTORS: [Private; 4] = [
@@ -60,7 +59,7 @@ const FUNCTORS: [Private; 4] = [
 
 const PREDICATES: [Private; 2] = [("P", &[OF_D], "(A.V1 b0)"), ("Q", &[], "(not (A.V1 c2))")];
 
-const LETTERS: [Letter; 2] = [
+const LETTERS: [L; 2] = [
     ("H", "A.F1", &[OBJECT, OBJECT], Some(SET)),
     ("R", "A.P1", &[OBJECT], None),
 ];
@@ -68,12 +67,12 @@ const LETTERS: [Letter; 2] = [
 /// The constants `c`, an object, `d`, a set, and `e`, an element of `d`, are in force. `it` is `c`, `$1` is `d`, and `thesis`
 /// that `c` is `d`.
 pub fn context(rt: &impl Abort, alloc: Global) -> Context {
-    let mut ctx = empty(alloc);
-    put_constants(rt, alloc, &mut ctx, &CONSTANTS);
-    put_reserved(rt, alloc, &mut ctx, &RESERVED);
+    let mut ctx = start(alloc, 1);
+    put_constants(alloc, &mut ctx, &CONSTANTS).expect(rt, "constants");
+    put_reserved(alloc, &mut ctx, &RESERVED).expect(rt, "reserved variables");
     put_functors(rt, alloc, &mut ctx, &FUNCTORS);
     put_predicates(rt, alloc, &mut ctx, &PREDICATES);
-    put_letters(rt, alloc, &mut ctx, &LETTERS);
+    put_letters(alloc, &mut ctx, &LETTERS).expect(rt, "letters");
     put_standing(rt, alloc, &mut ctx);
     ctx
 }

@@ -1,37 +1,31 @@
 //! Small articles that were worked out by hand: what is covered by a registration, functors of two priorities, a predicate
 //! that is defined twice, and elements of structures.
-use crate::making::{
-    ItemRow, OBJECT, P, SET, empty, environment, pattern, put, put_constants, put_items, sym_of,
-    term_of, type_of,
-};
+use crate::making::{environment, term_of};
 use crate::reading::{Call, Row, Symbols, check};
 use mz_context::context::Context;
-use mz_core::item::Item;
-use mz_core::notation::{Meaning, Notation};
-use mz_core::notations::Notations;
-use mz_core::soft_types::SoftTypes;
-use mz_core::structure::{Field, Fields, Structure};
 use mz_environment::environment::Environment;
-use mz_fits_tests::samples::T;
+use mz_item_samples::contexts::{put_constants, start};
+use mz_item_samples::items::{ItemRow, MeaningRow, N, P};
+use mz_item_samples::types::{OBJECT, SET, T};
 use mz_logic::kind::Kind;
 use std::alloc::Global;
 use std::mem::{forget, replace};
 use std::process::Abort;
 
-const EMPTY: ItemRow = ItemRow::Attribute("A.V1", ("empty", &[SET], &[], &[0]));
+const EMPTY: ItemRow = ItemRow::Attribute("A.V1", ("empty", &[SET], &[], &[0]), "true");
 
 /// There is a set that isn't empty.
-const NON_EMPTY: ItemRow = ItemRow::Cluster(("HIDDEN.M2", "(not A.V1)"));
+const NON_EMPTY: ItemRow = ItemRow::Existential(&[], "(not A.V1)", SET);
 
-const JOIN: ItemRow = ItemRow::Functor("A.O1", ("\\/", &[SET, SET], &[0], &[1]));
+const JOIN: ItemRow = ItemRow::Functor("A.O1", ("\\/", &[SET, SET], &[0], &[1]), SET, "true");
 
-const MEET: ItemRow = ItemRow::Functor("A.O2", ("/\\", &[SET, SET], &[0], &[1]));
+const MEET: ItemRow = ItemRow::Functor("A.O2", ("/\\", &[SET, SET], &[0], &[1]), SET, "true");
 
 const RELATION: P = ("##", &[OBJECT, OBJECT], &[0], &[1]);
 
-const ONE: ItemRow = ItemRow::Predicate("P8.R1", RELATION);
+const ONE: ItemRow = ItemRow::Predicate("P8.R1", RELATION, "true");
 
-const OTHER: ItemRow = ItemRow::Predicate("Q8.R1", RELATION);
+const OTHER: ItemRow = ItemRow::Predicate("Q8.R1", RELATION, "true");
 
 const JOINED: &str = "for X,Y,Z being set holds X \\/ Y /\\ Z = Z";
 
@@ -112,7 +106,7 @@ const WORKED: [Worked; 8] = [
 fn check_alone(rt: &impl Abort, alloc: Global, worked: Worked) {
     let (symbols, items, call, row) = worked;
     let env = environment(rt, alloc, items);
-    let mut ctx = empty(alloc);
+    let mut ctx = start(alloc, 1);
     check(rt, alloc, symbols, &env, &mut ctx, call, row);
     forget(env);
     forget(ctx);
@@ -138,62 +132,28 @@ const PRODUCT: P = (
 /// `cdr` has no notation.
 const SYMBOLS: Symbols = b"GMag\nUcar\nUcdr\nMElm\nMIn\nO**\n";
 
-const ITEMS: [ItemRow; 3] = [
-    ItemRow::Mode("A.M1", ("Elm", &[MAG], &[], &[0])),
-    ItemRow::Mode("A.M2", ("In", &[SET], &[], &[0])),
-    ItemRow::Functor("A.O1", PRODUCT),
+/// The notations of the structure and of its selector.
+const NOTATIONS: &[N] = &[
+    (
+        Kind::Structure,
+        ("Mag", &[], &[], &[]),
+        MeaningRow::Type(MAG),
+    ),
+    (
+        Kind::Selector,
+        ("car", &[MAG], &[], &[0]),
+        MeaningRow::Term("(A.U1 b0)"),
+    ),
 ];
 
-const STRUCTURE: P = ("Mag", &[], &[], &[]);
-
-const SELECTOR: P = ("car", &[MAG], &[], &[0]);
-
-/// The notations of the structure and of its selector.
-fn notations_of_mag(rt: &impl Abort, alloc: Global) -> Notations {
-    let mut out = Notations::new(alloc);
-    let structure = Notation {
-        pattern: pattern(rt, alloc, Kind::Structure, STRUCTURE),
-        meaning: Meaning::OfType(type_of(rt, alloc, MAG)),
-    };
-    out.push(structure).expect(rt, "memory");
-    let selector = Notation {
-        pattern: pattern(rt, alloc, Kind::Selector, SELECTOR),
-        meaning: Meaning::OfTerm(term_of(rt, alloc, "(A.U1 b0)")),
-    };
-    out.push(selector).expect(rt, "memory");
-    out
-}
-
-/// A field that is a set.
-fn fields_of_mag(rt: &impl Abort, alloc: Global) -> Fields {
-    let mut out = Fields::new(alloc);
-    let selector = sym_of(rt, "A.U1");
-    let ty = type_of(rt, alloc, SET);
-    out.push(Field { selector, ty }).expect(rt, "memory");
-    out
-}
-
-fn mag(rt: &impl Abort, alloc: Global) -> Item {
-    Item::Structure(Structure {
-        loci: SoftTypes::new(alloc),
-        sym: sym_of(rt, "A.G1"),
-        strict: sym_of(rt, "A.V1"),
-        aggregate: sym_of(rt, "A.A1"),
-        ancestors: SoftTypes::new(alloc),
-        fields: fields_of_mag(rt, alloc),
-        notations: notations_of_mag(rt, alloc),
-    })
-}
-
-/// The structure `Mag` with the selector `car`, the modes `Elm of` a structure and `In of` a set, and `**` of two elements of
-/// a structure.
-fn of_structures(rt: &impl Abort, alloc: Global) -> Environment {
-    let mut env = environment(rt, alloc, &[]);
-    let item = mag(rt, alloc);
-    put(rt, alloc, &mut env, item);
-    put_items(rt, alloc, &mut env, &ITEMS);
-    env
-}
+/// The structure `Mag` with the selector `car`, whose field is a set, the modes `Elm of` a structure and `In of` a set, and
+/// `**` of two elements of a structure.
+const ITEMS: [ItemRow; 4] = [
+    ItemRow::Structure(("A.G1", "A.V1", "A.A1"), &[], &[("A.U1", SET)], NOTATIONS),
+    ItemRow::Mode("A.M1", ("Elm", &[MAG], &[], &[0]), OBJECT, "true"),
+    ItemRow::Mode("A.M2", ("In", &[SET], &[], &[0]), OBJECT, "true"),
+    ItemRow::Functor("A.O1", PRODUCT, SET, "true"),
+];
 
 /// Where no structure is known, and `s` is one.
 const OUTSIDE: [(Call, Row); 5] = [
@@ -250,9 +210,9 @@ fn check_rows(
 
 #[test]
 fn structures(rt: HostRuntime) {
-    let env = of_structures(&rt, rt.alloc());
-    let mut ctx = empty(rt.alloc());
-    put_constants(&rt, rt.alloc(), &mut ctx, &[("s", MAG)]);
+    let env = environment(&rt, rt.alloc(), &ITEMS);
+    let mut ctx = start(rt.alloc(), 1);
+    put_constants(rt.alloc(), &mut ctx, &[("s", MAG)]).expect(&rt, "constants");
     check_rows(&rt, rt.alloc(), &env, &mut ctx, &OUTSIDE);
     let subject = term_of(&rt, rt.alloc(), "c1");
     forget(replace(&mut ctx.subject, Some(subject)));

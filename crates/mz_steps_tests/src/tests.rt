@@ -1,25 +1,24 @@
 //! Parts of a `now` and steps with what becomes of them, worked out by hand from the rules. What a question is done with
 //! is forgotten, not dropped.
-use crate::samples::{P, conjuncts, context, part, parts, statement, variable, variables};
+use crate::samples::{P, conjuncts, part, parts, statement_of, term_of, variable, variables};
 use mz_context::context::Context;
 use mz_core::erasure::erase;
 use mz_core::statement::Statement;
 use mz_environment::unfoldings::Unfoldings;
-use mz_fits_tests::samples::{K, T, constants};
 use mz_ground::clauses::Clauses;
+use mz_item_samples::contexts::in_force;
+use mz_item_samples::types::{K, SET, T};
 use mz_logic::formula::Formula;
 use mz_now::hidden::{brings_hidden, defined};
 use mz_now::now_part::{NowPart, NowParts};
 use mz_now::stated::stated_by;
-use mz_samples::forms::{formula, term};
+use mz_samples::forms::formula;
 use mz_steps::block::Block;
 use mz_steps::effects::{Effect, effect};
 use mz_steps::read_step::ReadStep;
 use std::alloc::Global;
 use std::mem::forget;
 use std::process::Abort;
-
-const SET: T = ("HIDDEN.M2", "");
 
 const MODE: T = ("A.M1", "");
 
@@ -84,7 +83,7 @@ const STATED: [(&[P], &str); 10] = [
 ];
 
 fn check_stated(rt: &impl Abort, alloc: Global, ps: &[P], wanted: &str) {
-    let ps = parts(alloc, ps).expect(rt, "parts");
+    let ps = parts(rt, alloc, ps);
     let stated = stated_by(alloc, &ps).expect(rt, "memory");
     forget(ps);
     let same = match stated {
@@ -143,15 +142,14 @@ fn is_kept(rt: &impl Abort, alloc: Global, ps: NowParts) -> bool {
 
 fn check_large(rt: &impl Abort, alloc: Global, p: P, wanted: bool) {
     let text = p.3;
-    let mut ps = parts(alloc, &TWICE).expect(rt, "parts");
-    let p = part(alloc, p).expect(rt, "a part");
-    ps.push(p).expect(rt, "memory");
+    let mut ps = parts(rt, alloc, &TWICE);
+    ps.push(part(rt, alloc, p)).expect(rt, "memory");
     let kept = is_kept(rt, alloc, ps);
     assert!(rt; kept == wanted, "{text}");
 }
 
 fn check_many(rt: &impl Abort, alloc: Global, count: usize, wanted: bool) {
-    let ps = conjuncts(alloc, count).expect(rt, "parts");
+    let ps = conjuncts(rt, alloc, count);
     let kept = is_kept(rt, alloc, ps);
     assert!(rt; kept == wanted, "{count}");
 }
@@ -187,8 +185,8 @@ const BROUGHT: [(P, bool); 8] = [
 
 fn check_brought(rt: &impl Abort, alloc: Global, p: P, wanted: bool) {
     let text = p.3;
-    let ps = parts(alloc, &BEFORE).expect(rt, "parts");
-    let p = part(alloc, p).expect(rt, "a part");
+    let ps = parts(rt, alloc, &BEFORE);
+    let p = part(rt, alloc, p);
     let brings = brings_hidden(ps.items.as_slice(), &p);
     forget(ps);
     forget(p);
@@ -210,8 +208,8 @@ const EQUAL: [(&str, bool); 3] = [
 ];
 
 fn check_equal(rt: &impl Abort, alloc: Global, text: &str, wanted: bool) {
-    let ps = parts(alloc, &BEFORE).expect(rt, "parts");
-    let t = term(alloc, text).expect(rt, "a term");
+    let ps = parts(rt, alloc, &BEFORE);
+    let t = term_of(rt, alloc, text);
     let p = defined(alloc, ps.items.as_slice(), 5, &t).expect(rt, "memory");
     let hidden = matches!(&p, NowPart::Hidden { .. });
     forget(ps);
@@ -230,9 +228,9 @@ fn a_term_with_a_hidden_constant_hides(rt: HostRuntime) {
 const IN_FORCE: [K; 1] = [(MODE, "")];
 
 fn context_of(rt: &impl Abort, alloc: Global, thesis: &str) -> Context {
-    let ks = constants(alloc, &IN_FORCE).expect(rt, "constants");
-    let s = statement(alloc, thesis).expect(rt, "a statement");
-    context(alloc, ks, Some(s))
+    let mut ctx = in_force(alloc, 0, &IN_FORCE).expect(rt, "constants");
+    ctx.thesis = Some(statement_of(rt, alloc, thesis));
+    ctx
 }
 
 /// What the step does: `=` where it leaves everything, `+` where a `now` states more, the text of what is left of a thesis,
@@ -268,19 +266,19 @@ fn does(
 /// statement.
 fn step(rt: &impl Abort, alloc: Global, letter: char, text: &str) -> ReadStep {
     match letter {
-        'l' => ReadStep::Let(variable(alloc, SET).expect(rt, "a variable")),
-        'a' => ReadStep::Assume(statement(alloc, text).expect(rt, "a statement")),
+        'l' => ReadStep::Let(variable(rt, alloc, SET)),
+        'a' => ReadStep::Assume(statement_of(rt, alloc, text)),
         'g' => {
-            let vs = variables(alloc, SET).expect(rt, "variables");
-            ReadStep::Given(vs, statement(alloc, text).expect(rt, "a statement"))
+            let vs = variables(rt, alloc, SET);
+            ReadStep::Given(vs, statement_of(rt, alloc, text))
         }
-        't' => ReadStep::Thus(statement(alloc, text).expect(rt, "a statement")),
-        'e' => ReadStep::Take(term(alloc, text).expect(rt, "a term")),
+        't' => ReadStep::Thus(statement_of(rt, alloc, text)),
+        'e' => ReadStep::Take(term_of(rt, alloc, text)),
         'c' => {
-            let vs = variables(alloc, SET).expect(rt, "variables");
-            ReadStep::Consider(vs, statement(alloc, text).expect(rt, "a statement"))
+            let vs = variables(rt, alloc, SET);
+            ReadStep::Consider(vs, statement_of(rt, alloc, text))
         }
-        _ => ReadStep::State(statement(alloc, text).expect(rt, "a statement")),
+        _ => ReadStep::State(statement_of(rt, alloc, text)),
     }
 }
 
@@ -342,7 +340,7 @@ const IN_NOW: [(char, &str, &str); 8] = [
 
 fn check_in_now(rt: &impl Abort, alloc: Global, letter: char, text: &str, wanted: &str) {
     let ctx = context_of(rt, alloc, "true");
-    let hidden: NowParts = parts(alloc, &[('h', 1, SET, "")]).expect(rt, "parts");
+    let hidden: NowParts = parts(rt, alloc, &[('h', 1, SET, "")]);
     let step = step(rt, alloc, letter, text);
     let right = does(rt, alloc, ctx, Block::Now(hidden), step, wanted);
     assert!(rt; right, "{text}");

@@ -1,7 +1,7 @@
 //! Problems of simple justifications, worked out by hand from the rules.
-use crate::samples::{Given, PART, S, SET, U, in_force, statement};
+use crate::samples::{Given, PART, S, U, in_force, statement_of};
 use mz_core::statements::Statements;
-use mz_fits_tests::samples::K;
+use mz_item_samples::types::{K, SET};
 use mz_logic::formula::Formula;
 use mz_logic::texts::push_formula;
 use mz_nf::problem::Problem;
@@ -16,14 +16,14 @@ type Row = (&'static [S], S, &'static str);
 fn statements(rt: &impl Abort, alloc: Global, ss: &[S]) -> Statements {
     let mut out = Statements::new(alloc);
     for s in ss {
-        out.push(statement(rt, alloc, *s)).expect(rt, "memory");
+        out.push(statement_of(rt, alloc, *s)).expect(rt, "memory");
     }
     out
 }
 
 fn problem(rt: &impl Abort, alloc: Global, g: &Given, ss: &[S], s: S) -> Problem {
     let ss = statements(rt, alloc, ss);
-    let s = statement(rt, alloc, s);
+    let s = statement_of(rt, alloc, s);
     let clauses = g.clauses.as_slice();
     let p = asked(alloc, clauses, &g.constants, &g.unfoldings, &ss, &s).expect(rt, "memory");
     forget(ss);

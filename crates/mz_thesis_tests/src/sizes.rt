@@ -1,5 +1,6 @@
 //! Nodes and depths, counted by hand.
-use crate::samples::{S, SET, statement};
+use crate::samples::{S, statement_of};
+use mz_item_samples::types::SET;
 use mz_logic::kind::Kind;
 use mz_logic::sym::Sym;
 use mz_logic::term::{Term, Terms};
@@ -27,7 +28,7 @@ const ROWS: [Row; 8] = [
 /// Whether the statement has exactly so many nodes and exactly the depth.
 fn is_measured(rt: &impl Abort, alloc: Global, row: Row) -> bool {
     let (s, nodes, depth) = row;
-    let s = statement(rt, alloc, s);
+    let s = statement_of(rt, alloc, s);
     let exact = after_statement(&s, nodes) == Some(0);
     let no_less = after_statement(&s, nodes.saturating_sub(1)).is_none();
     let within = statement_within(&s, depth);

@@ -1,7 +1,7 @@
 //! Theses after steps, worked out by hand from the table of steps.
-use crate::samples::{Given, PART, S, SET, U, in_force, statement};
+use crate::samples::{Given, PART, S, U, in_force, statement_of};
 use mz_core::statement::Statement;
-use mz_fits_tests::samples::{C, K, T, ty};
+use mz_item_samples::types::{C, K, SET, T, ty};
 use mz_samples::forms::term;
 use mz_thesis::apply::apply;
 use mz_thesis::step::Step;
@@ -30,15 +30,15 @@ fn step(rt: &impl Abort, alloc: Global, m: Move) -> Step {
             constant: 3,
             ty: ty(alloc, t).expect(rt, "a type"),
         },
-        Move::Assume(s) => Step::Assume(statement(rt, alloc, s)),
-        Move::Thus(s) => Step::Thus(statement(rt, alloc, s)),
+        Move::Assume(s) => Step::Assume(statement_of(rt, alloc, s)),
+        Move::Thus(s) => Step::Thus(statement_of(rt, alloc, s)),
         Move::Take(t) => Step::Take(term(alloc, t).expect(rt, "a term")),
     }
 }
 
 /// The thesis after the step.
 fn after(rt: &impl Abort, alloc: Global, g: &Given, thesis: S, m: Move) -> Option<Statement> {
-    let s = statement(rt, alloc, thesis);
+    let s = statement_of(rt, alloc, thesis);
     let step = step(rt, alloc, m);
     let clauses = g.clauses.as_slice();
     let found = apply(alloc, clauses, &g.constants, &g.unfoldings, &s, &step).ok();
@@ -49,7 +49,7 @@ fn after(rt: &impl Abort, alloc: Global, g: &Given, thesis: S, m: Move) -> Optio
 
 /// Whether the statement is this one.
 fn is(rt: &impl Abort, alloc: Global, found: Statement, wanted: S) -> bool {
-    let s = statement(rt, alloc, wanted);
+    let s = statement_of(rt, alloc, wanted);
     let same = found.equals(&s);
     forget(s);
     forget(found);

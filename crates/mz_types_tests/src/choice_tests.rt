@@ -1,13 +1,12 @@
 //! Chosen notations, worked out by hand from the rules.
-use crate::items::{
-    Made, OBJECT, P, SET, attribute, functor, functor_again, in_force, mode, predicate, structure,
-    text_of, with_letter,
-};
+use crate::items::{Made, in_force, text_of, with_letter};
 use crate::making::{A, Row, applied, check_as, check_rows, means, reads};
 use mz_choice::choice::{Wanted, chosen_by};
 use mz_choice::resolve::resolve_by;
 use mz_context::context::Context;
-use mz_fits_tests::samples::K;
+use mz_item_samples::contexts::L;
+use mz_item_samples::items::{ItemRow, P};
+use mz_item_samples::types::{K, OBJECT, SET};
 use mz_logic::kind::Kind;
 use mz_logic::term::Term;
 use std::alloc::Global;
@@ -22,14 +21,11 @@ const PRODUCT: P = (
 );
 
 /// The elements of a structure, and a functor on two of them with a hidden locus.
-fn magmas(rt: &impl Abort, alloc: Global) -> Made {
-    let magma = structure(rt, alloc, ("A.G1", "A.V1", "A.A1"), &[], &[("A.U1", SET)]);
-    let of_magma: P = ("Elm", &[("A.G1", "")], &[], &[0]);
-    Made::new(alloc)
-        .with(rt, alloc, magma)
-        .with(rt, alloc, mode(rt, alloc, "A.M1", of_magma, OBJECT))
-        .with(rt, alloc, functor(rt, alloc, "A.O1", PRODUCT, OBJECT))
-}
+const MAGMAS: [ItemRow; 3] = [
+    ItemRow::Structure(("A.G1", "A.V1", "A.A1"), &[], &[("A.U1", SET)], &[]),
+    ItemRow::Mode("A.M1", ("Elm", &[("A.G1", "")], &[], &[0]), OBJECT, "true"),
+    ItemRow::Functor("A.O1", PRODUCT, OBJECT, "true"),
+];
 
 #[test]
 fn a_hidden_locus_is_fixed_by_a_match(rt: HostRuntime) {
@@ -52,7 +48,8 @@ fn a_hidden_locus_is_fixed_by_a_match(rt: HostRuntime) {
         (("Elm", Kind::Mode, "", "c3"), "unfit"),
     ];
     let ctx = in_force(&rt, rt.alloc(), &ks);
-    check_rows(&rt, rt.alloc(), magmas(&rt, rt.alloc()), ctx, &rows);
+    let made = Made::of(&rt, rt.alloc(), &MAGMAS);
+    check_rows(&rt, rt.alloc(), made, ctx, &rows);
 }
 
 /// The same where the two structures are equal by the facts: what was fixed first stands.
@@ -69,7 +66,8 @@ fn loci_are_equal_by_the_facts(rt: HostRuntime) {
         (("**", Kind::Functor, "c4", "c3"), "(A.O1 c2 c4 c3)"),
     ];
     let ctx = in_force(&rt, rt.alloc(), &ks);
-    check_rows(&rt, rt.alloc(), magmas(&rt, rt.alloc()), ctx, &rows);
+    let made = Made::of(&rt, rt.alloc(), &MAGMAS);
+    check_rows(&rt, rt.alloc(), made, ctx, &rows);
 }
 
 /// A predicate's symbol and pattern.
@@ -77,9 +75,9 @@ type N = (&'static str, P);
 
 /// What is read by two notations, the second of which is let in after the first.
 fn check_latest(rt: &impl Abort, alloc: Global, first: N, second: N, a: A, wanted: &str) {
-    let made = Made::new(alloc)
-        .with(rt, alloc, predicate(rt, alloc, first.0, first.1))
-        .with(rt, alloc, predicate(rt, alloc, second.0, second.1));
+    let first = ItemRow::Predicate(first.0, first.1, "true");
+    let second = ItemRow::Predicate(second.0, second.1, "true");
+    let made = Made::of(rt, alloc, &[first, second]);
     let ctx = in_force(rt, alloc, &[(OBJECT, ""), (("A.M1", ""), "")]);
     check_as(rt, alloc, &made, &ctx, Wanted::Anything, a, wanted);
     forget(made);
@@ -113,22 +111,6 @@ fn the_latest_notation_is_taken(rt: HostRuntime) {
 
 const OF_SET: P = ("f", &[SET], &[], &[0]);
 
-/// A mode of sets, and a functor whose values are in it, by its definition at the argument, and by two redefinitions
-/// at the value and at the value's value.
-fn redefined(rt: &impl Abort, alloc: Global) -> Made {
-    let of_set = mode(rt, alloc, "A.M1", ("M", &[SET], &[], &[0]), SET);
-    let f = functor(rt, alloc, "A.O1", OF_SET, ("(A.M1 b0)", ""));
-    let at_value = ("(A.M1 (A.O1 b0))", "");
-    let first = functor_again(rt, alloc, "(A.O1 b0)", OF_SET, at_value);
-    let at_values_value = ("(A.M1 (A.O1 (A.O1 b0)))", "");
-    let second = functor_again(rt, alloc, "(A.O1 b0)", OF_SET, at_values_value);
-    Made::new(alloc)
-        .with(rt, alloc, of_set)
-        .with(rt, alloc, f)
-        .with(rt, alloc, first)
-        .with(rt, alloc, second)
-}
-
 const VISIBLE: P = ("in", &[SET, ("(A.M1 b0)", "")], &[0], &[1]);
 
 const HIDDEN: P = ("of", &[SET, ("(A.M1 b0)", "")], &[], &[1]);
@@ -140,13 +122,18 @@ const BIG: P = (
     &[1],
 );
 
-/// Predicates on what is in the mode: of a visible set, and of a hidden one that has an attribute.
-fn related(rt: &impl Abort, alloc: Global) -> Made {
-    redefined(rt, alloc)
-        .with(rt, alloc, predicate(rt, alloc, "A.R1", VISIBLE))
-        .with(rt, alloc, predicate(rt, alloc, "A.R2", HIDDEN))
-        .with(rt, alloc, predicate(rt, alloc, "A.R3", BIG))
-}
+/// A mode of sets, and a functor whose values are in it, by its definition at the argument, and by two redefinitions
+/// at the value and at the value's value. Predicates on what is in the mode: of a visible set, and of a hidden one that
+/// has an attribute.
+const RELATED: [ItemRow; 7] = [
+    ItemRow::Mode("A.M1", ("M", &[SET], &[], &[0]), SET, "true"),
+    ItemRow::Functor("A.O1", OF_SET, ("(A.M1 b0)", ""), "true"),
+    ItemRow::FunctorAgain("(A.O1 b0)", OF_SET, OBJECT, ("(A.M1 (A.O1 b0))", "")),
+    ItemRow::FunctorAgain("(A.O1 b0)", OF_SET, OBJECT, ("(A.M1 (A.O1 (A.O1 b0)))", "")),
+    ItemRow::Predicate("A.R1", VISIBLE, "true"),
+    ItemRow::Predicate("A.R2", HIDDEN, "true"),
+    ItemRow::Predicate("A.R3", BIG, "true"),
+];
 
 /// The guards of all loci have to fit, those of hidden ones as well; a later member of the chain is taken where the
 /// first one with the symbol doesn't match, and the latest redefinition's where all match.
@@ -176,7 +163,8 @@ fn guards_and_members(rt: HostRuntime) {
         (("big", Kind::Attribute, "", "c4"), "unknown"),
     ];
     let ctx = in_force(&rt, rt.alloc(), &ks);
-    check_rows(&rt, rt.alloc(), related(&rt, rt.alloc()), ctx, &rows);
+    let made = Made::of(&rt, rt.alloc(), &RELATED);
+    check_rows(&rt, rt.alloc(), made, ctx, &rows);
 }
 
 const PLAIN: P = ("V", &[SET], &[], &[0]);
@@ -186,12 +174,11 @@ const BESIDE: P = ("in", &[SET, SET], &[0], &[1]);
 const DENSE: P = ("dense", &[("HIDDEN.M2", "A.V1")], &[], &[0]);
 
 /// Attributes: of sets, of a set beside another, and of sets that have an attribute.
-fn attributes(rt: &impl Abort, alloc: Global) -> Made {
-    Made::new(alloc)
-        .with(rt, alloc, attribute(rt, alloc, "A.V1", PLAIN, 0))
-        .with(rt, alloc, attribute(rt, alloc, "A.V2", BESIDE, 1))
-        .with(rt, alloc, attribute(rt, alloc, "A.V3", DENSE, 0))
-}
+const ATTRIBUTES: [ItemRow; 3] = [
+    ItemRow::Attribute("A.V1", PLAIN, "true"),
+    ItemRow::Attribute("A.V2", BESIDE, "true"),
+    ItemRow::Attribute("A.V3", DENSE, "true"),
+];
 
 /// An adjective of the constant with the number, fresh or not; anything for 0.
 fn wanted_of(n: u32, fresh: bool) -> Wanted {
@@ -235,7 +222,7 @@ fn check_adjectives(rt: &impl Abort, alloc: Global, made: Made, ctx: Context) {
 #[test]
 fn adjectives_are_of_their_subject(rt: HostRuntime) {
     let ks: [K; 3] = [(SET, ""), (("HIDDEN.M2", "A.V1"), ""), (SET, "")];
-    let made = attributes(&rt, rt.alloc());
+    let made = Made::of(&rt, rt.alloc(), &ATTRIBUTES);
     let ctx = in_force(&rt, rt.alloc(), &ks);
     check_adjectives(&rt, rt.alloc(), made, ctx);
 }
@@ -268,7 +255,7 @@ fn check_chosen(rt: &impl Abort, alloc: Global, made: &Made, ctx: &Context, a: A
 #[test]
 fn a_pair_of_brackets_is_one_symbol(rt: HostRuntime) {
     let alloc = rt.alloc();
-    let made = attributes(&rt, alloc);
+    let made = Made::of(&rt, alloc, &ATTRIBUTES);
     let ctx = in_force(&rt, alloc, &[(SET, "")]);
     let a: A = ("V", Kind::Attribute, "", "c1");
     check_in_brackets(&rt, alloc, &made, &ctx, a);
@@ -281,11 +268,13 @@ fn a_pair_of_brackets_is_one_symbol(rt: HostRuntime) {
 
 const AT_LETTER: A = ("dense", Kind::Attribute, "", "(A.F1 c1)");
 
+const LETTER: L = ("", "A.F1", &[SET], Some(("HIDDEN.M2", "A.V1")));
+
 /// A letter's type counts while the letter is in force.
 #[test]
 fn a_letter_has_its_type(rt: HostRuntime) {
     let alloc = rt.alloc();
-    let made = attributes(&rt, alloc);
+    let made = Made::of(&rt, alloc, &ATTRIBUTES);
     let ctx = in_force(&rt, alloc, &[(SET, "")]);
     check_as(
         &rt,
@@ -296,7 +285,7 @@ fn a_letter_has_its_type(rt: HostRuntime) {
         AT_LETTER,
         "unfit",
     );
-    let ctx = with_letter(&rt, alloc, ctx, "A.F1", &[SET], ("HIDDEN.M2", "A.V1"));
+    let ctx = with_letter(&rt, alloc, ctx, LETTER);
     let rows = [(AT_LETTER, "(A.V3 (A.F1 c1))")];
     check_rows(&rt, alloc, made, ctx, &rows);
 }

@@ -1,9 +1,9 @@
 //! Types whose adjectives are covered, worked out by hand from the rules.
-use crate::items::{Made, P, SET, attribute, conditional, existential, in_force, mode, type_of};
+use crate::items::{Made, in_force, type_of};
 use mz_choice::cover::is_covered_by;
 use mz_choice::resolve::is_covered;
-use mz_context::context::Context;
-use mz_fits_tests::samples::{K, T};
+use mz_item_samples::items::ItemRow;
+use mz_item_samples::types::{K, SET, T};
 use std::alloc::Global;
 use std::mem::forget;
 use std::process::Abort;
@@ -26,10 +26,10 @@ fn check_covered(rt: &impl Abort, alloc: Global, made: &Made, ks: &[K], t: T, wa
 }
 
 /// The attribute `empty` of sets.
-fn with_empty(rt: &impl Abort, alloc: Global) -> Made {
-    let empty: P = ("empty", &[SET], &[], &[0]);
-    Made::new(alloc).with(rt, alloc, attribute(rt, alloc, "A.V1", empty, 0))
-}
+const EMPTY: ItemRow = ItemRow::Attribute("A.V1", ("empty", &[SET], &[], &[0]), "true");
+
+/// There is a set that isn't empty.
+const REGISTERED: ItemRow = ItemRow::Existential(&[], "(not A.V1)", SET);
 
 const NON_EMPTY: T = ("HIDDEN.M2", "(not A.V1)");
 
@@ -37,43 +37,26 @@ const NON_EMPTY: T = ("HIDDEN.M2", "(not A.V1)");
 #[test]
 fn adjectives_are_covered_by_a_registration(rt: HostRuntime) {
     let alloc = rt.alloc();
-    let made = with_empty(&rt, alloc);
+    let made = Made::of(&rt, alloc, &[EMPTY]);
     check_covered(&rt, alloc, &made, &[], NON_EMPTY, false);
-    let made = made.with(&rt, alloc, existential(&rt, alloc, &[], "(not A.V1)", SET));
+    let made = made.with(&rt, alloc, REGISTERED);
     check_covered(&rt, alloc, &made, &[], NON_EMPTY, true);
     check_covered(&rt, alloc, &made, &[], SET, true);
     check_covered(&rt, alloc, &made, &[], ("HIDDEN.M2", "A.V1"), false);
     forget(made);
 }
 
-const OF_SET: P = ("M", &[SET], &[], &[0]);
-
-/// The modes M of X, N of X, which is an M of X, and K.
-fn modes(rt: &impl Abort, alloc: Global) -> Made {
-    let below: P = ("N", &[SET], &[], &[0]);
-    let below = mode(rt, alloc, "A.M2", below, ("(A.M1 b0)", ""));
-    Made::new(alloc)
-        .with(rt, alloc, mode(rt, alloc, "A.M1", OF_SET, SET))
-        .with(rt, alloc, below)
-        .with(
-            rt,
-            alloc,
-            mode(rt, alloc, "A.M3", ("K", &[], &[], &[]), SET),
-        )
-}
-
-/// Registrations under loci, one of which stands in the adjectives alone, and a conditional one of what is K.
-fn registrations(rt: &impl Abort, alloc: Global) -> Made {
-    let one = ("HIDDEN.M2", "A.V1");
-    let guarded = existential(rt, alloc, &[one], "A.V2", ("(A.M1 b0)", ""));
-    let of_parent = existential(rt, alloc, &[SET], "A.V3", ("(A.M2 b0)", ""));
-    let alone = existential(rt, alloc, &[SET], "(A.V4 b0)", ("A.M3", ""));
-    modes(rt, alloc)
-        .with(rt, alloc, guarded)
-        .with(rt, alloc, of_parent)
-        .with(rt, alloc, alone)
-        .with(rt, alloc, conditional(rt, alloc, "", "A.V5", ("A.M3", "")))
-}
+/// The modes M of X, N of X, which is an M of X, and K. Registrations under loci, one of which stands in the adjectives
+/// alone, and a conditional one of what is K.
+const REGISTRATIONS: [ItemRow; 7] = [
+    ItemRow::Mode("A.M1", ("M", &[SET], &[], &[0]), SET, "true"),
+    ItemRow::Mode("A.M2", ("N", &[SET], &[], &[0]), ("(A.M1 b0)", ""), "true"),
+    ItemRow::Mode("A.M3", ("K", &[], &[], &[]), SET, "true"),
+    ItemRow::Existential(&[("HIDDEN.M2", "A.V1")], "A.V2", ("(A.M1 b0)", "")),
+    ItemRow::Existential(&[SET], "A.V3", ("(A.M2 b0)", "")),
+    ItemRow::Existential(&[SET], "(A.V4 b0)", ("A.M3", "")),
+    ItemRow::Conditional(&[], "", "A.V5", ("A.M3", "")),
+];
 
 const COVERED: [(T, bool); 9] = [
     (("(A.M1 c1)", ""), true),
@@ -100,6 +83,6 @@ fn check_all(rt: &impl Abort, alloc: Global, made: Made) {
 /// in the adjectives alone is fixed by none; what fits from the guard of the radix needs no registration.
 #[test]
 fn covered_types(rt: HostRuntime) {
-    let made = registrations(&rt, rt.alloc());
+    let made = Made::of(&rt, rt.alloc(), &REGISTRATIONS);
     check_all(&rt, rt.alloc(), made);
 }

@@ -5,10 +5,10 @@ use mz_choice::choice::{Applied, Wanted};
 use mz_choice::resolve::{Resolution, resolve};
 use mz_context::context::Context;
 use mz_core::notation::Meaning;
+use mz_item_samples::texts::{literal_text, radix_text};
 use mz_logic::kind::Kind;
-use mz_logic::literal::Literal;
-use mz_logic::term::{Term, Terms};
-use mz_logic::texts::{formula_text, term_text};
+use mz_logic::term::Terms;
+use mz_logic::texts::term_text;
 use mz_samples::forms::terms;
 use std::alloc::Global;
 use std::mem::forget;
@@ -32,34 +32,18 @@ pub fn applied(rt: &impl Abort, alloc: Global, a: A) -> Applied {
     }
 }
 
-fn is_term(rt: &impl Abort, alloc: Global, t: Term, wanted: &str) -> bool {
-    let text = term_text(alloc, &t).expect(rt, "memory");
-    let same = text.as_slice() == wanted.as_bytes();
-    forget(t);
-    forget(text);
-    same
-}
-
-fn is_literal(rt: &impl Abort, alloc: Global, l: Literal, wanted: &str) -> bool {
-    let f = l.formula(alloc).expect(rt, "memory");
-    let text = formula_text(alloc, &f).expect(rt, "memory");
-    let same = text.as_slice() == wanted.as_bytes();
-    forget(l);
-    forget(f);
-    forget(text);
-    same
-}
-
 /// Whether the term, the literal, or the type's radix is that of the text.
 pub fn means(rt: &impl Abort, alloc: Global, m: Meaning, wanted: &str) -> bool {
-    match m {
-        Meaning::OfTerm(t) => is_term(rt, alloc, t, wanted),
-        Meaning::OfLiteral(l) => is_literal(rt, alloc, l, wanted),
-        Meaning::OfType(ty) => {
-            forget(ty.adjectives);
-            is_term(rt, alloc, Term::apply(ty.radix.sym, ty.radix.args), wanted)
-        }
-    }
+    let text = match &m {
+        Meaning::OfTerm(t) => term_text(alloc, t),
+        Meaning::OfLiteral(l) => literal_text(alloc, l),
+        Meaning::OfType(ty) => radix_text(alloc, &ty.radix),
+    };
+    let text = text.expect(rt, "memory");
+    let same = text.as_slice() == wanted.as_bytes();
+    forget(m);
+    forget(text);
+    same
 }
 
 /// Whether it reads to the text's, or to nothing for the reason that is the text.

@@ -1,17 +1,16 @@
 //! What fits, and chains, worked out by hand from the rules.
-use crate::items::{
-    F, Made, OBJECT, P, SET, conditional, functor, functor_again, functorial, in_force, mode,
-    mode_again, structure, sym_of, term_of, type_of, with_letter,
-};
+use crate::items::{Made, in_force, sym_of, term_of, type_of, with_letter};
 use mz_base::text::Text;
 use mz_context::constants::Constant;
 use mz_context::context::Context;
 use mz_core::adjectives::Adjectives;
 use mz_core::radix::Radix;
 use mz_core::soft_type::SoftType;
-use mz_fits_tests::samples::{K, T};
+use mz_item_samples::contexts::L;
+use mz_item_samples::items::{F, ItemRow, P, mode_again};
+use mz_item_samples::texts::radix_text;
+use mz_item_samples::types::{K, OBJECT, SET};
 use mz_logic::term::{Term, Terms};
-use mz_logic::texts::term_text;
 use mz_types::radices::Radixes;
 use mz_types::types::{chain, fits};
 use std::alloc::Global;
@@ -31,24 +30,21 @@ fn is_four(rt: &impl Abort, alloc: Global, made: &Made) -> bool {
 }
 
 /// What is `one` is `two`, what is `three` is `four`, and each value of the functor is `one`.
-fn registrations(rt: &impl Abort, alloc: Global) -> Made {
-    Made::new(alloc)
-        .with(
-            rt,
-            alloc,
-            functorial(rt, alloc, &[SET], "(A.O1 b0)", "A.V1"),
-        )
-        .with(rt, alloc, conditional(rt, alloc, "A.V1", "A.V2", SET))
-        .with(rt, alloc, conditional(rt, alloc, "A.V3", "A.V4", SET))
-}
+const REGISTRATIONS: [ItemRow; 3] = [
+    ItemRow::Functorial(&[SET], "(A.O1 b0)", "A.V1"),
+    ItemRow::Conditional(&[], "A.V1", "A.V2", SET),
+    ItemRow::Conditional(&[], "A.V3", "A.V4", SET),
+];
+
+/// What is `two` is `three`.
+const MIDDLE: ItemRow = ItemRow::Conditional(&[], "A.V2", "A.V3", SET);
 
 /// A chain of registrations, with and without its middle.
 #[test]
 fn registrations_fit_one_after_another(rt: HostRuntime) {
-    let made = registrations(&rt, rt.alloc());
+    let made = Made::of(&rt, rt.alloc(), &REGISTRATIONS);
     let before = is_four(&rt, rt.alloc(), &made);
-    let middle = conditional(&rt, rt.alloc(), "A.V2", "A.V3", SET);
-    let made = made.with(&rt, rt.alloc(), middle);
+    let made = made.with(&rt, rt.alloc(), MIDDLE);
     let behind = is_four(&rt, rt.alloc(), &made);
     forget(made);
     assert!(rt; !before && behind);
@@ -64,9 +60,7 @@ fn chain_of(rt: &impl Abort, alloc: Global, made: &Made, ctx: &Context, t: &str)
 /// The symbol and the arguments, as the text of a term, with a blank.
 fn with_radix(rt: &impl Abort, alloc: Global, front: Text, r: &Radix) -> Text {
     let mut out = front;
-    let t = Term::apply(r.sym, r.args.copy(alloc).expect(rt, "memory"));
-    let text = term_text(alloc, &t).expect(rt, "memory");
-    forget(t);
+    let text = radix_text(alloc, r).expect(rt, "memory");
     out.extend_from_slice(text.as_slice()).expect(rt, "memory");
     forget(text);
     out.push(b' ').expect(rt, "memory");
@@ -117,43 +111,25 @@ const OF_SET: P = ("M", &[SET], &[], &[0]);
 
 const PLAIN: P = ("N", &[], &[], &[]);
 
-/// A mode with an argument, a constant of the functor, and a mode with a redefinition.
-fn modes(rt: &impl Abort, alloc: Global) -> Made {
-    let new = type_of(rt, alloc, ("(A.M1 (A.O2 A.O1))", ""));
-    Made::new(alloc)
-        .with(rt, alloc, mode(rt, alloc, "A.M1", OF_SET, SET))
-        .with(
-            rt,
-            alloc,
-            mode(rt, alloc, "A.M2", PLAIN, ("(A.M1 A.O1)", "")),
-        )
-        .with(rt, alloc, functor(rt, alloc, "A.O1", PLAIN, SET))
-        .with(rt, alloc, mode_again(rt, alloc, ("A.M2", ""), PLAIN, new))
-}
-
 const OF_MODE: P = ("f", &[("(A.M1 A.O1)", "")], &[], &[0]);
 
 const OF_PLAIN: P = ("f", &[("A.M2", "")], &[], &[0]);
 
-/// A functor of sets.
-fn functors(rt: &impl Abort, alloc: Global) -> Made {
-    let f = functor(rt, alloc, "A.O2", ("f", &[SET], &[], &[0]), ("A.M2", ""));
-    modes(rt, alloc).with(rt, alloc, f)
-}
-
-/// With two redefinitions.
-fn redefined_functors(rt: &impl Abort, alloc: Global) -> Made {
-    let once = functor_again(rt, alloc, "(A.O2 b0)", OF_MODE, ("(A.M1 b0)", ""));
-    let twice = functor_again(rt, alloc, "(A.O2 b0)", OF_PLAIN, ("A.M2", "A.V1"));
-    functors(rt, alloc)
-        .with(rt, alloc, once)
-        .with(rt, alloc, twice)
-}
+/// A mode with an argument, a constant of the functor, a mode with a redefinition, and a functor of sets with two.
+const REDEFINED: [ItemRow; 7] = [
+    ItemRow::Mode("A.M1", OF_SET, SET, "true"),
+    ItemRow::Mode("A.M2", PLAIN, ("(A.M1 A.O1)", ""), "true"),
+    ItemRow::Functor("A.O1", PLAIN, SET, "true"),
+    ItemRow::ModeAgain(("A.M2", ""), PLAIN, OBJECT, ("(A.M1 (A.O2 A.O1))", "")),
+    ItemRow::Functor("A.O2", ("f", &[SET], &[], &[0]), ("A.M2", ""), "true"),
+    ItemRow::FunctorAgain("(A.O2 b0)", OF_MODE, OBJECT, ("(A.M1 b0)", "")),
+    ItemRow::FunctorAgain("(A.O2 b0)", OF_PLAIN, OBJECT, ("A.M2", "A.V1")),
+];
 
 /// The latest redefinition first where its guards fit; a radix that stands there already is left out.
 #[test]
 fn redefinitions_stand_before_the_definition(rt: HostRuntime) {
-    let made = redefined_functors(&rt, rt.alloc());
+    let made = Made::of(&rt, rt.alloc(), &REDEFINED);
     let ctx = in_force(&rt, rt.alloc(), &[(SET, ""), (("A.M2", ""), "")]);
     let rows = [
         (
@@ -169,31 +145,32 @@ fn redefinitions_stand_before_the_definition(rt: HostRuntime) {
     check_chains(&rt, rt.alloc(), made, ctx, &rows);
 }
 
-const FIELDS: [F; 2] = [("A.U1", SET), ("A.U2", ("(A.M1 b1)", ""))];
+const FIRST: F = ("A.U1", SET);
+
+const SECOND: F = ("A.U2", ("(A.M1 b1)", ""));
 
 /// A structure with one field, one with a further field, and one with both as ancestors.
-fn structures(rt: &impl Abort, alloc: Global) -> Made {
-    let first = structure(rt, alloc, ("A.G1", "A.V2", "A.A1"), &[], &FIELDS[..1]);
-    let second = structure(
-        rt,
-        alloc,
+const STRUCTURES: [ItemRow; 4] = [
+    ItemRow::Mode("A.M1", OF_SET, SET, "true"),
+    ItemRow::Structure(("A.G1", "A.V2", "A.A1"), &[], &[FIRST], &[]),
+    ItemRow::Structure(
         ("A.G2", "A.V3", "A.A2"),
         &[("A.G1", "")],
-        &FIELDS,
-    );
-    let both = [("A.G1", ""), ("A.G2", "")];
-    let third = structure(rt, alloc, ("A.G3", "A.V4", "A.A3"), &both, &FIELDS);
-    Made::new(alloc)
-        .with(rt, alloc, mode(rt, alloc, "A.M1", OF_SET, SET))
-        .with(rt, alloc, first)
-        .with(rt, alloc, second)
-        .with(rt, alloc, third)
-}
+        &[FIRST, SECOND],
+        &[],
+    ),
+    ItemRow::Structure(
+        ("A.G3", "A.V4", "A.A3"),
+        &[("A.G1", ""), ("A.G2", "")],
+        &[FIRST, SECOND],
+        &[],
+    ),
+];
 
 /// Ancestors, of which one is inherited twice; fields; aggregates whose arguments fit or don't.
 #[test]
 fn structures_have_ancestors_fields_and_aggregates(rt: HostRuntime) {
-    let made = structures(&rt, rt.alloc());
+    let made = Made::of(&rt, rt.alloc(), &STRUCTURES);
     let ks: [K; 3] = [(SET, ""), (("A.G3", ""), ""), (("(A.M1 c1)", ""), "")];
     let ctx = in_force(&rt, rt.alloc(), &ks);
     let rows = [
@@ -222,13 +199,13 @@ fn numbered_type(rt: &impl Abort, alloc: Global, number: u32) -> SoftType {
 /// With the mode redefined once more, with the radix that has the number.
 fn redefined(rt: &impl Abort, alloc: Global, made: Made, number: u32) -> Made {
     let new = numbered_type(rt, alloc, number);
-    made.with(rt, alloc, mode_again(rt, alloc, ("A.M1", ""), PLAIN, new))
+    let again = mode_again(alloc, ("A.M1", ""), PLAIN, OBJECT, new).expect(rt, "an item");
+    made.with_item(rt, alloc, again)
 }
 
 /// A mode that is redefined so often, each time with a radix that isn't there yet.
 fn often_redefined(rt: &impl Abort, alloc: Global, count: u32) -> Made {
-    let plain = mode(rt, alloc, "A.M1", PLAIN, SET);
-    let mut made = Made::new(alloc).with(rt, alloc, plain);
+    let mut made = Made::of(rt, alloc, &[ItemRow::Mode("A.M1", PLAIN, SET, "true")]);
     for k in 0..count {
         made = redefined(rt, alloc, made, k.saturating_add(2));
     }
@@ -259,13 +236,17 @@ fn no_more_than_256_radices(rt: HostRuntime) {
     check_redefined(&rt, rt.alloc(), 255, 258);
 }
 
+const TO_MODE: L = ("", "A.F1", &[SET], Some(("(A.M1 b0)", "")));
+
+const TO_STRUCTURE: L = ("", "A.F2", &[("A.G1", "")], Some(("A.G2", "")));
+
 /// Letters with their types, where the guards of the arguments fit, an aggregate's and a letter's among them.
 #[test]
 fn a_letter_begins_with_its_type(rt: HostRuntime) {
-    let made = structures(&rt, rt.alloc());
+    let made = Made::of(&rt, rt.alloc(), &STRUCTURES);
     let ctx = in_force(&rt, rt.alloc(), &[(SET, ""), (("A.G2", ""), "")]);
-    let ctx = with_letter(&rt, rt.alloc(), ctx, "A.F1", &[SET], ("(A.M1 b0)", ""));
-    let ctx = with_letter(&rt, rt.alloc(), ctx, "A.F2", &[("A.G1", "")], ("A.G2", ""));
+    let ctx = with_letter(&rt, rt.alloc(), ctx, TO_MODE);
+    let ctx = with_letter(&rt, rt.alloc(), ctx, TO_STRUCTURE);
     let rows = [
         ("(A.F1 c1)", "(A.M1 c1) HIDDEN.M2 "),
         ("(A.F2 c1)", ""),

@@ -19,6 +19,12 @@ use std::alloc::Global;
 /// A type: its radix and its adjectives, as atoms without their last argument.
 pub type T = (&'static str, &'static str);
 
+/// The type `object`.
+pub const OBJECT: T = ("HIDDEN.M1", "");
+
+/// The type `set`.
+pub const SET: T = ("HIDDEN.M2", "");
+
 /// A constant: its type, and its equal term, or nothing.
 pub type K = (T, &'static str);
 
@@ -47,7 +53,8 @@ fn adjective(l: Literal) -> Result<Adjective, SampleFault> {
     }
 }
 
-fn adjectives(alloc: Global, text: &str) -> Result<Adjectives, SampleFault> {
+/// The adjectives of a text, as literals without their last argument.
+pub fn adjectives(alloc: Global, text: &str) -> Result<Adjectives, SampleFault> {
     let mut out = Adjectives::new(alloc);
     for l in literals(alloc, text)?.items {
         let adjective = adjective(l)?;
@@ -100,7 +107,8 @@ pub fn constants(alloc: Global, ks: &[K]) -> Result<Constants, SampleFault> {
     Ok(out)
 }
 
-fn trigger(alloc: Global, text: &str) -> Result<Trigger, SampleFault> {
+/// The trigger of a text: a term, or the atom of a literal.
+pub fn trigger(alloc: Global, text: &str) -> Result<Trigger, SampleFault> {
     match term(alloc, text) {
         Ok(t) => Ok(Trigger::Term(t)),
         Err(_) => match literal(alloc, text)? {

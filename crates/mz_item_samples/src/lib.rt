@@ -1,0 +1,10 @@
+//! Types, constants, clauses, statements, items and contexts, read from their texts, and the texts of statements, types
+//! and refusals. For tests alone.
+#![tactic(auto)]
+
+pub mod contexts;
+pub mod items;
+pub mod refusals;
+pub mod statements;
+pub mod texts;
+pub mod types;
