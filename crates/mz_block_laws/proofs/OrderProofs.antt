@@ -31,8 +31,8 @@ use Rattle.mz_names.specs.Closing.{constant_of, with_variables}
 use Rattle.mz_names.specs.declared.variable.Variable.{Variable}
 use Rattle.mz_steps.specs.Rows.{with_constants, constant_for}
 use Rattle.mz_steps.specs.Changes.{statement_of, label_of, joined_by, with_thesis, with_stated, at_start_of_proof, at_start_of_now}
-use Rattle.mz_steps.specs.declared.effects.Effect.{Effect}
-use Rattle.mz_steps.specs.declared.effects.Effect.TheVariants as effect
+use Rattle.mz_steps.specs.declared.block.Effect.{Effect}
+use Rattle.mz_steps.specs.declared.block.Effect.TheVariants as effect
 use Rattle.mz_steps.specs.declared.read_step.ReadStep.{ReadStep}
 use Rattle.mz_steps.specs.declared.read_step.ReadStep.TheVariants.{Let, Assume, Given, Thus, Take, Consider, Reconsider, Set, State}
 use Rattle.mz_steps_laws.specs.Facts.{known_from, just_before, letter_of, statements_in}

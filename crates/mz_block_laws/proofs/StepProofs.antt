@@ -22,8 +22,8 @@ use Rattle.mz_steps.specs.Rows.{thesis_step, with_constants, constant_for, owed,
 use Rattle.mz_steps.specs.Effects.{Led, ActsBy, may_be_said}
 use Rattle.mz_steps.specs.Changes.{block_after, with_thesis, context_after}
 use Rattle.mz_steps.specs.declared.block.Block.TheVariants.{Proof, Now}
-use Rattle.mz_steps.specs.declared.effects.Effect.{Effect}
-use Rattle.mz_steps.specs.declared.effects.Effect.TheVariants as effect
+use Rattle.mz_steps.specs.declared.block.Effect.{Effect}
+use Rattle.mz_steps.specs.declared.block.Effect.TheVariants as effect
 use Rattle.mz_steps.specs.declared.read_step.ReadStep.{ReadStep}
 use Rattle.mz_steps.specs.declared.read_step.ReadStep.TheVariants.{Let, Assume, Given, Thus, Take, Consider, Reconsider, Set, State}
 use Rattle.mz_steps_laws.specs.Facts.{facts, Rests}

@@ -23,7 +23,7 @@ use Rattle.mz_steps.specs.Changes.{block_after, statement_of, with_stated, conte
 use Rattle.mz_steps.specs.Equalities.{neighbours, ends_equal}
 use Rattle.mz_steps.specs.declared.block.Block.{Block}
 use Rattle.mz_steps.specs.declared.block.Block.TheVariants.{Proof, Now}
-use Rattle.mz_steps.specs.declared.effects.Effect.{Effect}
+use Rattle.mz_steps.specs.declared.block.Effect.{Effect}
 use Rattle.mz_steps.specs.declared.read_step.ReadStep.{ReadStep}
 use Rattle.mz_steps_laws.specs.Facts.{facts}
 use Rattle.mz_steps_laws.specs.StepLaws.{gained, OwedDerives}

@@ -16,7 +16,7 @@ use mz_performing::linked::is_linked;
 use mz_performing::perform::fit;
 use mz_steps::block::Block;
 use mz_steps::changes::carry_out;
-use mz_steps::effects::Effect;
+use mz_steps::block::Effect;
 use mz_tree_proof::equality_step::EqualityStepTree;
 use mz_tree_proof::propositions::PropositionTree;
 use mz_walk::compact::Compact;

@@ -4,4 +4,5 @@
 pub mod front;
 pub mod front_fault;
 pub mod laws;
+pub mod stages;
 pub mod told;

@@ -2,7 +2,8 @@
 use crate::texts::{READ, Told, exports, told};
 use mz_base::text::Text;
 use mz_base::vocabularies::Vocabularies;
-use mz_front::front::{Front, end, front};
+use mz_front::front::{Front, end};
+use mz_front::stages::front;
 use mz_tree_item::article::{ArticlePartTree, ItemTree};
 use std::alloc::Global;
 use std::mem::forget;

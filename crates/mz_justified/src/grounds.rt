@@ -14,7 +14,7 @@ use mz_context::context::Context;
 use mz_core::outcome::Left;
 use mz_core::statements::Statements;
 use mz_environment::environment::Environment;
-use mz_obligations::obligation::spend_obligation;
+use mz_obligations::spend_obligation::spend_obligation;
 use mz_steps::premises::given;
 use mz_tree_proof::references::SimpleTree;
 use std::alloc::{AllocError, Global};

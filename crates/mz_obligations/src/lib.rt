@@ -2,3 +2,4 @@
 #![tactic(auto)]
 
 pub mod obligation;
+pub mod spend_obligation;

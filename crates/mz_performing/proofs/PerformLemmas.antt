@@ -16,7 +16,7 @@ use Rattle.mz_fits.proofs.FitLemmas.{empty}
 use Rattle.mz_steps.specs.Changes.{block_after, context_after, with_stated}
 use Rattle.mz_steps.specs.Effects.{Acts, IsUnfit}
 use Rattle.mz_steps.specs.declared.block.Block.{Block}
-use Rattle.mz_steps.specs.declared.effects.Effect.{Effect}
+use Rattle.mz_steps.specs.declared.block.Effect.{Effect}
 use Rattle.mz_steps.specs.declared.read_step.ReadStep.{ReadStep}
 use Rattle.mz_parts.specs.Joined.{joined_within}
 use Rattle.mz_justified.specs.Answers.{OnMade}

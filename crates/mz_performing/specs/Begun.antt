@@ -11,7 +11,7 @@ use Rattle.mz_types.specs.Known.{typing}
 use Rattle.mz_steps.specs.Changes.{with_stated, outside_of}
 use Rattle.mz_steps.specs.Effects.{Acts}
 use Rattle.mz_steps.specs.declared.block.Block.{Block}
-use Rattle.mz_steps.specs.declared.effects.Effect.{Effect}
+use Rattle.mz_steps.specs.declared.block.Effect.{Effect}
 use Rattle.mz_steps.specs.declared.block.Outside.{Outside}
 use Rattle.mz_steps.specs.declared.read_step.ReadStep.{ReadStep}
 use Rattle.mz_tree_proof.specs.Reasoning.{JustData, StatedCompact}

@@ -4,7 +4,7 @@ ghost use Rattle.mz_walk.specs.Walk.{step_of};
 
 use mz_context::labelled::LabelledStatements;
 use mz_core::statement::Statement;
-use mz_steps::effects::Effect;
+use mz_steps::block::Effect;
 use mz_steps::read_step::ReadStep;
 use mz_walk::compact::Compact;
 use std::alloc::{AllocError, Global};

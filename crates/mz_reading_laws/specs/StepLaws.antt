@@ -10,8 +10,8 @@ use Rattle.mz_names.specs.Closing.{with_variables}
 use Rattle.mz_names.specs.declared.variable.Variable.{Variable}
 use Rattle.mz_steps.specs.Rows.{constant_for, with_constants}
 use Rattle.mz_steps.specs.Changes.{context_after, at_start_of_proof, at_start_of_now}
-use Rattle.mz_steps.specs.declared.effects.Effect.{Effect}
-use Rattle.mz_steps.specs.declared.effects.Effect.TheVariants.{Unchanged, Leaves, Says}
+use Rattle.mz_steps.specs.declared.block.Effect.{Effect}
+use Rattle.mz_steps.specs.declared.block.Effect.TheVariants.{Unchanged, Leaves, Says}
 use Rattle.mz_steps.specs.declared.read_step.ReadStep.{ReadStep}
 use Rattle.mz_steps.specs.declared.read_step.ReadStep.TheVariants.{Let, Assume, Given, Thus, Take, Consider, Reconsider, Set, State}
 use Rattle.mz_thesis_laws.specs.RowLaws.{AreInForce}

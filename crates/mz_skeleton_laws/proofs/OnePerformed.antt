@@ -8,7 +8,7 @@ use Rattle.mz_names.specs.declared.refusal.Refusal.{Refusal}
 use Rattle.mz_names.specs.declared.refusal.Refusal.TheVariants.{TooLarge}
 use Rattle.mz_types.specs.Known.{typing}
 use Rattle.mz_steps.specs.Effects.{Acts}
-use Rattle.mz_steps.specs.declared.effects.Effect.{Effect}
+use Rattle.mz_steps.specs.declared.block.Effect.{Effect}
 use Rattle.mz_steps.specs.declared.read_step.ReadStep.{ReadStep}
 use Rattle.mz_steps.proofs.OneEffect.{one_effect_law}
 use Rattle.mz_justified.specs.declared.proof_fault.ProofRefusal.{ProofRefusal}

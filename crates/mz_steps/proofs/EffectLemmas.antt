@@ -11,8 +11,8 @@ use Rattle.mz_thesis.specs.declared.step.Step.{Step}
 use Rattle.mz_thesis.specs.declared.thesis_fault.ThesisFault.{ThesisFault}
 use Rattle.mz_thesis.specs.declared.thesis_fault.ThesisFault.TheVariants.{NoFit, Memory}
 use Rattle.mz_steps.specs.Effects.{Led, IsUnled}
-use Rattle.mz_steps.specs.declared.effects.Effect.{Effect}
-use Rattle.mz_steps.specs.declared.effects.Effect.TheVariants.{Unchanged, Leaves, Says}
+use Rattle.mz_steps.specs.declared.block.Effect.{Effect}
+use Rattle.mz_steps.specs.declared.block.Effect.TheVariants.{Unchanged, Leaves, Says}
 
 pub told_led : (cs : List Clause) (us : List Unfolding) (c : Context) (o : Option Statement) (thesis after : Statement) (step : Step) → o ≡ Some thesis → Leads cs c.constants us thesis step after → Led cs us c o step (Some (Leaves after))
 told_led cs us c o thesis after step e h = subst (λ p. Led cs us c p step (Some (Leaves after))) (sym e) (Some after, h, refl)

@@ -12,7 +12,7 @@ use Rattle.mz_steps.specs.Effects.{left_of, Led, ActsBy, Acts}
 use Rattle.mz_steps.specs.declared.read_step.ReadStep.{ReadStep}
 use Rattle.mz_steps.specs.declared.block.Block.{Block}
 use Rattle.mz_steps.specs.declared.block.Block.TheVariants.{Proof, Now}
-use Rattle.mz_steps.specs.declared.effects.Effect.{Effect}
+use Rattle.mz_steps.specs.declared.block.Effect.{Effect}
 use Rattle.mz_steps.specs.Laws.{OneEffectLaw}
 
 one_led : (cs : List Clause) (us : List Unfolding) (c : Context) (thesis : Option Statement) (step : Step) (o p : Option Effect) → Led cs us c thesis step o → Led cs us c thesis step p → o ≡ p

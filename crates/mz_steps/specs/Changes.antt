@@ -11,8 +11,8 @@ use Rattle.mz_now.specs.declared.now_part.NowPart.{NowPart}
 use Rattle.mz_steps.specs.declared.read_step.ReadStep.{ReadStep}
 use Rattle.mz_steps.specs.declared.block.Block.{Block}
 use Rattle.mz_steps.specs.declared.block.Block.TheVariants.{Proof, Now}
-use Rattle.mz_steps.specs.declared.effects.Effect.{Effect}
-use Rattle.mz_steps.specs.declared.effects.Effect.TheVariants.{Unchanged, Leaves, Says}
+use Rattle.mz_steps.specs.declared.block.Effect.{Effect}
+use Rattle.mz_steps.specs.declared.block.Effect.TheVariants.{Unchanged, Leaves, Says}
 use Rattle.mz_steps.specs.declared.block.Outside.{Outside}
 
 -- the block behind a step that does this in it

@@ -6,7 +6,7 @@ use Rattle.mz_environment.specs.declared.unfoldings.Unfolding.{Unfolding}
 use Rattle.mz_steps.specs.Effects.{Acts}
 use Rattle.mz_steps.specs.declared.read_step.ReadStep.{ReadStep}
 use Rattle.mz_steps.specs.declared.block.Block.{Block}
-use Rattle.mz_steps.specs.declared.effects.Effect.{Effect}
+use Rattle.mz_steps.specs.declared.block.Effect.{Effect}
 
 -- a step does one thing at most in a block
 abbrev pub OneEffectLaw : Type 0

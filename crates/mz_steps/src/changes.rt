@@ -3,8 +3,7 @@ ghost use Rattle.std.specs.Prelude.{◌≡◌, ◌++◌, map, flat_map, IfOk, On
 ghost use Rattle.mz_core.specs.Parts.{conjunction};
 ghost use Rattle.mz_steps.specs.Changes.{block_after, with_thesis, statement_of, joined_by, label_of, with_stated, context_after, outside_of, at_start_of_proof, at_start_of_now};
 
-use crate::block::{Block, Outside};
-use crate::effects::Effect;
+use crate::block::{Block, Effect, Outside};
 use crate::read_step::ReadStep;
 use crate::rows::put_constants;
 use mz_base::text::Text;

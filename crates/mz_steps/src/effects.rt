@@ -9,7 +9,7 @@ ghost use Rattle.mz_now.specs.Stated.{brings_hidden};
 ghost use Rattle.mz_steps.specs.Rows.{thesis_step};
 ghost use Rattle.mz_steps.specs.Effects.{Led, IsUnled, ActsBy, IsUnfitBy, Acts, says, IsUnfit};
 
-use crate::block::Block;
+use crate::block::{Block, Effect};
 use crate::read_step::ReadStep;
 use crate::rows::{existential, next_number, parts_said, stands_in_now};
 use mz_context::context::Context;
@@ -24,17 +24,6 @@ use mz_thesis::apply::apply;
 use mz_thesis::step::Step;
 use mz_thesis::thesis_fault::ThesisFault;
 use std::alloc::{AllocError, Global};
-
-/// What a step does to its block.
-#[derive(Drop)]
-pub enum Effect {
-    /// The thesis stays, and so does what a `now` states.
-    Unchanged,
-    /// This is left of the thesis.
-    Leaves(Statement),
-    /// A `now` states this, too.
-    Says(NowParts),
-}
 
 /// What the step of the thesis leaves of the thesis of the context.
 #[tactic(auto, using(crate::proofs::EffectLemmas::led_rules))]

@@ -41,8 +41,8 @@ use Rattle.mz_steps.specs.Effects.{ActsBy}
 use Rattle.mz_steps.specs.declared.read_step.Definition.{Definition}
 use Rattle.mz_steps.specs.declared.read_step.ReadStep.{ReadStep}
 use Rattle.mz_steps.specs.declared.read_step.ReadStep.TheVariants.{Let, Assume, Given, Thus, Take, Consider, Reconsider, Set, State}
-use Rattle.mz_steps.specs.declared.effects.Effect.{Effect}
-use Rattle.mz_steps.specs.declared.effects.Effect.TheVariants.{Unchanged, Leaves}
+use Rattle.mz_steps.specs.declared.block.Effect.{Effect}
+use Rattle.mz_steps.specs.declared.block.Effect.TheVariants.{Unchanged, Leaves}
 use Rattle.mz_steps_laws.specs.Facts.{facts, Rests}
 use Rattle.mz_steps_laws.specs.StepLaws.{AreDeclared, guards_of, IsReadIn, gained, OwedDerives, thesis_left, StepInProofLaw}
 use Rattle.mz_steps_laws.proofs.FactLemmas.{granted, each_with_constant, each_with_variables, each_of_variable, each_of_definition}

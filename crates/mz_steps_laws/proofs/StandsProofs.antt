@@ -33,8 +33,8 @@ use Rattle.mz_steps.specs.Rows.{thesis_step, with_constants, constant_for}
 use Rattle.mz_steps.specs.Effects.{left_of, Led, ActsBy, Acts}
 use Rattle.mz_steps.specs.declared.read_step.ReadStep.{ReadStep}
 use Rattle.mz_steps.specs.declared.read_step.ReadStep.TheVariants.{Let, Assume, Given, Thus, Take, Consider, Reconsider, Set, State}
-use Rattle.mz_steps.specs.declared.effects.Effect.{Effect}
-use Rattle.mz_steps.specs.declared.effects.Effect.TheVariants.{Unchanged, Leaves, Says}
+use Rattle.mz_steps.specs.declared.block.Effect.{Effect}
+use Rattle.mz_steps.specs.declared.block.Effect.TheVariants.{Unchanged, Leaves, Says}
 use Rattle.mz_steps_laws.specs.Facts.{facts, Rests}
 use Rattle.mz_steps_laws.specs.StepLaws.{IsReadIn, thesis_left, ThesisStandsLaw}
 use Rattle.mz_steps_laws.proofs.FactLemmas.{next_with}

@@ -9,7 +9,7 @@ use Rattle.mz_context.specs.declared.private.PrivateFunctor.{PrivateFunctor}
 use Rattle.mz_context.specs.declared.private.PrivatePredicate.{PrivatePredicate}
 use Rattle.mz_context.specs.declared.reserved.ReservedVariable.{ReservedVariable}
 use Rattle.mz_steps.specs.Changes.{context_after, outside_of, at_start_of_proof, at_start_of_now, behind_block}
-use Rattle.mz_steps.specs.declared.effects.Effect.{Effect}
+use Rattle.mz_steps.specs.declared.block.Effect.{Effect}
 use Rattle.mz_steps.specs.declared.read_step.ReadStep.{ReadStep}
 use Rattle.mz_core.specs.Statement.{Statement}
 

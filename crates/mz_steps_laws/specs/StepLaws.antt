@@ -23,8 +23,8 @@ use Rattle.mz_steps.specs.Changes.{statement_of, with_stated}
 use Rattle.mz_steps.specs.declared.read_step.ReadStep.{ReadStep}
 use Rattle.mz_steps.specs.declared.read_step.ReadStep.TheVariants.{Let, Assume, Given, Thus, Take, Consider, Reconsider, Set, State}
 use Rattle.mz_steps.specs.declared.block.Block.TheVariants.{Proof}
-use Rattle.mz_steps.specs.declared.effects.Effect.{Effect}
-use Rattle.mz_steps.specs.declared.effects.Effect.TheVariants.{Unchanged, Leaves, Says}
+use Rattle.mz_steps.specs.declared.block.Effect.{Effect}
+use Rattle.mz_steps.specs.declared.block.Effect.TheVariants.{Unchanged, Leaves, Says}
 use Rattle.mz_steps_laws.specs.Facts.{facts, Rests}
 
 -- the type of each variable is in force behind the variables before it, and the statement behind all; the first one has

@@ -13,8 +13,8 @@ use Rattle.mz_steps.specs.Changes.{block_after, context_after, with_stated}
 use Rattle.mz_steps.specs.Effects.{Acts}
 use Rattle.mz_steps.specs.declared.block.Block.{Block}
 use Rattle.mz_steps.specs.declared.block.Block.TheVariants.{Proof, Now}
-use Rattle.mz_steps.specs.declared.effects.Effect.{Effect}
-use Rattle.mz_steps.specs.declared.effects.Effect.TheVariants.{Unchanged, Leaves, Says}
+use Rattle.mz_steps.specs.declared.block.Effect.{Effect}
+use Rattle.mz_steps.specs.declared.block.Effect.TheVariants.{Unchanged, Leaves, Says}
 use Rattle.mz_steps.specs.declared.read_step.ReadStep.{ReadStep}
 use Rattle.mz_parts.specs.Joined.{joined_within}
 use Rattle.mz_justified.specs.declared.proof_fault.ProofRefusal.{ProofRefusal}

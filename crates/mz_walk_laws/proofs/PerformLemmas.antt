@@ -22,8 +22,8 @@ use Rattle.mz_steps.specs.Effects.{Acts, may_be_said}
 use Rattle.mz_steps.specs.Changes.{with_thesis}
 use Rattle.mz_steps.specs.declared.block.Block.{Block}
 use Rattle.mz_steps.specs.declared.block.Block.TheVariants.{Proof, Now}
-use Rattle.mz_steps.specs.declared.effects.Effect.{Effect}
-use Rattle.mz_steps.specs.declared.effects.Effect.TheVariants as effect
+use Rattle.mz_steps.specs.declared.block.Effect.{Effect}
+use Rattle.mz_steps.specs.declared.block.Effect.TheVariants as effect
 use Rattle.mz_steps.specs.declared.read_step.ReadStep.{ReadStep}
 use Rattle.mz_steps.specs.declared.read_step.ReadStep.TheVariants as read
 use Rattle.mz_obligations.specs.declared.obligation.Obligation.{Obligation}

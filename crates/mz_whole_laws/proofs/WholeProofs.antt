@@ -23,7 +23,7 @@ use Rattle.mz_names.specs.declared.variable.Variable.{Variable}
 use Rattle.mz_tree.specs.declared.word.Word.{Word}
 use Rattle.mz_formulas.specs.Declarations.{variable_of, as_variable, reserved_variable}
 use Rattle.mz_thesis_laws.proofs.UnfoldProofs.{some-inj, none_some}
-use Rattle.mz_steps.specs.declared.effects.Effect.TheVariants.{Unchanged}
+use Rattle.mz_steps.specs.declared.block.Effect.TheVariants.{Unchanged}
 use Rattle.mz_steps.specs.declared.read_step.ReadStep.TheVariants.{State}
 use Rattle.mz_steps_laws.proofs.FactLemmas.{next_with}
 use Rattle.mz_choice_laws.specs.Known.{radix_known}
