@@ -12,13 +12,8 @@ use mz_logic::formula::Formula;
 use mz_now::hidden::{brings_hidden, defined};
 use mz_now::now_part::{NowPart, NowParts};
 use mz_now::stated::stated_by;
-<<<<<<< HEAD
 use mz_samples::forms::formula;
-use mz_steps::block::Block;
-=======
-use mz_samples::forms::{formula, term};
 use mz_steps::block::{Block, Effect};
->>>>>>> b6105a3b5649f0adea099e28a565d69389c1acd3
 use mz_steps::effects::effect;
 use mz_steps::read_step::ReadStep;
 use std::alloc::Global;
