@@ -1,12 +1,12 @@
 //! A chain of registrations: what is `one` is `two`, what is `two` is `three`, what is `three` is `four`, and each
 //! value of the functor is `one`. They have no type in their premises.
-use crate::tests::problem;
 use mz_by::by::{ByVerdict, by_first};
 use mz_ground::clauses::Clauses;
 use mz_ground::ground::ground;
 use mz_ground::layer_ends::LayerEnd;
 use mz_item_samples::types::{C, clauses};
 use mz_nf::disjuncts::disjuncts;
+use mz_nf_tests::samples::problem;
 use std::alloc::Global;
 use std::mem::forget;
 use std::process::Abort;
@@ -30,7 +30,7 @@ fn clauses_of(rt: &impl Abort, alloc: Global, rows: &[C]) -> Clauses {
 const PROBLEM: &str = "|- (all (A.V4 (A.O1 b0)))";
 
 fn verdict(rt: &impl Abort, alloc: Global, rows: &[C], count: usize) -> ByVerdict {
-    let p = problem(rt, alloc, PROBLEM);
+    let p = problem(alloc, PROBLEM).expect(rt, "a sequent");
     let clauses = clauses_of(rt, alloc, rows);
     let found = by_first(alloc, &p, &clauses, count).expect(rt, "memory");
     forget(p);
@@ -94,7 +94,7 @@ fn check_layers(rt: &impl Abort, ends: &[LayerEnd], wanted: &[usize]) {
 #[test]
 fn one_attribute_a_layer(rt: HostRuntime) {
     let alloc = rt.alloc();
-    let p = problem(&rt, alloc, PROBLEM);
+    let p = problem(alloc, PROBLEM).expect(&rt, "a sequent");
     let split = disjuncts(alloc, &p).expect(&rt, "few disjuncts");
     forget(p);
     let chain = clauses_of(&rt, alloc, &[ONE, TWO, THREE, FUNCTORIAL]);
