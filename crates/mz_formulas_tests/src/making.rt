@@ -1,7 +1,6 @@
 //! A small environment and a small context. What a test is done with is forgotten, not dropped.
 use mz_axioms::built_in::built_in;
 use mz_base::name::Name;
-use mz_base::token::Tokens;
 use mz_context::context::Context;
 use mz_core::statement::Statement;
 use mz_env::accommodate::accommodate;
@@ -11,26 +10,12 @@ use mz_item_samples::contexts::{V, put_constants, put_reserved, start};
 use mz_item_samples::items::{ItemRow, item};
 use mz_item_samples::types::{OBJECT, SET};
 use mz_lex::head::head;
-use mz_parser_samples::texts::article_tokens;
 use std::alloc::Global;
 use std::mem::forget;
 use std::process::Abort;
 
 /// Two functors, a mode, two attributes and a predicate.
-const SYMBOLS: &[u8] = b"O+\nO*\nMElm\nVempty\nVbig\nR##\n";
-
-const ENVIRON: &[u8] = b"environ vocabularies A; begin ";
-
-/// The tokens of the text behind `begin`. Its first byte stands in column 31.
-pub fn tokens_of(rt: &impl Abort, alloc: Global, text: &str) -> Tokens {
-    let mut bytes = Vec::from_slice(alloc, ENVIRON).expect(rt, "memory");
-    bytes
-        .extend_from_slice(text.as_bytes())
-        .expect(rt, "memory");
-    let found = article_tokens(alloc, SYMBOLS, bytes.as_slice()).expect(rt, "tokens");
-    forget(bytes);
-    found
-}
+pub const SYMBOLS: &[u8] = b"O+\nO*\nMElm\nVempty\nVbig\nR##\n";
 
 /// `+` of two objects, which is a set; the mode `Elm of` a set; the attributes `empty` of sets and `big` of a set before it
 /// and a set; the predicate `##` of a set and an element of it. There is a set that isn't empty.

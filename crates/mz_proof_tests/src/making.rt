@@ -13,7 +13,7 @@ use mz_item_samples::items::{ItemRow, MeaningRow, item};
 use mz_item_samples::statements::statement;
 use mz_item_samples::types::{OBJECT, SET};
 use mz_logic::kind::Kind;
-use mz_parser_samples::texts::article_tokens;
+use mz_parser_samples::texts::tokens_below;
 use std::alloc::Global;
 use std::mem::forget;
 use std::process::Abort;
@@ -21,21 +21,13 @@ use std::process::Abort;
 const SYMBOLS: &[u8] =
     b"Rp\nRq\nRr\nRc=\nRu1\nRu2\nRu3\nRu4\nRu5\nRu6\nRu7\nRu8\nRu9\nRhas\nMElm\nVempty\nOsin\n";
 
-const ENVIRON: &[u8] = b"environ vocabularies A; begin\n";
-
 fn name(rt: &impl Abort, word: &str) -> Name {
     Name::read(word.as_bytes()).expect(rt, "a name")
 }
 
 /// The tokens of the text behind `begin`, from the sixth on. It stands on the second line, from column 1 on.
 pub fn tokens_of(rt: &impl Abort, alloc: Global, text: &str) -> Tokens {
-    let mut bytes = Vec::from_slice(alloc, ENVIRON).expect(rt, "memory");
-    bytes
-        .extend_from_slice(text.as_bytes())
-        .expect(rt, "memory");
-    let found = article_tokens(alloc, SYMBOLS, bytes.as_slice()).expect(rt, "tokens");
-    forget(bytes);
-    found
+    tokens_below(alloc, SYMBOLS, text.as_bytes()).expect(rt, "tokens")
 }
 
 /// The statement of a text, whose quantifiers are of objects.
