@@ -1,5 +1,5 @@
 //! Texts, and what they are read to.
-use crate::making::{SYMBOLS, context, environment};
+use crate::environment::{SYMBOLS, context, environment};
 use mz_context::context::Context;
 use mz_core::statement::Statement;
 use mz_environment::environment::Environment;

@@ -1,6 +1,6 @@
 //! A small article, at a place of which the tables' texts stand.
-use crate::making::{Private, put_functors, put_predicates, term_of};
-use crate::reading::Symbols;
+use crate::answers::Symbols;
+use crate::environments::{Private, put_functors, put_predicates, term_of};
 use mz_context::context::Context;
 use mz_core::statement::Statement;
 use mz_item_samples::contexts::{L, V, put_constants, put_letters, put_reserved, start};

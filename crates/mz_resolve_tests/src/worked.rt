@@ -1,7 +1,7 @@
 //! Small articles that were worked out by hand: what is covered by a registration, functors of two priorities, a predicate
 //! that is defined twice, and elements of structures.
-use crate::making::{environment, term_of};
-use crate::reading::{Call, Row, Symbols, check};
+use crate::answers::{Call, Row, Symbols, check};
+use crate::environments::{environment, term_of};
 use mz_context::context::Context;
 use mz_environment::environment::Environment;
 use mz_item_samples::contexts::{put_constants, start};

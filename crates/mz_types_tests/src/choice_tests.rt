@@ -1,6 +1,6 @@
 //! Chosen notations, worked out by hand from the rules.
+use crate::applications::{A, Row, applied, check_as, check_rows, means, reads};
 use crate::items::{Made, in_force, text_of, with_letter};
-use crate::making::{A, Row, applied, check_as, check_rows, means, reads};
 use mz_choice::choice::{Wanted, chosen_by};
 use mz_choice::resolve::resolve_by;
 use mz_context::context::Context;
