@@ -5,9 +5,9 @@ use mz_context::context::Context;
 use mz_core::statement::Statement;
 use mz_env::accommodate::accommodate;
 use mz_environment::environment::Environment;
-use mz_environment::numbering::Numbering;
 use mz_item_samples::contexts::{V, put_constants, put_reserved, start};
-use mz_item_samples::items::{ItemRow, item};
+use mz_item_samples::environments::put_items;
+use mz_item_samples::items::ItemRow;
 use mz_item_samples::types::{OBJECT, SET};
 use mz_lex::head::head;
 use std::alloc::Global;
@@ -36,21 +36,12 @@ fn number_of_a(rt: &impl Abort) -> u64 {
     Name::read(b"A").expect(rt, "a name").number()
 }
 
-fn with(rt: &impl Abort, alloc: Global, env: &mut Environment, at: &mut Numbering, row: ItemRow) {
-    let item = item(alloc, row).expect(rt, "an item");
-    env.add(alloc, at, &item).expect(rt, "memory");
-    forget(item);
-}
-
 /// HIDDEN's items, and these.
 pub fn environment(rt: &impl Abort, alloc: Global) -> Environment {
     let exports = built_in(alloc).expect(rt, "memory");
     let none = head(alloc, b"environ begin").expect(rt, "a head");
     let mut env = accommodate(alloc, &none, &exports).expect(rt, "an environment");
-    let mut at = Numbering::of_article(number_of_a(rt));
-    for row in &ITEMS {
-        with(rt, alloc, &mut env, &mut at, *row);
-    }
+    put_items(alloc, &mut env, number_of_a(rt), &ITEMS).expect(rt, "items");
     forget(exports);
     forget(none);
     env

@@ -9,7 +9,8 @@ use mz_core::statement::Statement;
 use mz_environment::environment::Environment;
 use mz_environment::numbering::Numbering;
 use mz_item_samples::contexts::{V, put_constants, put_reserved, start};
-use mz_item_samples::items::{ItemRow, MeaningRow, item};
+use mz_item_samples::environments::put_items;
+use mz_item_samples::items::{ItemRow, MeaningRow};
 use mz_item_samples::statements::statement;
 use mz_item_samples::types::{OBJECT, SET};
 use mz_logic::kind::Kind;
@@ -91,12 +92,6 @@ const ITEMS: [ItemRow; 18] = [
     ItemRow::Existential(&[], "(not A.V1)", SET),
 ];
 
-fn with(rt: &impl Abort, alloc: Global, env: &mut Environment, at: &mut Numbering, row: ItemRow) {
-    let item = item(alloc, row).expect(rt, "an item");
-    env.add(alloc, at, &item).expect(rt, "memory");
-    forget(item);
-}
-
 fn with_export(rt: &impl Abort, alloc: Global, env: &mut Environment, export: &Export) {
     let mut at = Numbering::of_article(export.name.number());
     for item in &export.items.items {
@@ -121,10 +116,7 @@ fn with_built_in(rt: &impl Abort, alloc: Global, env: &mut Environment) {
 pub fn environment(rt: &impl Abort, alloc: Global) -> Environment {
     let mut env = Environment::new(alloc);
     with_built_in(rt, alloc, &mut env);
-    let mut at = Numbering::of_article(name(rt, "A").number());
-    for row in &ITEMS {
-        with(rt, alloc, &mut env, &mut at, *row);
-    }
+    put_items(alloc, &mut env, name(rt, "A").number(), &ITEMS).expect(rt, "items");
     env
 }
 

@@ -1,11 +1,11 @@
-//! Environments of small articles and contexts in them, from rows. What a test is done with is forgotten, not dropped.
+//! Environments of small articles and contexts in them, from rows.
 use mz_base::text::Text;
 use mz_context::context::Context;
 use mz_context::private::{PrivateFunctor, PrivatePredicate};
 use mz_core::soft_types::SoftTypes;
 use mz_environment::environment::Environment;
-use mz_environment::numbering::Numbering;
-use mz_item_samples::items::{ItemRow, MeaningRow, item};
+use mz_item_samples::environments::put_items;
+use mz_item_samples::items::{ItemRow, MeaningRow};
 use mz_item_samples::statements::statement;
 use mz_item_samples::types::{OBJECT, SET, T, types};
 use mz_logic::kind::Kind;
@@ -14,7 +14,6 @@ use mz_logic::term::Term;
 use mz_samples::forms::term;
 use mz_samples::symbols::symbol;
 use std::alloc::Global;
-use std::mem::forget;
 use std::process::Abort;
 
 fn text_of(rt: &impl Abort, alloc: Global, word: &str) -> Text {
@@ -33,19 +32,6 @@ pub fn term_of(rt: &impl Abort, alloc: Global, text: &str) -> Term {
 
 fn types_of(rt: &impl Abort, alloc: Global, ts: &[T]) -> SoftTypes {
     types(alloc, ts).expect(rt, "types")
-}
-
-fn put(rt: &impl Abort, alloc: Global, env: &mut Environment, row: ItemRow) {
-    let item = item(alloc, row).expect(rt, "an item");
-    let mut at = Numbering::of_article(1);
-    env.add(alloc, &mut at, &item).expect(rt, "memory");
-    forget(item);
-}
-
-fn put_items(rt: &impl Abort, alloc: Global, env: &mut Environment, rows: &[ItemRow]) {
-    for row in rows {
-        put(rt, alloc, env, *row);
-    }
 }
 
 const TWO: &[T] = &[OBJECT, OBJECT];
@@ -78,8 +64,8 @@ const HIDDEN: [ItemRow; 5] = [
 /// The environment with the notations of HIDDEN and the items of the rows.
 pub fn environment(rt: &impl Abort, alloc: Global, rows: &[ItemRow]) -> Environment {
     let mut env = Environment::new(alloc);
-    put_items(rt, alloc, &mut env, &HIDDEN);
-    put_items(rt, alloc, &mut env, rows);
+    put_items(alloc, &mut env, 1, &HIDDEN).expect(rt, "items");
+    put_items(alloc, &mut env, 1, rows).expect(rt, "items");
     env
 }
 
