@@ -1,9 +1,8 @@
-//! Texts of literals, and formulas, statements and sequents compared with texts.
+//! Formulas, statements and sequents compared with texts.
 use mz_core::erasure::erase;
 use mz_core::statement::Statement;
 use mz_logic::formula::Formula;
 use mz_logic::formulas::Formulas;
-use mz_logic::literal::Literal;
 use mz_logic::sequent::Sequent;
 use mz_logic::sequents::Sequents;
 use mz_logic::texts::{formula_text, push_formula};
@@ -17,12 +16,6 @@ pub fn digit(number: u64) -> u8 {
     } else {
         b'+'
     }
-}
-
-/// The text of the literal's formula.
-pub fn literal_text(alloc: Global, l: &Literal) -> Result<Vec<u8>, AllocError> {
-    let f = l.formula(alloc)?;
-    formula_text(alloc, &f)
 }
 
 /// Whether the formula has this text.
