@@ -5,7 +5,7 @@ use mz_context::context::Context;
 use mz_core::statement::Statement;
 use mz_env::accommodate::accommodate;
 use mz_environment::environment::Environment;
-use mz_item_samples::contexts::{V, put_constants, put_reserved, start};
+use mz_item_samples::contexts::{VariableRow, put_constants, put_reserved, start};
 use mz_item_samples::environments::put_items;
 use mz_item_samples::items::ItemRow;
 use mz_item_samples::types::{OBJECT, SET};
@@ -47,9 +47,9 @@ pub fn environment(rt: &impl Abort, alloc: Global) -> Environment {
     env
 }
 
-const CONSTANTS: [V; 2] = [("c", OBJECT), ("d", SET)];
+const CONSTANTS: [VariableRow; 2] = [("c", OBJECT), ("d", SET)];
 
-const RESERVED: [V; 4] = [("x", OBJECT), ("y", OBJECT), ("X", SET), ("Y", SET)];
+const RESERVED: [VariableRow; 4] = [("x", OBJECT), ("y", OBJECT), ("X", SET), ("Y", SET)];
 
 /// The constants `c` and `d`, an object and a set, are in force; reserved are `x` and `y` for objects, `X` and `Y` for sets.
 /// `thesis` is truth.

@@ -3,8 +3,8 @@ use mz_base::text::Text;
 use mz_context::context::Context;
 use mz_core::soft_type::SoftType;
 use mz_free::free::free_variables;
-use mz_item_samples::contexts::{V, put_constants, put_reserved, start};
-use mz_item_samples::types::{OBJECT, SET, T, ty};
+use mz_item_samples::contexts::{VariableRow, put_constants, put_reserved, start};
+use mz_item_samples::types::{OBJECT, SET, TypeRow, ty};
 use mz_names::variable::Variables;
 use mz_parser_samples::texts::SYMBOLS;
 use mz_parser_samples::trees::expression_of;
@@ -14,11 +14,11 @@ use std::mem::forget;
 use std::process::Abort;
 
 /// A mode of the constant 1.
-const OF_FIRST: T = ("(A.M1 c1)", "");
+const OF_FIRST: TypeRow = ("(A.M1 c1)", "");
 
-const CONSTANTS: [V; 1] = [("c", OBJECT)];
+const CONSTANTS: [VariableRow; 1] = [("c", OBJECT)];
 
-const RESERVED: [V; 6] = [
+const RESERVED: [VariableRow; 6] = [
     ("x", OBJECT),
     ("y", OBJECT),
     ("z", OBJECT),
@@ -134,7 +134,7 @@ fn is_typed(vs: &Variables, ty: &SoftType) -> bool {
     }
 }
 
-fn check_type(rt: &impl Abort, alloc: Global, ctx: &Context, text: &str, t: T) {
+fn check_type(rt: &impl Abort, alloc: Global, ctx: &Context, text: &str, t: TypeRow) {
     let vs = found(rt, alloc, ctx, 0, text);
     let ty = ty(alloc, t).expect(rt, "a type");
     let same = is_typed(&vs, &ty);

@@ -8,7 +8,7 @@ use mz_core::outcome::Export;
 use mz_core::statement::Statement;
 use mz_environment::environment::Environment;
 use mz_environment::numbering::Numbering;
-use mz_item_samples::contexts::{V, put_constants, put_reserved, start};
+use mz_item_samples::contexts::{VariableRow, put_constants, put_reserved, start};
 use mz_item_samples::environments::put_items;
 use mz_item_samples::items::{ItemRow, MeaningRow};
 use mz_item_samples::statements::statement;
@@ -120,9 +120,9 @@ pub fn environment(rt: &impl Abort, alloc: Global) -> Environment {
     env
 }
 
-const CONSTANTS: [V; 3] = [("c", OBJECT), ("d", SET), ("e", ("(A.M1 c2)", ""))];
+const CONSTANTS: [VariableRow; 3] = [("c", OBJECT), ("d", SET), ("e", ("(A.M1 c2)", ""))];
 
-const RESERVED: [V; 5] = [
+const RESERVED: [VariableRow; 5] = [
     ("x", OBJECT),
     ("y", OBJECT),
     ("X", SET),

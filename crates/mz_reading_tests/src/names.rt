@@ -2,9 +2,9 @@
 use crate::samples::{context, define, stands_for, two_variables};
 use mz_core::hidden::object_type;
 use mz_core::statement::Statement;
-use mz_item_samples::contexts::{V, put_reserved};
+use mz_item_samples::contexts::{VariableRow, put_reserved};
 use mz_item_samples::statements::statement;
-use mz_item_samples::types::{OBJECT, SET, T};
+use mz_item_samples::types::{OBJECT, SET, TypeRow};
 use mz_logic::term::Term;
 use mz_names::names::{
     argument, functor_letter, is_only_reserved, labelled_as, private_functor, reserved_type,
@@ -14,15 +14,15 @@ use std::alloc::Global;
 use std::mem::forget;
 use std::process::Abort;
 
-const A: V = ("a", OBJECT);
+const A: VariableRow = ("a", OBJECT);
 
-const X: V = ("x", OBJECT);
+const X: VariableRow = ("x", OBJECT);
 
-const Y: V = ("y", OBJECT);
+const Y: VariableRow = ("y", OBJECT);
 
-const X_SET: V = ("x", SET);
+const X_SET: VariableRow = ("x", SET);
 
-const X_ELEMENT: V = ("x", ("(A.M1 c1)", ""));
+const X_ELEMENT: VariableRow = ("x", ("(A.M1 c1)", ""));
 
 #[test]
 fn the_latest_constant_in_force_counts(rt: HostRuntime) {
@@ -91,7 +91,7 @@ fn variables_are_put_into_force(rt: HostRuntime) {
     forget(ctx);
 }
 
-const TYPES: [T; 2] = [SET, ("(A.M1 b0)", "")];
+const TYPES: [TypeRow; 2] = [SET, ("(A.M1 b0)", "")];
 
 /// For all x being set and y being `Elm of x` x = y.
 fn closed(rt: &impl Abort, alloc: Global) -> Statement {

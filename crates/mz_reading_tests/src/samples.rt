@@ -3,8 +3,8 @@ use mz_base::text::Text;
 use mz_context::context::Context;
 use mz_context::private::PrivateFunctor;
 use mz_core::soft_types::SoftTypes;
-use mz_item_samples::contexts::{V, put_constants, put_reserved, start};
-use mz_item_samples::types::{SET, T, ty};
+use mz_item_samples::contexts::{VariableRow, put_constants, put_reserved, start};
+use mz_item_samples::types::{SET, TypeRow, ty};
 use mz_logic::term::Term;
 use mz_names::names::variable;
 use mz_names::variable::{Variable, Variables};
@@ -12,7 +12,12 @@ use std::alloc::Global;
 use std::process::Abort;
 
 /// A context at the start of an article, with these constants in force and these variables reserved.
-pub fn context(rt: &impl Abort, alloc: Global, constants: &[V], reserved: &[V]) -> Context {
+pub fn context(
+    rt: &impl Abort,
+    alloc: Global,
+    constants: &[VariableRow],
+    reserved: &[VariableRow],
+) -> Context {
     let mut ctx = start(alloc, 1);
     put_constants(alloc, &mut ctx, constants).expect(rt, "constants");
     put_reserved(alloc, &mut ctx, reserved).expect(rt, "reserved variables");
@@ -42,7 +47,7 @@ pub fn stands_for(rt: &impl Abort, least: u32, ctx: &Context, name: &[u8], numbe
     }
 }
 
-fn put(rt: &impl Abort, alloc: Global, vs: &mut Variables, name: &[u8], t: T) {
+fn put(rt: &impl Abort, alloc: Global, vs: &mut Variables, name: &[u8], t: TypeRow) {
     let v = Variable {
         name: text(rt, alloc, name),
         ty: ty(alloc, t).expect(rt, "a type"),

@@ -7,7 +7,7 @@ use mz_environment::environment::Environment;
 use mz_item_samples::environments::put_items;
 use mz_item_samples::items::{ItemRow, MeaningRow};
 use mz_item_samples::statements::statement;
-use mz_item_samples::types::{OBJECT, SET, T, types};
+use mz_item_samples::types::{OBJECT, SET, TypeRow, types};
 use mz_logic::kind::Kind;
 use mz_logic::sym::Sym;
 use mz_logic::term::Term;
@@ -30,11 +30,11 @@ pub fn term_of(rt: &impl Abort, alloc: Global, text: &str) -> Term {
     term(alloc, text).expect(rt, "a term")
 }
 
-fn types_of(rt: &impl Abort, alloc: Global, ts: &[T]) -> SoftTypes {
+fn types_of(rt: &impl Abort, alloc: Global, ts: &[TypeRow]) -> SoftTypes {
     types(alloc, ts).expect(rt, "types")
 }
 
-const TWO: &[T] = &[OBJECT, OBJECT];
+const TWO: &[TypeRow] = &[OBJECT, OBJECT];
 
 /// The notations of HIDDEN.
 const HIDDEN: [ItemRow; 5] = [
@@ -70,7 +70,7 @@ pub fn environment(rt: &impl Abort, alloc: Global, rows: &[ItemRow]) -> Environm
 }
 
 /// Something private: its name, the types of its places, and its body, a term or a literal.
-pub type Private = (&'static str, &'static [T], &'static str);
+pub type Private = (&'static str, &'static [TypeRow], &'static str);
 
 /// Puts a private functor with this body into force.
 pub fn put_functor(
@@ -78,7 +78,7 @@ pub fn put_functor(
     alloc: Global,
     ctx: &mut Context,
     word: &str,
-    places: &[T],
+    places: &[TypeRow],
     body: Term,
 ) {
     let name = text_of(rt, alloc, word);
