@@ -13,7 +13,7 @@ use std::alloc::{AllocError, Global};
 fn thesis_text(theses: &[(Condition, &'static str)], c: Condition) -> &'static str {
     for (stated, text) in theses {
         if *stated == c {
-            return text;
+            return *text;
         }
     }
     ""
