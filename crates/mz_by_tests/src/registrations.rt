@@ -1,36 +1,36 @@
 //! A chain of registrations: what is `one` is `two`, what is `two` is `three`, what is `three` is `four`, and each
 //! value of the functor is `one`. They have no type in their premises.
-use crate::tests::problem;
 use mz_by::by::{ByVerdict, by_first};
 use mz_ground::clauses::Clauses;
 use mz_ground::ground::ground;
 use mz_ground::layer_ends::LayerEnd;
-use mz_item_samples::types::{C, clauses};
+use mz_item_samples::types::{ClauseRow, clauses};
 use mz_nf::disjuncts::disjuncts;
+use mz_nf_tests::samples::problem;
 use std::alloc::Global;
 use std::mem::forget;
 use std::process::Abort;
 
-const FUNCTORIAL: C = (1, "(A.O1 b0)", "", "(A.V1 (A.O1 b0))");
+const FUNCTORIAL: ClauseRow = (1, "(A.O1 b0)", "", "(A.V1 (A.O1 b0))");
 
-const ONE: C = (1, "(A.V1 b0)", "(A.V1 b0)", "(A.V2 b0)");
+const ONE: ClauseRow = (1, "(A.V1 b0)", "(A.V1 b0)", "(A.V2 b0)");
 
-const TWO: C = (1, "(A.V2 b0)", "(A.V2 b0)", "(A.V3 b0)");
+const TWO: ClauseRow = (1, "(A.V2 b0)", "(A.V2 b0)", "(A.V3 b0)");
 
-const THREE: C = (1, "(A.V3 b0)", "(A.V3 b0)", "(A.V4 b0)");
+const THREE: ClauseRow = (1, "(A.V3 b0)", "(A.V3 b0)", "(A.V4 b0)");
 
-const FOUR: C = (1, "(A.V4 b0)", "(A.V4 b0)", "(A.V5 b0)");
+const FOUR: ClauseRow = (1, "(A.V4 b0)", "(A.V4 b0)", "(A.V5 b0)");
 
 /// The clauses of the rows, in their order.
-fn clauses_of(rt: &impl Abort, alloc: Global, rows: &[C]) -> Clauses {
+fn clauses_of(rt: &impl Abort, alloc: Global, rows: &[ClauseRow]) -> Clauses {
     clauses(alloc, rows).expect(rt, "clauses")
 }
 
 /// That each value of the functor has the fourth attribute.
 const PROBLEM: &str = "|- (all (A.V4 (A.O1 b0)))";
 
-fn verdict(rt: &impl Abort, alloc: Global, rows: &[C], count: usize) -> ByVerdict {
-    let p = problem(rt, alloc, PROBLEM);
+fn verdict(rt: &impl Abort, alloc: Global, rows: &[ClauseRow], count: usize) -> ByVerdict {
+    let p = problem(alloc, PROBLEM).expect(rt, "a sequent");
     let clauses = clauses_of(rt, alloc, rows);
     let found = by_first(alloc, &p, &clauses, count).expect(rt, "memory");
     forget(p);
@@ -38,7 +38,7 @@ fn verdict(rt: &impl Abort, alloc: Global, rows: &[C], count: usize) -> ByVerdic
     found
 }
 
-fn check(rt: &impl Abort, alloc: Global, rows: &[C], count: usize, wanted: ByVerdict) {
+fn check(rt: &impl Abort, alloc: Global, rows: &[ClauseRow], count: usize, wanted: ByVerdict) {
     let found = verdict(rt, alloc, rows, count);
     assert!(rt; found == wanted, "{count}");
 }
@@ -56,7 +56,7 @@ fn the_chain_is_closed_where_no_cluster_lacks(rt: HostRuntime) {
     check(&rt, rt.alloc(), &[FUNCTORIAL], all, OPEN);
 }
 
-const FIVE: [C; 5] = [FUNCTORIAL, THREE, ONE, TWO, FOUR];
+const FIVE: [ClauseRow; 5] = [FUNCTORIAL, THREE, ONE, TWO, FOUR];
 
 /// How many of the five clauses count, and the verdict.
 const FIRST: [(usize, ByVerdict); 6] = [
@@ -94,7 +94,7 @@ fn check_layers(rt: &impl Abort, ends: &[LayerEnd], wanted: &[usize]) {
 #[test]
 fn one_attribute_a_layer(rt: HostRuntime) {
     let alloc = rt.alloc();
-    let p = problem(&rt, alloc, PROBLEM);
+    let p = problem(alloc, PROBLEM).expect(&rt, "a sequent");
     let split = disjuncts(alloc, &p).expect(&rt, "few disjuncts");
     forget(p);
     let chain = clauses_of(&rt, alloc, &[ONE, TWO, THREE, FUNCTORIAL]);

@@ -2,23 +2,13 @@
 use mz_base::limit::Limit;
 use mz_by::by::{ByVerdict, by};
 use mz_ground::clauses::Clauses;
-use mz_nf::problem::Problem;
-use mz_samples::parts::sequent;
+use mz_nf_tests::samples::problem;
 use std::alloc::Global;
 use std::mem::forget;
 use std::process::Abort;
 
-/// The problem of a text: its premises and its conclusion, as those of a sequent.
-pub fn problem(rt: &impl Abort, alloc: Global, text: &str) -> Problem {
-    let s = sequent(alloc, text).expect(rt, "a sequent");
-    Problem {
-        premises: s.premises,
-        conclusion: s.conclusion,
-    }
-}
-
 fn verdict(rt: &impl Abort, alloc: Global, text: &str) -> ByVerdict {
-    let p = problem(rt, alloc, text);
+    let p = problem(alloc, text).expect(rt, "a sequent");
     let none = Clauses::new(alloc);
     let found = by(alloc, &p, &none).expect(rt, "memory");
     forget(p);

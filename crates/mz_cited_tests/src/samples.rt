@@ -2,18 +2,20 @@
 use mz_base::name::Name;
 use mz_base::place::Place;
 use mz_base::text::Text;
-use mz_context::context::{Context, SymbolCounts};
+use mz_context::context::Context;
 use mz_context::labelled::LabelledStatement;
 use mz_core::statement::Statement;
 use mz_core::statements::Statements;
 use mz_environment::cited::CitedStatement;
 use mz_environment::environment::Environment;
+use mz_item_samples::contexts::start;
 use mz_logic::term::Term;
 use mz_tree::chain::Next;
 use mz_tree::lists::{Separated, Trees};
 use mz_tree::word::{Comma, Word};
 use mz_tree_proof::references::{NumberTree, ReferenceTree};
-use std::alloc::{AllocError, Global};
+use std::alloc::Global;
+use std::process::Abort;
 
 /// A reference: its column, its label or article, and its numbers: a digit for a theorem, and for a definitional theorem
 /// the letter that comes as far in the alphabet.
@@ -23,13 +25,17 @@ fn named(number: u32) -> Statement {
     Statement::equation(Term::constant(number), Term::constant(number))
 }
 
+fn text(rt: &impl Abort, alloc: Global, bytes: &[u8]) -> Text {
+    Text::from_slice(alloc, bytes).expect(rt, "memory")
+}
+
 /// The statements that are named so.
-pub fn statements(alloc: Global, numbers: &[u32]) -> Result<Statements, AllocError> {
+pub fn statements(rt: &impl Abort, alloc: Global, numbers: &[u32]) -> Statements {
     let mut out = Statements::new(alloc);
     for number in numbers {
-        out.push(named(*number))?;
+        out.push(named(*number)).expect(rt, "memory");
     }
-    Ok(out)
+    out
 }
 
 fn number_of(article: &str) -> u64 {
@@ -50,7 +56,7 @@ const CITABLE: [(&str, bool, u64, u32); 6] = [
 ];
 
 /// An environment in which all of these may be cited.
-pub fn environment(alloc: Global) -> Result<Environment, AllocError> {
+pub fn environment(rt: &impl Abort, alloc: Global) -> Environment {
     let mut env = Environment::new(alloc);
     for (article, is_definition, number, name) in &CITABLE {
         let s = CitedStatement {
@@ -59,40 +65,31 @@ pub fn environment(alloc: Global) -> Result<Environment, AllocError> {
             number: *number,
             statement: named(*name),
         };
-        env.theorems.push(s)?;
+        env.theorems.push(s).expect(rt, "memory");
     }
-    Ok(env)
+    env
 }
 
 /// Labels and what they stand for, the latest last.
 const LABELS: [(&str, u32); 3] = [("A1", 1), ("A2", 2), ("A1", 3)];
 
 /// A context with these labels.
-pub fn context(alloc: Global) -> Result<Context, AllocError> {
-    let counts = SymbolCounts {
-        modes: 0,
-        structures: 0,
-        attributes: 0,
-        functors: 0,
-        selectors: 0,
-        aggregates: 0,
-        predicates: 0,
-        functor_letters: 0,
-        predicate_letters: 0,
-    };
-    let mut ctx = Context::new(alloc, 0, counts);
+pub fn context(rt: &impl Abort, alloc: Global) -> Context {
+    let mut ctx = start(alloc, 0);
     for (label, name) in &LABELS {
-        let label = Text::from_slice(alloc, label.as_bytes())?;
+        let label = text(rt, alloc, label.as_bytes());
         let statement = named(*name);
-        ctx.labelled.push(LabelledStatement { label, statement })?;
+        ctx.labelled
+            .push(LabelledStatement { label, statement })
+            .expect(rt, "memory");
     }
-    Ok(ctx)
+    ctx
 }
 
-fn word(alloc: Global, column: u64, spelling: &[u8]) -> Result<Word, AllocError> {
-    let spelling = Text::from_slice(alloc, spelling)?;
+fn word(rt: &impl Abort, alloc: Global, column: u64, spelling: &[u8]) -> Word {
+    let spelling = text(rt, alloc, spelling);
     let place = Place { line: 1, column };
-    Ok(Word { place, spelling })
+    Word { place, spelling }
 }
 
 fn comma() -> Comma {
@@ -102,66 +99,69 @@ fn comma() -> Comma {
     }
 }
 
-fn number(alloc: Global, byte: u8) -> Result<NumberTree, AllocError> {
+fn number(rt: &impl Abort, alloc: Global, byte: u8) -> NumberTree {
     if byte >= 65 {
-        let number = word(alloc, 1, &[byte - 16])?;
+        let number = word(rt, alloc, 1, &[byte - 16]);
         let def = Place::start();
-        Ok(NumberTree::Definition { def, number })
+        NumberTree::Definition { def, number }
     } else {
-        let number = word(alloc, 1, &[byte])?;
-        Ok(NumberTree::Theorem(number))
+        let number = word(rt, alloc, 1, &[byte]);
+        NumberTree::Theorem(number)
     }
 }
 
-fn numbers(alloc: Global, first: u8, others: &[u8]) -> Result<Separated<NumberTree>, AllocError> {
-    let first = number(alloc, first)?;
+fn numbers(rt: &impl Abort, alloc: Global, first: u8, others: &[u8]) -> Separated<NumberTree> {
+    let first = number(rt, alloc, first);
     let mut items = Vec::new(alloc);
     for byte in others {
-        let tree = number(alloc, *byte)?;
-        items.push(Next {
+        let tree = number(rt, alloc, *byte);
+        let next = Next {
             sign: comma(),
             tree,
-        })?;
+        };
+        items.push(next).expect(rt, "memory");
     }
-    Ok(Separated {
+    Separated {
         first,
         more: Trees { items },
-    })
+    }
 }
 
-fn reference(alloc: Global, r: R) -> Result<ReferenceTree, AllocError> {
-    let head = word(alloc, r.0, r.1.as_bytes())?;
+fn reference(rt: &impl Abort, alloc: Global, r: R) -> ReferenceTree {
+    let head = word(rt, alloc, r.0, r.1.as_bytes());
     match r.2.as_bytes() {
-        [] => Ok(ReferenceTree::Label(head)),
+        [] => ReferenceTree::Label(head),
         [first, others @ ..] => {
-            let numbers = numbers(alloc, *first, others)?;
+            let numbers = numbers(rt, alloc, *first, others);
             let colon = Place::start();
-            Ok(ReferenceTree::Numbered {
+            ReferenceTree::Numbered {
                 article: head,
                 colon,
                 numbers,
-            })
+            }
         }
     }
 }
 
 /// The references, in their order.
 pub fn references(
+    rt: &impl Abort,
     alloc: Global,
     first: R,
     others: &[R],
-) -> Result<Separated<ReferenceTree>, AllocError> {
-    let first = reference(alloc, first)?;
+) -> Separated<ReferenceTree> {
+    let first = reference(rt, alloc, first);
     let mut items = Vec::new(alloc);
     for r in others {
-        let tree = reference(alloc, *r)?;
-        items.push(Next {
+        let tree = reference(rt, alloc, *r);
+        let next = Next {
             sign: comma(),
             tree,
-        })?;
+        };
+        items.push(next).expect(rt, "memory");
     }
-    Ok(Separated {
+    Separated {
         first,
         more: Trees { items },
-    })
+    }
 }

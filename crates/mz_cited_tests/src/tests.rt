@@ -45,7 +45,7 @@ fn is_right(
 ) -> bool {
     match cited {
         Ok(ss) => {
-            let us = statements(alloc, wanted).expect(rt, "memory");
+            let us = statements(rt, alloc, wanted);
             let same = column == 0 && ss.equals(&us);
             forget(ss);
             forget(us);
@@ -64,9 +64,9 @@ fn check_cited(
     column: u64,
 ) {
     let text = first.1;
-    let env = environment(alloc).expect(rt, "memory");
-    let ctx = context(alloc).expect(rt, "memory");
-    let trees = references(alloc, first, others).expect(rt, "memory");
+    let env = environment(rt, alloc);
+    let ctx = context(rt, alloc);
+    let trees = references(rt, alloc, first, others);
     let cited = cite(alloc, &env, &ctx, &trees).expect(rt, "memory");
     forget(env);
     forget(ctx);

@@ -1,27 +1,16 @@
 //! Small contexts, worked out by hand.
 use mz_base::text::Text;
 use mz_context::constants::Constant;
-use mz_context::context::{Context, SymbolCounts};
+use mz_context::context::Context;
 use mz_context::gather::{constants_of, reached};
 use mz_core::hidden::object_type;
 use mz_core::statement::Statement;
+use mz_item_samples::contexts::start;
 use mz_logic::literal::Literal;
 use mz_logic::term::Term;
 use std::alloc::Global;
 use std::mem::forget;
 use std::process::Abort;
-
-const NO_SYMBOLS: SymbolCounts = SymbolCounts {
-    modes: 0,
-    structures: 0,
-    attributes: 0,
-    functors: 0,
-    selectors: 0,
-    aggregates: 0,
-    predicates: 0,
-    functor_letters: 0,
-    predicate_letters: 0,
-};
 
 /// A constant of the type `object`, equal to the constant with the number, if it isn't 0.
 fn constant(alloc: Global, equal: u32) -> Constant {
@@ -53,7 +42,7 @@ fn release(ctx: &mut Context, number: u32) -> bool {
 #[test]
 fn a_number_is_free_again_once_no_later_one_is_in_force(rt: HostRuntime) {
     let alloc = rt.alloc();
-    let mut ctx = Context::new(alloc, 1, NO_SYMBOLS);
+    let mut ctx = start(alloc, 1);
     assert!(rt; ctx.next() == 1);
     for number in 1..4 {
         assert!(rt; add(&rt, alloc, &mut ctx, 0) == number);
@@ -79,7 +68,7 @@ fn state(rt: &impl Abort, alloc: Global, ctx: &mut Context, label: &[u8]) {
 
 /// A constant and a labelled statement.
 fn begun(rt: &impl Abort, alloc: Global) -> Context {
-    let mut ctx = Context::new(alloc, 1, NO_SYMBOLS);
+    let mut ctx = start(alloc, 1);
     add(rt, alloc, &mut ctx, 0);
     state(rt, alloc, &mut ctx, b"A");
     ctx
@@ -109,7 +98,7 @@ fn a_context_is_cut_back_to_a_mark(rt: HostRuntime) {
 #[test]
 fn constants_are_reached_in_rounds(rt: HostRuntime) {
     let alloc = rt.alloc();
-    let mut ctx = Context::new(alloc, 1, NO_SYMBOLS);
+    let mut ctx = start(alloc, 1);
     for equal in [0, 4, 1, 3, 2] {
         add(&rt, alloc, &mut ctx, equal);
     }

@@ -1,5 +1,5 @@
 //! The greatest corpus.
-use crate::reading::{add, gathered, name_of, numbered};
+use crate::samples::{add, gathered, name_of, numbered};
 use mz_io::file_kind::FileKind;
 use mz_io::file_list::FileList;
 use std::alloc::Global;

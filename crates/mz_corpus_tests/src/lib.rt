@@ -2,7 +2,7 @@
 #![tactic(auto)]
 
 #[cfg(test)]
-mod gathering;
+mod corpora;
 #[cfg(test)]
 mod large;
 #[cfg(test)]
@@ -10,4 +10,4 @@ mod limits;
 #[cfg(test)]
 mod orders;
 #[cfg(test)]
-mod reading;
+mod samples;

@@ -1,5 +1,5 @@
 //! The limits of gathering.
-use crate::reading::{add, gathered, name_of, numbered};
+use crate::samples::{add, gathered, name_of, numbered};
 use mz_corpus::gather_fault::GatherFault;
 use mz_io::file_kind::FileKind;
 use mz_io::file_list::FileList;

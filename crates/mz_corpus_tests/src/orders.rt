@@ -1,5 +1,5 @@
 //! Corpora of a few articles and of many, their order and their dependencies.
-use crate::reading::{is_line, name_of, names_of};
+use crate::samples::{is_line, name_of, names_of};
 use mz_base::name::Name;
 use mz_base::names::Names;
 use mz_base::text::Text;

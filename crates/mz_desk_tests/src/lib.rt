@@ -1,4 +1,4 @@
-//! The desk over small corpora, with a checker and corpora for tests.
+//! The desk over small corpora, with a checker, corpora and letters of verdicts for tests.
 #![tactic(auto)]
 
 #[cfg(test)]
@@ -6,6 +6,7 @@ mod calls;
 pub mod corpora;
 #[cfg(test)]
 mod desks;
+pub mod letters;
 pub mod plain;
 #[cfg(test)]
 mod verdicts;

@@ -1,5 +1,6 @@
 //! What a desk tells of each article.
 use crate::calls::{Article, desk_over, done_after, is_published, name, told};
+use crate::letters::letter;
 use crate::plain::Plain;
 use mz_core::verdict::{Entry, Verdict, Verdicts};
 use mz_desk::desk::Desk;
@@ -8,18 +9,6 @@ use std::alloc::Global;
 use std::process::Abort;
 use std::sync::Wait;
 use std::thread::Threads;
-
-/// How an entry reads, by one letter.
-fn letter(entry: &Entry) -> u8 {
-    match entry.verdict {
-        None => b'-',
-        Some(Verdict::Accepted) => b'a',
-        Some(Verdict::Rejected) => b'r',
-        Some(Verdict::Blocked(_)) => b'b',
-        Some(Verdict::Cyclic) => b'c',
-        Some(Verdict::Missing) => b'm',
-    }
-}
 
 /// Whether the article is blocked by this one.
 fn is_blocked_by<R: Abort>(rt: &R, entry: &Entry, word: &str) -> bool {

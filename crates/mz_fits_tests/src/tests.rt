@@ -10,7 +10,7 @@ use mz_fits::fits::{are_equal, literal_fits, loci_fit, type_fits};
 use mz_fits::fixed::Fixed;
 use mz_fits::matches::{accepted, all_match};
 use mz_ground::clauses::Clauses;
-use mz_item_samples::types::{C, K, SET, T, clauses, constants, ty, types};
+use mz_item_samples::types::{ClauseRow, ConstantRow, SET, TypeRow, clauses, constants, ty, types};
 use mz_logic::literal::Literal;
 use mz_logic::term::{Term, Terms};
 use mz_samples::forms::{term, terms};
@@ -19,13 +19,13 @@ use std::alloc::Global;
 use std::mem::forget;
 use std::process::Abort;
 
-const OF_MODE: K = (("A.M1", ""), "");
+const OF_MODE: ConstantRow = (("A.M1", ""), "");
 
-fn in_force(rt: &impl Abort, alloc: Global, ks: &[K]) -> Constants {
+fn in_force(rt: &impl Abort, alloc: Global, ks: &[ConstantRow]) -> Constants {
     constants(alloc, ks).expect(rt, "constants")
 }
 
-fn clauses_of(rt: &impl Abort, alloc: Global, cs: &[C]) -> Clauses {
+fn clauses_of(rt: &impl Abort, alloc: Global, cs: &[ClauseRow]) -> Clauses {
     clauses(alloc, cs).expect(rt, "clauses")
 }
 
@@ -41,11 +41,11 @@ fn terms_of(rt: &impl Abort, alloc: Global, text: &str) -> Terms {
     terms(alloc, text).expect(rt, "terms")
 }
 
-fn type_of(rt: &impl Abort, alloc: Global, t: T) -> SoftType {
+fn type_of(rt: &impl Abort, alloc: Global, t: TypeRow) -> SoftType {
     ty(alloc, t).expect(rt, "a type")
 }
 
-fn loci_of(rt: &impl Abort, alloc: Global, ts: &[T]) -> SoftTypes {
+fn loci_of(rt: &impl Abort, alloc: Global, ts: &[TypeRow]) -> SoftTypes {
     types(alloc, ts).expect(rt, "types")
 }
 
@@ -57,7 +57,7 @@ fn are_same(ls: &[Literal], ms: &[Literal]) -> bool {
     same
 }
 
-const IN_ROUNDS: [K; 5] = [
+const IN_ROUNDS: [ConstantRow; 5] = [
     OF_MODE,
     (SET, "(A.O1 c1)"),
     (("(A.M2 c2)", "(A.V1 c4), (not A.V2)"), ""),
@@ -98,7 +98,13 @@ fn what_is_known_is_gathered_in_rounds(rt: HostRuntime) {
 }
 
 /// Whether the literal fits where the constants are in force, under the clauses.
-fn fits_under(rt: &impl Abort, alloc: Global, ks: &[K], cs: &[C], text: &str) -> bool {
+fn fits_under(
+    rt: &impl Abort,
+    alloc: Global,
+    ks: &[ConstantRow],
+    cs: &[ClauseRow],
+    text: &str,
+) -> bool {
     let ks = in_force(rt, alloc, ks);
     let cs = clauses_of(rt, alloc, cs);
     let l = literal_of(rt, alloc, text);
@@ -109,7 +115,7 @@ fn fits_under(rt: &impl Abort, alloc: Global, ks: &[K], cs: &[C], text: &str) ->
     fits
 }
 
-const FACTS_OF: [K; 4] = [
+const FACTS_OF: [ConstantRow; 4] = [
     OF_MODE,
     (SET, "(A.O1 c1)"),
     (("A.M1", "A.V4, (not A.V5)"), ""),
@@ -117,15 +123,15 @@ const FACTS_OF: [K; 4] = [
 ];
 
 /// What is `one` is `two`, what is `two` is `three`, what is `three` is `four`; each value of the functor is `one`.
-const ONE: C = (1, "(A.V1 b0)", "(A.V1 b0)", "(A.V2 b0)");
+const ONE: ClauseRow = (1, "(A.V1 b0)", "(A.V1 b0)", "(A.V2 b0)");
 
-const TWO: C = (1, "(A.V2 b0)", "(A.V2 b0)", "(A.V3 b0)");
+const TWO: ClauseRow = (1, "(A.V2 b0)", "(A.V2 b0)", "(A.V3 b0)");
 
-const THREE: C = (1, "(A.V3 b0)", "(A.V3 b0)", "(A.V4 b0)");
+const THREE: ClauseRow = (1, "(A.V3 b0)", "(A.V3 b0)", "(A.V4 b0)");
 
-const VALUE: C = (1, "(A.O1 b0)", "", "(A.V1 (A.O1 b0))");
+const VALUE: ClauseRow = (1, "(A.O1 b0)", "", "(A.V1 (A.O1 b0))");
 
-const FACTS: [(&[C], &str, bool); 12] = [
+const FACTS: [(&[ClauseRow], &str, bool); 12] = [
     (&[], "(A.M1 c1)", true),
     (&[], "(A.V1 c1)", false),
     (&[], "(not (A.V1 c1))", false),
@@ -140,7 +146,7 @@ const FACTS: [(&[C], &str, bool); 12] = [
     (&[], "(A.V4 b0)", false),
 ];
 
-fn check_fact(rt: &impl Abort, alloc: Global, cs: &[C], text: &str, wanted: bool) {
+fn check_fact(rt: &impl Abort, alloc: Global, cs: &[ClauseRow], text: &str, wanted: bool) {
     let fits = fits_under(rt, alloc, &FACTS_OF, cs, text);
     assert!(rt; fits == wanted, "{text}");
 }
@@ -153,7 +159,7 @@ fn a_literal_fits_where_it_is_among_the_facts(rt: HostRuntime) {
 }
 
 /// Each ground term is equal to its values at the functors.
-const EQUAL_TO_VALUES: [C; 7] = [
+const EQUAL_TO_VALUES: [ClauseRow; 7] = [
     (1, "b0", "", "(= (A.O1 b0) b0)"),
     (1, "b0", "", "(= (A.O2 b0) b0)"),
     (1, "b0", "", "(= (A.O3 b0) b0)"),
@@ -181,9 +187,9 @@ fn beyond_the_limit_nothing_fits(rt: HostRuntime) {
 }
 
 /// A constant, one of a mode of it, one that is equal to the first, and one of which nothing is known.
-const FOUR: [K; 4] = [OF_MODE, (("(A.M2 c1)", "A.V1"), ""), (SET, "c1"), (SET, "")];
+const FOUR: [ConstantRow; 4] = [OF_MODE, (("(A.M2 c1)", "A.V1"), ""), (SET, "c1"), (SET, "")];
 
-fn check_type(rt: &impl Abort, alloc: Global, t: &str, at: T, wanted: bool) {
+fn check_type(rt: &impl Abort, alloc: Global, t: &str, at: TypeRow, wanted: bool) {
     let ks = in_force(rt, alloc, &FOUR);
     let u = term_of(rt, alloc, t);
     let at = type_of(rt, alloc, at);
@@ -194,7 +200,7 @@ fn check_type(rt: &impl Abort, alloc: Global, t: &str, at: T, wanted: bool) {
     assert!(rt; fits == wanted, "{t}");
 }
 
-const TYPES: [(&str, T, bool); 7] = [
+const TYPES: [(&str, TypeRow, bool); 7] = [
     ("b0", SET, true),
     ("c1", SET, true),
     ("c2", ("(A.M2 c1)", "A.V1"), true),
@@ -212,7 +218,7 @@ fn types_fit(rt: HostRuntime) {
 }
 
 /// The same answer with answers kept, before it stands there and after.
-fn check_kept(rt: &impl Abort, alloc: Global, t: &str, at: T, wanted: bool) {
+fn check_kept(rt: &impl Abort, alloc: Global, t: &str, at: TypeRow, wanted: bool) {
     let ks = in_force(rt, alloc, &FOUR);
     let u = term_of(rt, alloc, t);
     let at = type_of(rt, alloc, at);
@@ -251,7 +257,7 @@ fn terms_are_equal_by_the_facts(rt: HostRuntime) {
     check_equal(&rt, rt.alloc(), "c2", "c1", false);
 }
 
-const LOCI: [T; 3] = [("A.M1", ""), ("(A.M2 b0)", "A.V1"), ("(A.M2 b1)", "")];
+const LOCI: [TypeRow; 3] = [("A.M1", ""), ("(A.M2 b0)", "A.V1"), ("(A.M2 b1)", "")];
 
 fn check_values(rt: &impl Abort, alloc: Global, values: &str, wanted: bool) {
     let ks = in_force(rt, alloc, &FOUR);
@@ -323,7 +329,7 @@ fn are_fixed_to(rt: &impl Abort, alloc: Global, slots: &[Option<Term>], wanted: 
     same
 }
 
-const MATCHED: [K; 3] = [OF_MODE, (SET, "c1"), OF_MODE];
+const MATCHED: [ConstantRow; 3] = [OF_MODE, (SET, "c1"), OF_MODE];
 
 fn check_match(rt: &impl Abort, alloc: Global, us: &str, ts: &str, wanted: &[&str]) {
     let ks = in_force(rt, alloc, &MATCHED);
@@ -382,7 +388,7 @@ fn are_values(rt: &impl Abort, alloc: Global, values: Option<Terms>, wanted: &st
     }
 }
 
-const TWO_LOCI: [K; 2] = [OF_MODE, (("(A.M2 c1)", ""), "")];
+const TWO_LOCI: [ConstantRow; 2] = [OF_MODE, (("(A.M2 c1)", ""), "")];
 
 /// The values that are accepted of two loci behind a match.
 fn check_accepted(rt: &impl Abort, alloc: Global, us: &str, ts: &str, wanted: &str) {

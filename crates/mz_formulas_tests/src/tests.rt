@@ -1,5 +1,5 @@
 //! Texts, and what they are read to.
-use crate::making::{context, environment, tokens_of};
+use crate::environment::{SYMBOLS, context, environment};
 use mz_context::context::Context;
 use mz_core::statement::Statement;
 use mz_environment::environment::Environment;
@@ -7,19 +7,16 @@ use mz_formulas::formulas::read_formula;
 use mz_formulas::sentence::{Sentence, read_sentence};
 use mz_item_samples::refusals::refusal_text;
 use mz_item_samples::texts::statement_text;
+use mz_parser_samples::trees::expression_of;
 use mz_pexpr::forms::{Expression, Form};
-use mz_pexpr::parse::expression;
 use mz_tree::expressions::FormulaTree;
 use std::alloc::Global;
 use std::mem::forget;
 use std::process::Abort;
 
 fn parsed(rt: &impl Abort, alloc: Global, text: &str) -> FormulaTree {
-    let tokens = tokens_of(rt, alloc, text);
-    assert!(rt; tokens.items.len() > 5);
-    let (tree, _) = expression(alloc, &tokens, 5, Form::Formula).expect(rt, "a formula");
-    forget(tokens);
-    match tree {
+    let tree = expression_of(alloc, SYMBOLS, text.as_bytes(), Form::Formula);
+    match tree.expect(rt, "a formula") {
         Expression::Formula(f) => f,
         other => {
             forget(other);

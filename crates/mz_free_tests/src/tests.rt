@@ -1,93 +1,44 @@
 //! Sentences as texts, with their free reserved variables in the order of their first occurrence.
 use mz_base::text::Text;
-use mz_context::constants::Constant;
-use mz_context::context::{Context, SymbolCounts};
-use mz_context::reserved::ReservedVariable;
-use mz_core::adjectives::Adjectives;
-use mz_core::hidden::{object_type, set_type};
-use mz_core::radix::Radix;
+use mz_context::context::Context;
 use mz_core::soft_type::SoftType;
 use mz_free::free::free_variables;
-use mz_logic::kind::Kind;
-use mz_logic::sym::Sym;
-use mz_logic::term::{Term, Terms};
+use mz_item_samples::contexts::{VariableRow, put_constants, put_reserved, start};
+use mz_item_samples::types::{OBJECT, SET, TypeRow, ty};
 use mz_names::variable::Variables;
-use mz_parser_samples::texts::tokens_behind_begin;
+use mz_parser_samples::texts::SYMBOLS;
+use mz_parser_samples::trees::expression_of;
 use mz_pexpr::forms::{Expression, Form};
-use mz_pexpr::parse::expression;
 use std::alloc::Global;
 use std::mem::forget;
 use std::process::Abort;
 
-/// A context at the start of an article.
-fn empty(alloc: Global) -> Context {
-    let counts = SymbolCounts {
-        modes: 0,
-        structures: 0,
-        attributes: 0,
-        functors: 0,
-        selectors: 0,
-        aggregates: 0,
-        predicates: 0,
-        functor_letters: 0,
-        predicate_letters: 0,
-    };
-    Context::new(alloc, 1, counts)
-}
-
-fn name(rt: &impl Abort, alloc: Global, name: &str) -> Text {
-    Text::from_slice(alloc, name.as_bytes()).expect(rt, "memory")
-}
-
 /// A mode of the constant 1.
-fn of_first(rt: &impl Abort, alloc: Global) -> SoftType {
-    let mut args = Terms::new(alloc);
-    args.push(Term::constant(1)).expect(rt, "memory");
-    let sym = Sym {
-        article: 1,
-        kind: Kind::Mode,
-        number: 1,
-    };
-    SoftType {
-        adjectives: Adjectives::new(alloc),
-        radix: Radix { sym, args },
-    }
-}
+const OF_FIRST: TypeRow = ("(A.M1 c1)", "");
 
-fn reserve(rt: &impl Abort, alloc: Global, ctx: Context, text: &str, ty: SoftType) -> Context {
-    let mut ctx = ctx;
-    let name = name(rt, alloc, text);
-    ctx.reserved
-        .push(ReservedVariable { name, ty })
-        .expect(rt, "memory");
-    ctx
-}
+const CONSTANTS: [VariableRow; 1] = [("c", OBJECT)];
+
+const RESERVED: [VariableRow; 6] = [
+    ("x", OBJECT),
+    ("y", OBJECT),
+    ("z", OBJECT),
+    ("c", OBJECT),
+    ("w", OF_FIRST),
+    ("y", SET),
+];
 
 /// The constant `c` is in force. Reserved are `x`, `y` and `z`, `c`, and `w` with a type that has the constant; `y` was
 /// reserved with another type before.
 fn context(rt: &impl Abort, alloc: Global) -> Context {
-    let mut ctx = empty(alloc);
-    let k = Constant {
-        name: name(rt, alloc, "c"),
-        ty: object_type(alloc),
-        equal: None,
-    };
-    ctx.add(k).expect(rt, "memory");
-    let ctx = reserve(rt, alloc, ctx, "x", object_type(alloc));
-    let ctx = reserve(rt, alloc, ctx, "y", object_type(alloc));
-    let ctx = reserve(rt, alloc, ctx, "z", object_type(alloc));
-    let ctx = reserve(rt, alloc, ctx, "c", object_type(alloc));
-    let ctx = reserve(rt, alloc, ctx, "w", of_first(rt, alloc));
-    reserve(rt, alloc, ctx, "y", set_type(alloc))
+    let mut ctx = start(alloc, 1);
+    put_constants(alloc, &mut ctx, &CONSTANTS).expect(rt, "constants");
+    put_reserved(alloc, &mut ctx, &RESERVED).expect(rt, "reserved variables");
+    ctx
 }
 
 /// The tree of the text.
 fn parsed(rt: &impl Abort, alloc: Global, text: &str) -> Expression {
-    let tokens = tokens_behind_begin(alloc, text.as_bytes()).expect(rt, "tokens");
-    assert!(rt; tokens.items.len() > 5);
-    let (tree, _) = expression(alloc, &tokens, 5, Form::Formula).expect(rt, "a formula");
-    forget(tokens);
-    tree
+    expression_of(alloc, SYMBOLS, text.as_bytes(), Form::Formula).expect(rt, "a formula")
 }
 
 /// The free variables of the text, where constants count from the number on.
@@ -183,8 +134,9 @@ fn is_typed(vs: &Variables, ty: &SoftType) -> bool {
     }
 }
 
-fn check_type(rt: &impl Abort, alloc: Global, ctx: &Context, text: &str, ty: SoftType) {
+fn check_type(rt: &impl Abort, alloc: Global, ctx: &Context, text: &str, t: TypeRow) {
     let vs = found(rt, alloc, ctx, 0, text);
+    let ty = ty(alloc, t).expect(rt, "a type");
     let same = is_typed(&vs, &ty);
     forget(vs);
     forget(ty);
@@ -195,8 +147,8 @@ fn check_type(rt: &impl Abort, alloc: Global, ctx: &Context, text: &str, ty: Sof
 #[test]
 fn the_latest_type(rt: HostRuntime) {
     let ctx = context(&rt, rt.alloc());
-    check_type(&rt, rt.alloc(), &ctx, "x = x;", object_type(rt.alloc()));
-    check_type(&rt, rt.alloc(), &ctx, "y = y;", set_type(rt.alloc()));
-    check_type(&rt, rt.alloc(), &ctx, "w = w;", of_first(&rt, rt.alloc()));
+    check_type(&rt, rt.alloc(), &ctx, "x = x;", OBJECT);
+    check_type(&rt, rt.alloc(), &ctx, "y = y;", SET);
+    check_type(&rt, rt.alloc(), &ctx, "w = w;", OF_FIRST);
     forget(ctx);
 }

@@ -1,5 +1,5 @@
 //! Contexts, whose parts are read from their texts.
-use crate::types::{K, T, constants, ty, types};
+use crate::types::{ConstantRow, TypeRow, constants, ty, types};
 use mz_base::text::Text;
 use mz_context::constants::Constant;
 use mz_context::context::{Context, SymbolCounts};
@@ -28,7 +28,7 @@ pub fn start(alloc: Global, article: u64) -> Context {
 }
 
 /// The context at the start of the article with the number, where the constants are in force.
-pub fn in_force(alloc: Global, article: u64, ks: &[K]) -> Result<Context, SampleFault> {
+pub fn in_force(alloc: Global, article: u64, ks: &[ConstantRow]) -> Result<Context, SampleFault> {
     let constants = constants(alloc, ks)?;
     let mut ctx = start(alloc, article);
     ctx.constants = constants;
@@ -36,10 +36,14 @@ pub fn in_force(alloc: Global, article: u64, ks: &[K]) -> Result<Context, Sample
 }
 
 /// A constant or a reserved variable: its name and its type.
-pub type V = (&'static str, T);
+pub type VariableRow = (&'static str, TypeRow);
 
 /// Puts constants with their names and types into force.
-pub fn put_constants(alloc: Global, ctx: &mut Context, vs: &[V]) -> Result<(), SampleFault> {
+pub fn put_constants(
+    alloc: Global,
+    ctx: &mut Context,
+    vs: &[VariableRow],
+) -> Result<(), SampleFault> {
     for v in vs {
         let name = Text::from_slice(alloc, v.0.as_bytes())?;
         let ty = ty(alloc, v.1)?;
@@ -50,7 +54,11 @@ pub fn put_constants(alloc: Global, ctx: &mut Context, vs: &[V]) -> Result<(), S
 }
 
 /// Reserves variables for types.
-pub fn put_reserved(alloc: Global, ctx: &mut Context, vs: &[V]) -> Result<(), SampleFault> {
+pub fn put_reserved(
+    alloc: Global,
+    ctx: &mut Context,
+    vs: &[VariableRow],
+) -> Result<(), SampleFault> {
     for v in vs {
         let name = Text::from_slice(alloc, v.0.as_bytes())?;
         let ty = ty(alloc, v.1)?;
@@ -60,9 +68,14 @@ pub fn put_reserved(alloc: Global, ctx: &mut Context, vs: &[V]) -> Result<(), Sa
 }
 
 /// A letter of a scheme: its name, its symbol, the types of its places, and the type of a functor.
-pub type L = (&'static str, &'static str, &'static [T], Option<T>);
+pub type LetterRow = (
+    &'static str,
+    &'static str,
+    &'static [TypeRow],
+    Option<TypeRow>,
+);
 
-fn letter(alloc: Global, l: L) -> Result<SchemeLetter, SampleFault> {
+fn letter(alloc: Global, l: LetterRow) -> Result<SchemeLetter, SampleFault> {
     let sym = symbol(l.1).ok_or(SampleFault::Text)?;
     let places = types(alloc, l.2)?;
     match l.3 {
@@ -75,7 +88,7 @@ fn letter(alloc: Global, l: L) -> Result<SchemeLetter, SampleFault> {
 }
 
 /// Puts letters into force.
-pub fn put_letters(alloc: Global, ctx: &mut Context, ls: &[L]) -> Result<(), SampleFault> {
+pub fn put_letters(alloc: Global, ctx: &mut Context, ls: &[LetterRow]) -> Result<(), SampleFault> {
     for l in ls {
         let name = Text::from_slice(alloc, l.0.as_bytes())?;
         let letter = letter(alloc, *l)?;

@@ -1,6 +1,6 @@
 //! Items, each from the texts of its parts.
 use crate::statements::statement;
-use crate::types::{OBJECT, T, adjectives, ty, types};
+use crate::types::{OBJECT, TypeRow, adjectives, ty, types};
 use mz_base::numbers::Numbers;
 use mz_base::text::Text;
 use mz_core::definition::{AtomDefinition, AttributeDefinition, MeansDefinition};
@@ -26,49 +26,54 @@ use std::alloc::Global;
 
 /// A pattern: its symbol, of brackets both with a blank between them; its loci; and the places of the visible loci before
 /// and behind it.
-pub type P = (&'static str, &'static [T], &'static [u64], &'static [u64]);
+pub type PatternRow = (
+    &'static str,
+    &'static [TypeRow],
+    &'static [u64],
+    &'static [u64],
+);
 
 /// What a pattern reads to.
 #[derive(Clone, Copy)]
 pub enum MeaningRow {
     Term(&'static str),
     Literal(&'static str),
-    Type(T),
+    Type(TypeRow),
 }
 
 /// A notation: its kind, its pattern, and what this reads to.
-pub type N = (Kind, P, MeaningRow);
+pub type NotationRow = (Kind, PatternRow, MeaningRow);
 
 /// A field: its selector and its type.
-pub type F = (&'static str, T);
+pub type FieldRow = (&'static str, TypeRow);
 
 /// The symbols of a structure: its own, that of its attribute, and that of its aggregate.
-pub type S = (&'static str, &'static str, &'static str);
+pub type SymbolsRow = (&'static str, &'static str, &'static str);
 
 /// An item. A definition has its symbol, its pattern, where it has one its type, and its definiens, a formula whose
 /// quantifiers are of objects.
 #[derive(Clone, Copy)]
 pub enum ItemRow {
-    Predicate(&'static str, P, &'static str),
+    Predicate(&'static str, PatternRow, &'static str),
     /// Its subject is the last of its loci, of which there are one or two.
-    Attribute(&'static str, P, &'static str),
-    Mode(&'static str, P, T, &'static str),
-    Functor(&'static str, P, T, &'static str),
+    Attribute(&'static str, PatternRow, &'static str),
+    Mode(&'static str, PatternRow, TypeRow, &'static str),
+    Functor(&'static str, PatternRow, TypeRow, &'static str),
     /// A mode whose pattern reads to the first type, with the type of its definition and a new one.
-    ModeAgain(T, P, T, T),
+    ModeAgain(TypeRow, PatternRow, TypeRow, TypeRow),
     /// A functor whose pattern reads to the term, with the type of its definition and a new one.
-    FunctorAgain(&'static str, P, T, T),
-    Notation(N),
+    FunctorAgain(&'static str, PatternRow, TypeRow, TypeRow),
+    Notation(NotationRow),
     /// A notation without a definition.
-    Primitive(N),
+    Primitive(NotationRow),
     /// Some object of the type has the adjectives, on these loci.
-    Existential(&'static [T], &'static str, T),
+    Existential(&'static [TypeRow], &'static str, TypeRow),
     /// Each object of the type that has the first adjectives has the others.
-    Conditional(&'static [T], &'static str, &'static str, T),
+    Conditional(&'static [TypeRow], &'static str, &'static str, TypeRow),
     /// The term has the adjectives.
-    Functorial(&'static [T], &'static str, &'static str),
+    Functorial(&'static [TypeRow], &'static str, &'static str),
     /// A structure without loci: its symbols, its ancestors, its fields and its notations.
-    Structure(S, &'static [T], &'static [F], &'static [N]),
+    Structure(SymbolsRow, &'static [TypeRow], &'static [FieldRow], &'static [NotationRow]),
 }
 
 fn sym_of(text: &str) -> Result<Sym, SampleFault> {
@@ -91,7 +96,7 @@ fn symbols(alloc: Global, text: &str) -> Result<(Text, Text), SampleFault> {
 }
 
 /// The pattern of the kind.
-fn pattern(alloc: Global, kind: Kind, p: P) -> Result<Pattern, SampleFault> {
+fn pattern(alloc: Global, kind: Kind, p: PatternRow) -> Result<Pattern, SampleFault> {
     let (symbol, closing) = symbols(alloc, p.0)?;
     let loci = types(alloc, p.1)?;
     let left = Numbers::from_slice(alloc, p.2)?;
@@ -115,7 +120,7 @@ fn meaning(alloc: Global, m: MeaningRow) -> Result<Meaning, SampleFault> {
 }
 
 /// The notation of the row.
-pub fn notation(alloc: Global, n: N) -> Result<Notation, SampleFault> {
+pub fn notation(alloc: Global, n: NotationRow) -> Result<Notation, SampleFault> {
     let pattern = Box::new(alloc, pattern(alloc, n.0, n.1)?)?;
     let meaning = meaning(alloc, n.2)?;
     Ok(Notation {
@@ -124,7 +129,7 @@ pub fn notation(alloc: Global, n: N) -> Result<Notation, SampleFault> {
     })
 }
 
-fn notations(alloc: Global, ns: &[N]) -> Result<Notations, SampleFault> {
+fn notations(alloc: Global, ns: &[NotationRow]) -> Result<Notations, SampleFault> {
     let mut out = Notations::new(alloc);
     for n in ns {
         let n = notation(alloc, *n)?;
@@ -137,7 +142,7 @@ fn definiens(alloc: Global, text: &str) -> Result<FormulaDefiniens, SampleFault>
     Ok(FormulaDefiniens::Plain(statement(alloc, text, &[], OBJECT)?))
 }
 
-fn predicate(alloc: Global, s: &str, p: P, text: &str) -> Result<Item, SampleFault> {
+fn predicate(alloc: Global, s: &str, p: PatternRow, text: &str) -> Result<Item, SampleFault> {
     let sym = sym_of(s)?;
     let pattern = Box::new(alloc, pattern(alloc, Kind::Predicate, p)?)?;
     let definiens = definiens(alloc, text)?;
@@ -148,7 +153,7 @@ fn predicate(alloc: Global, s: &str, p: P, text: &str) -> Result<Item, SampleFau
     }))
 }
 
-fn attribute(alloc: Global, s: &str, p: P, text: &str) -> Result<Item, SampleFault> {
+fn attribute(alloc: Global, s: &str, p: PatternRow, text: &str) -> Result<Item, SampleFault> {
     let sym = sym_of(s)?;
     let pattern = Box::new(alloc, pattern(alloc, Kind::Attribute, p)?)?;
     let definiens = definiens(alloc, text)?;
@@ -164,8 +169,8 @@ fn means(
     alloc: Global,
     kind: Kind,
     s: &str,
-    p: P,
-    t: T,
+    p: PatternRow,
+    t: TypeRow,
     text: &str,
 ) -> Result<MeansDefinition, SampleFault> {
     let sym = sym_of(s)?;
@@ -180,20 +185,32 @@ fn means(
     })
 }
 
-fn mode(alloc: Global, s: &str, p: P, t: T, text: &str) -> Result<Item, SampleFault> {
+fn mode(
+    alloc: Global,
+    s: &str,
+    p: PatternRow,
+    t: TypeRow,
+    text: &str,
+) -> Result<Item, SampleFault> {
     Ok(Item::ModeMeans(means(alloc, Kind::Mode, s, p, t, text)?))
 }
 
-fn functor(alloc: Global, s: &str, p: P, t: T, text: &str) -> Result<Item, SampleFault> {
+fn functor(
+    alloc: Global,
+    s: &str,
+    p: PatternRow,
+    t: TypeRow,
+    text: &str,
+) -> Result<Item, SampleFault> {
     Ok(Item::FunctorMeans(means(alloc, Kind::Functor, s, p, t, text)?))
 }
 
 /// A mode whose pattern reads to the first type, with the type of its definition and a new one.
 pub fn mode_again(
     alloc: Global,
-    read: T,
-    p: P,
-    old: T,
+    read: TypeRow,
+    p: PatternRow,
+    old: TypeRow,
     new: SoftType,
 ) -> Result<Item, SampleFault> {
     let new = Box::new(alloc, new)?;
@@ -209,7 +226,13 @@ pub fn mode_again(
     }))
 }
 
-fn functor_again(alloc: Global, read: &str, p: P, old: T, new: T) -> Result<Item, SampleFault> {
+fn functor_again(
+    alloc: Global,
+    read: &str,
+    p: PatternRow,
+    old: TypeRow,
+    new: TypeRow,
+) -> Result<Item, SampleFault> {
     let pattern = Box::new(alloc, pattern(alloc, Kind::Functor, p)?)?;
     let term = Box::new(alloc, term(alloc, read)?)?;
     let old = Box::new(alloc, ty(alloc, old)?)?;
@@ -223,7 +246,7 @@ fn functor_again(alloc: Global, read: &str, p: P, old: T, new: T) -> Result<Item
     }))
 }
 
-fn existential(alloc: Global, loci: &[T], xs: &str, t: T) -> Result<Item, SampleFault> {
+fn existential(alloc: Global, loci: &[TypeRow], xs: &str, t: TypeRow) -> Result<Item, SampleFault> {
     let loci = types(alloc, loci)?;
     let adjectives = adjectives(alloc, xs)?;
     let ty = ty(alloc, t)?;
@@ -234,7 +257,13 @@ fn existential(alloc: Global, loci: &[T], xs: &str, t: T) -> Result<Item, Sample
     }))
 }
 
-fn conditional(alloc: Global, loci: &[T], from: &str, to: &str, t: T) -> Result<Item, SampleFault> {
+fn conditional(
+    alloc: Global,
+    loci: &[TypeRow],
+    from: &str,
+    to: &str,
+    t: TypeRow,
+) -> Result<Item, SampleFault> {
     let loci = types(alloc, loci)?;
     let from = adjectives(alloc, from)?;
     let to = adjectives(alloc, to)?;
@@ -242,7 +271,7 @@ fn conditional(alloc: Global, loci: &[T], from: &str, to: &str, t: T) -> Result<
     Ok(Item::Conditional(ConditionalRegistration { loci, from, to, ty }))
 }
 
-fn functorial(alloc: Global, loci: &[T], text: &str, xs: &str) -> Result<Item, SampleFault> {
+fn functorial(alloc: Global, loci: &[TypeRow], text: &str, xs: &str) -> Result<Item, SampleFault> {
     let loci = types(alloc, loci)?;
     let term = Box::new(alloc, term(alloc, text)?)?;
     let adjectives = adjectives(alloc, xs)?;
@@ -254,13 +283,13 @@ fn functorial(alloc: Global, loci: &[T], text: &str, xs: &str) -> Result<Item, S
     }))
 }
 
-fn field(alloc: Global, f: F) -> Result<Field, SampleFault> {
+fn field(alloc: Global, f: FieldRow) -> Result<Field, SampleFault> {
     let selector = sym_of(f.0)?;
     let ty = ty(alloc, f.1)?;
     Ok(Field { selector, ty })
 }
 
-fn fields(alloc: Global, fs: &[F]) -> Result<Fields, SampleFault> {
+fn fields(alloc: Global, fs: &[FieldRow]) -> Result<Fields, SampleFault> {
     let mut out = Fields::new(alloc);
     for f in fs {
         let f = field(alloc, *f)?;
@@ -271,10 +300,10 @@ fn fields(alloc: Global, fs: &[F]) -> Result<Fields, SampleFault> {
 
 fn structure(
     alloc: Global,
-    s: S,
-    ancestors: &[T],
-    fs: &[F],
-    ns: &[N],
+    s: SymbolsRow,
+    ancestors: &[TypeRow],
+    fs: &[FieldRow],
+    ns: &[NotationRow],
 ) -> Result<Item, SampleFault> {
     let sym = sym_of(s.0)?;
     let strict = sym_of(s.1)?;

@@ -1,5 +1,5 @@
 //! Statements, read from the texts of formulas, with the types of their quantifiers.
-use crate::types::{T, ty};
+use crate::types::{TypeRow, ty};
 use mz_core::statement::Statement;
 use mz_logic::formula::{Formula, FormulaNode};
 use mz_samples::fault::SampleFault;
@@ -7,7 +7,7 @@ use mz_samples::forms::formula;
 use std::alloc::Global;
 
 /// The type at the place, and behind the types the last one.
-fn type_at(types: &[T], last: T, at: usize) -> T {
+fn type_at(types: &[TypeRow], last: TypeRow, at: usize) -> TypeRow {
     match types.get(at) {
         Some(t) => *t,
         None => last,
@@ -18,8 +18,8 @@ fn type_at(types: &[T], last: T, at: usize) -> T {
 fn typed(
     alloc: Global,
     f: &Formula,
-    types: &[T],
-    last: T,
+    types: &[TypeRow],
+    last: TypeRow,
     at: &mut usize,
 ) -> Result<Statement, SampleFault> {
     match &f.node {
@@ -59,8 +59,8 @@ fn typed(
 pub fn statement(
     alloc: Global,
     text: &str,
-    types: &[T],
-    last: T,
+    types: &[TypeRow],
+    last: TypeRow,
 ) -> Result<Statement, SampleFault> {
     let f = formula(alloc, text)?;
     let mut at = 0;

@@ -1,4 +1,4 @@
-//! The texts of statements, literals, radices and types, made of those of formulas and terms.
+//! The texts of statements, radices and types, made of those of formulas and terms.
 use mz_core::adjective::Adjective;
 use mz_core::erasure::erase;
 use mz_core::radix::Radix;
@@ -12,12 +12,6 @@ use std::alloc::{AllocError, Global};
 /// The text of the statement's formula.
 pub fn statement_text(alloc: Global, s: &Statement) -> Result<Vec<u8>, AllocError> {
     let f = erase(alloc, s)?;
-    formula_text(alloc, &f)
-}
-
-/// The text of the literal's formula.
-pub fn literal_text(alloc: Global, l: &Literal) -> Result<Vec<u8>, AllocError> {
-    let f = l.formula(alloc)?;
     formula_text(alloc, &f)
 }
 

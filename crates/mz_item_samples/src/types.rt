@@ -17,19 +17,19 @@ use mz_samples::parts::{literal, literals};
 use std::alloc::Global;
 
 /// A type: its radix and its adjectives, as atoms without their last argument.
-pub type T = (&'static str, &'static str);
+pub type TypeRow = (&'static str, &'static str);
 
 /// The type `object`.
-pub const OBJECT: T = ("HIDDEN.M1", "");
+pub const OBJECT: TypeRow = ("HIDDEN.M1", "");
 
 /// The type `set`.
-pub const SET: T = ("HIDDEN.M2", "");
+pub const SET: TypeRow = ("HIDDEN.M2", "");
 
 /// A constant: its type, and its equal term, or nothing.
-pub type K = (T, &'static str);
+pub type ConstantRow = (TypeRow, &'static str);
 
 /// A clause: its variables, trigger, premises and conclusion.
-pub type C = (u32, &'static str, &'static str, &'static str);
+pub type ClauseRow = (u32, &'static str, &'static str, &'static str);
 
 fn radix(alloc: Global, text: &str) -> Result<Radix, SampleFault> {
     match literal(alloc, text)? {
@@ -64,14 +64,14 @@ pub fn adjectives(alloc: Global, text: &str) -> Result<Adjectives, SampleFault> 
 }
 
 /// The type of the texts.
-pub fn ty(alloc: Global, t: T) -> Result<SoftType, SampleFault> {
+pub fn ty(alloc: Global, t: TypeRow) -> Result<SoftType, SampleFault> {
     let adjectives = adjectives(alloc, t.1)?;
     let radix = radix(alloc, t.0)?;
     Ok(SoftType { adjectives, radix })
 }
 
 /// The types, each under those before it.
-pub fn types(alloc: Global, ts: &[T]) -> Result<SoftTypes, SampleFault> {
+pub fn types(alloc: Global, ts: &[TypeRow]) -> Result<SoftTypes, SampleFault> {
     let mut out = SoftTypes::new(alloc);
     for t in ts {
         out.push(ty(alloc, *t)?)?;
@@ -87,7 +87,7 @@ fn equal_term(alloc: Global, text: &str) -> Result<Option<Term>, SampleFault> {
     Ok(Some(t))
 }
 
-fn constant(alloc: Global, k: K) -> Result<Constant, SampleFault> {
+fn constant(alloc: Global, k: ConstantRow) -> Result<Constant, SampleFault> {
     let equal = equal_term(alloc, k.1)?;
     let ty = ty(alloc, k.0)?;
     Ok(Constant {
@@ -98,7 +98,7 @@ fn constant(alloc: Global, k: K) -> Result<Constant, SampleFault> {
 }
 
 /// The constants with the numbers from 1 on.
-pub fn constants(alloc: Global, ks: &[K]) -> Result<Constants, SampleFault> {
+pub fn constants(alloc: Global, ks: &[ConstantRow]) -> Result<Constants, SampleFault> {
     let mut out = Constants::new(alloc);
     for k in ks {
         let k = constant(alloc, *k)?;
@@ -118,7 +118,7 @@ pub fn trigger(alloc: Global, text: &str) -> Result<Trigger, SampleFault> {
     }
 }
 
-fn clause(alloc: Global, c: C) -> Result<Clause, SampleFault> {
+fn clause(alloc: Global, c: ClauseRow) -> Result<Clause, SampleFault> {
     let head = trigger(alloc, c.1)?;
     let premises = literals(alloc, c.2)?;
     let conclusion = literal(alloc, c.3)?;
@@ -126,7 +126,7 @@ fn clause(alloc: Global, c: C) -> Result<Clause, SampleFault> {
 }
 
 /// The clauses of the texts.
-pub fn clauses(alloc: Global, cs: &[C]) -> Result<Clauses, SampleFault> {
+pub fn clauses(alloc: Global, cs: &[ClauseRow]) -> Result<Clauses, SampleFault> {
     let mut out = Clauses::new(alloc);
     for c in cs {
         let c = clause(alloc, *c)?;

@@ -1,4 +1,4 @@
-//! The tokens of texts, and what parsers answer to them. For tests alone.
+//! The tokens and trees of texts, and what parsers answer to them. For tests alone.
 #![tactic(auto)]
 
 pub mod answer;
@@ -6,3 +6,4 @@ pub mod marked;
 pub mod places;
 pub mod spelled;
 pub mod texts;
+pub mod trees;

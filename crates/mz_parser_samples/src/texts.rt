@@ -39,10 +39,36 @@ pub fn article_tokens(
     tokens(alloc, &table, article).ok().ok_or(SampleFault::Text)
 }
 
-/// The tokens of an article with this text behind its `begin`, the sixth of which is the first of the text. Its first byte
-/// stands in column 31.
-pub fn tokens_behind_begin(alloc: Global, text: &[u8]) -> Result<Tokens, SampleFault> {
-    let mut bytes = Vec::from_slice(alloc, b"environ vocabularies A; begin ".as_slice())?;
+/// The tokens of an article that consists of the two texts, where `A` is the vocabulary with these symbols.
+fn tokens_behind(
+    alloc: Global,
+    front: &[u8],
+    symbols: &[u8],
+    text: &[u8],
+) -> Result<Tokens, SampleFault> {
+    let mut bytes = Vec::from_slice(alloc, front)?;
     bytes.extend_from_slice(text)?;
-    article_tokens(alloc, SYMBOLS, bytes.as_slice())
+    article_tokens(alloc, symbols, bytes.as_slice())
+}
+
+/// What stands before a text in the line of its article's `begin`.
+const BESIDE: &[u8] = b"environ vocabularies A; begin ";
+
+/// What stands before a text that begins in the line below its article's `begin`.
+const BELOW: &[u8] = b"environ vocabularies A; begin\n";
+
+/// The tokens of an article with this text behind its `begin`, the sixth of which is the first of the text. Its first byte
+/// stands in column 31. `A` is the vocabulary with these symbols.
+pub fn tokens_of(alloc: Global, symbols: &[u8], text: &[u8]) -> Result<Tokens, SampleFault> {
+    tokens_behind(alloc, BESIDE, symbols, text)
+}
+
+/// The same, where the text stands on the second line, from column 1 on.
+pub fn tokens_below(alloc: Global, symbols: &[u8], text: &[u8]) -> Result<Tokens, SampleFault> {
+    tokens_behind(alloc, BELOW, symbols, text)
+}
+
+/// The tokens of the text, by the vocabulary that the tests of the parsers have in common.
+pub fn tokens_behind_begin(alloc: Global, text: &[u8]) -> Result<Tokens, SampleFault> {
+    tokens_of(alloc, SYMBOLS, text)
 }

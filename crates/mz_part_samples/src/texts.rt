@@ -1,11 +1,13 @@
-//! Texts of literals, and formulas and sequents compared with texts.
+//! Formulas, statements and sequents compared with texts.
+use mz_core::erasure::erase;
+use mz_core::statement::Statement;
 use mz_logic::formula::Formula;
 use mz_logic::formulas::Formulas;
-use mz_logic::literal::Literal;
 use mz_logic::sequent::Sequent;
 use mz_logic::sequents::Sequents;
 use mz_logic::texts::{formula_text, push_formula};
 use std::alloc::{AllocError, Global};
+use std::mem::forget;
 
 /// The digit of a number below ten, and `+` for each other one.
 pub fn digit(number: u64) -> u8 {
@@ -16,16 +18,23 @@ pub fn digit(number: u64) -> u8 {
     }
 }
 
-/// The text of the literal's formula.
-pub fn literal_text(alloc: Global, l: &Literal) -> Result<Vec<u8>, AllocError> {
-    let f = l.formula(alloc)?;
-    formula_text(alloc, &f)
-}
-
 /// Whether the formula has this text.
 pub fn is_formula(alloc: Global, f: &Formula, wanted: &str) -> Result<bool, AllocError> {
     let text = formula_text(alloc, f)?;
     Ok(text.as_slice() == wanted.as_bytes())
+}
+
+/// Whether the statement, if there is one, is the formula of this text; there is none where it is empty.
+pub fn is_statement(alloc: Global, s: Option<Statement>, wanted: &str) -> Result<bool, AllocError> {
+    match s {
+        None => Ok(wanted.is_empty()),
+        Some(s) => {
+            let f = erase(alloc, &s);
+            forget(s);
+            let f = f?;
+            is_formula(alloc, &f, wanted)
+        }
+    }
 }
 
 /// `|- F`, or with premises `F1 F2 |- F`.

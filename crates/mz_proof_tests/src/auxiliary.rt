@@ -1,5 +1,5 @@
 //! Steps that leave the thesis.
-use crate::walking::{Row, check_all};
+use crate::outcomes::{Row, check_all};
 
 const AUXILIARY: [Row; 29] = [
     // `consider` asks for the existential; its constant has the next number

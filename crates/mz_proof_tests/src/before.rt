@@ -1,5 +1,5 @@
 //! The statement just before.
-use crate::walking::{Row, check_all};
+use crate::outcomes::{Row, check_all};
 
 const BEFORE: [Row; 18] = [
     // behind `let` alone there is none

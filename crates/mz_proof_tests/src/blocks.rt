@@ -1,5 +1,5 @@
 //! What is known in a block and behind it, and which fault comes first.
-use crate::walking::{Row, check_all};
+use crate::outcomes::{Row, check_all};
 
 const BLOCKS: [Row; 23] = [
     // a label is known in inner blocks, a later one hides it there alone

@@ -1,6 +1,6 @@
 //! The calls on a proof's steps and on a justification.
-use crate::making::{context, environment, statement_of, tokens_of};
-use crate::walking::{AMPLE, NOTHING_ABOVE, left_of, outcome_text};
+use crate::environment::{context, environment, statement_of, tokens_of};
+use crate::outcomes::{AMPLE, NOTHING_ABOVE, left_of, outcome_text};
 use mz_base::place::Place;
 use mz_base::token::Tokens;
 use mz_context::context::Context;

@@ -1,5 +1,5 @@
 //! Splits into cases.
-use crate::walking::{Row, check_all};
+use crate::outcomes::{Row, check_all};
 
 const CASES: [Row; 17] = [
     // the disjunction of what is supposed is asked, before the blocks

@@ -12,11 +12,13 @@ mod calls;
 #[cfg(test)]
 mod cases;
 #[cfg(test)]
+mod environment;
+#[cfg(test)]
 mod limits;
 #[cfg(test)]
-mod making;
-#[cfg(test)]
 mod nows;
+#[cfg(test)]
+mod outcomes;
 #[cfg(test)]
 mod simple;
 #[cfg(test)]
@@ -27,5 +29,3 @@ mod skeletons;
 mod unbuilt;
 #[cfg(test)]
 mod unfoldings;
-#[cfg(test)]
-mod walking;

@@ -1,6 +1,6 @@
 //! What an article has left.
-use crate::making::environment;
-use crate::walking::{Row, check};
+use crate::environment::environment;
+use crate::outcomes::{Row, check};
 use std::mem::forget;
 
 /// The nodes and the obligations that are left, and a row.

@@ -1,5 +1,5 @@
 //! What a `now` states.
-use crate::walking::{Row, check_all};
+use crate::outcomes::{Row, check_all};
 
 const NOWS: [Row; 50] = [
     // a conjunct

@@ -1,5 +1,5 @@
 //! Statements with justifications without a proof.
-use crate::walking::{Row, check_all};
+use crate::outcomes::{Row, check_all};
 
 const SIMPLE: [Row; 39] = [
     // a statement is asked at the token behind it

@@ -1,6 +1,6 @@
 //! What is too large.
-use crate::making::environment;
-use crate::walking::{AMPLE, Row, add, check, check_all, text_of};
+use crate::environment::environment;
+use crate::outcomes::{AMPLE, Row, add, check, check_all, text_of};
 use mz_environment::environment::Environment;
 use std::alloc::Global;
 use std::mem::forget;

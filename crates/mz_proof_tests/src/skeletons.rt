@@ -1,5 +1,5 @@
 //! The steps of a proof.
-use crate::walking::{Row, check_all};
+use crate::outcomes::{Row, check_all};
 
 const STEPS: [Row; 57] = [
     // `thus` takes the first conjuncts

@@ -1,5 +1,5 @@
 //! Forms that are not built.
-use crate::walking::{Row, check_all};
+use crate::outcomes::{Row, check_all};
 
 const UNBUILT: [Row; 6] = [
     // `from` is refused at its word

@@ -1,5 +1,5 @@
 //! Steps that unfold the thesis.
-use crate::walking::{Row, check_all};
+use crate::outcomes::{Row, check_all};
 
 const UNFOLDED: [Row; 15] = [
     // without an unfolding, where that will do

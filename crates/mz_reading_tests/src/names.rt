@@ -1,7 +1,10 @@
 //! What names stand for, worked out by hand.
-use crate::samples::{define, element_of, empty, put, reserve, stands_for, two_variables};
-use mz_core::hidden::{object_type, set_type};
+use crate::samples::{context, define, stands_for, two_variables};
+use mz_core::hidden::object_type;
 use mz_core::statement::Statement;
+use mz_item_samples::contexts::{VariableRow, put_reserved};
+use mz_item_samples::statements::statement;
+use mz_item_samples::types::{OBJECT, SET, TypeRow};
 use mz_logic::term::Term;
 use mz_names::names::{
     argument, functor_letter, is_only_reserved, labelled_as, private_functor, reserved_type,
@@ -11,13 +14,20 @@ use std::alloc::Global;
 use std::mem::forget;
 use std::process::Abort;
 
+const A: VariableRow = ("a", OBJECT);
+
+const X: VariableRow = ("x", OBJECT);
+
+const Y: VariableRow = ("y", OBJECT);
+
+const X_SET: VariableRow = ("x", SET);
+
+const X_ELEMENT: VariableRow = ("x", ("(A.M1 c1)", ""));
+
 #[test]
 fn the_latest_constant_in_force_counts(rt: HostRuntime) {
     let alloc = rt.alloc();
-    let mut ctx = empty(alloc);
-    put(&rt, alloc, &mut ctx, b"x");
-    put(&rt, alloc, &mut ctx, b"y");
-    put(&rt, alloc, &mut ctx, b"x");
+    let mut ctx = context(&rt, alloc, &[X, Y, X], &[]);
     assert!(rt; stands_for(&rt, 0, &ctx, b"x", 3));
     assert!(rt; stands_for(&rt, 0, &ctx, b"y", 2));
     assert!(rt; stands_for(&rt, 0, &ctx, b"z", 0));
@@ -32,10 +42,7 @@ fn the_latest_constant_in_force_counts(rt: HostRuntime) {
 #[test]
 fn a_constant_below_the_least_number_is_found_and_not_used(rt: HostRuntime) {
     let alloc = rt.alloc();
-    let mut ctx = empty(alloc);
-    put(&rt, alloc, &mut ctx, b"x");
-    put(&rt, alloc, &mut ctx, b"y");
-    reserve(&rt, alloc, &mut ctx, b"x", set_type(alloc));
+    let ctx = context(&rt, alloc, &[X, Y], &[X_SET]);
     assert!(rt; stands_for(&rt, 2, &ctx, b"x", 0));
     assert!(rt; stands_for(&rt, 2, &ctx, b"y", 2));
     assert!(rt; !is_only_reserved(2, &ctx, b"x"));
@@ -45,20 +52,11 @@ fn a_constant_below_the_least_number_is_found_and_not_used(rt: HostRuntime) {
 #[test]
 fn the_latest_reserved_type_counts(rt: HostRuntime) {
     let alloc = rt.alloc();
-    let mut ctx = empty(alloc);
-    put(&rt, alloc, &mut ctx, b"a");
-    reserve(&rt, alloc, &mut ctx, b"x", set_type(alloc));
-    reserve(&rt, alloc, &mut ctx, b"x", object_type(alloc));
+    let mut ctx = context(&rt, alloc, &[A], &[X_SET, X]);
     assert!(rt; reserved_type(0, &ctx, b"x").is_some_and(|ty| ty.equals(&object_type(alloc))));
     assert!(rt; is_only_reserved(0, &ctx, b"x"));
     assert!(rt; reserved_type(0, &ctx, b"a").is_none());
-    reserve(
-        &rt,
-        alloc,
-        &mut ctx,
-        b"x",
-        element_of(&rt, alloc, Term::constant(1)),
-    );
+    put_reserved(alloc, &mut ctx, &[X_ELEMENT]).expect(&rt, "a reserved variable");
     assert!(rt; reserved_type(0, &ctx, b"x").is_some());
     assert!(rt; reserved_type(2, &ctx, b"x").is_none());
     assert!(rt; !is_only_reserved(2, &ctx, b"x"));
@@ -68,7 +66,7 @@ fn the_latest_reserved_type_counts(rt: HostRuntime) {
 #[test]
 fn other_names_are_found(rt: HostRuntime) {
     let alloc = rt.alloc();
-    let mut ctx = empty(alloc);
+    let mut ctx = context(&rt, alloc, &[], &[]);
     define(&rt, alloc, &mut ctx, b"F", Term::constant(1));
     define(&rt, alloc, &mut ctx, b"F", Term::constant(2));
     assert!(rt; private_functor(&ctx, b"F").is_some_and(|f| f.body.is_const(2)));
@@ -85,20 +83,19 @@ fn other_names_are_found(rt: HostRuntime) {
 #[test]
 fn variables_are_put_into_force(rt: HostRuntime) {
     let alloc = rt.alloc();
-    let mut ctx = empty(alloc);
-    put(&rt, alloc, &mut ctx, b"a");
-    let vs = two_variables(&rt, alloc, 2);
+    let mut ctx = context(&rt, alloc, &[A], &[]);
+    let vs = two_variables(&rt, alloc);
     put_variables(alloc, &mut ctx, vs.items.as_slice()).expect(&rt, "memory");
     assert!(rt; stands_for(&rt, 0, &ctx, b"y", 3));
     forget(vs);
     forget(ctx);
 }
 
+const TYPES: [TypeRow; 2] = [SET, ("(A.M1 b0)", "")];
+
 /// For all x being set and y being `Elm of x` x = y.
 fn closed(rt: &impl Abort, alloc: Global) -> Statement {
-    let body = Statement::equation(Term::bound(1), Term::bound(0));
-    let inner = Statement::each(alloc, element_of(rt, alloc, Term::bound(0)), body);
-    Statement::each(alloc, set_type(alloc), inner.expect(rt, "memory")).expect(rt, "memory")
+    statement(alloc, "(all (all (= b1 b0)))", &TYPES, OBJECT).expect(rt, "a statement")
 }
 
 fn opened() -> Statement {
@@ -108,7 +105,7 @@ fn opened() -> Statement {
 #[test]
 fn variables_become_indices(rt: HostRuntime) {
     let alloc = rt.alloc();
-    let vs = two_variables(&rt, alloc, 2);
+    let vs = two_variables(&rt, alloc);
     let all = for_all(alloc, 2, vs.items.as_slice(), opened()).expect(&rt, "memory");
     assert!(rt; all.equals(&closed(&rt, alloc)));
     let denied = Statement::not(alloc, opened()).expect(&rt, "memory");

@@ -2,7 +2,7 @@
 use mz_base::token::MarkedToken;
 use mz_parser_samples::answer;
 use mz_parser_samples::answer::Answer;
-use mz_parser_samples::spelled::taken_behind_begin;
+use mz_parser_samples::marked::BEFORE;
 use mz_parser_samples::texts::tokens_behind_begin;
 use mz_pexpr::marked_tokens::marked_tokens;
 use mz_pproof::forms::{ProofForm, ProofTree};
@@ -21,24 +21,22 @@ fn of_tree(
 ) -> Answer {
     let mut spelled = Vec::new(alloc);
     match tree {
-        ProofTree::Proposition(tree) => return taken_behind_begin(alloc, tree, all, until).expect(
-            rt, "memory",
-        ),
+        ProofTree::Proposition(tree) => tree.spell(alloc, &mut spelled).expect(rt, "memory"),
         ProofTree::Justification(tree) => tree.spell(alloc, &mut spelled).expect(rt, "memory"),
         ProofTree::Statement(tree) => tree.spell(alloc, &mut spelled).expect(rt, "memory"),
         ProofTree::Reasoning(tree) => tree.spell(alloc, &mut spelled).expect(rt, "memory"),
     }
-    answer::taken(spelled.as_slice(), all, 5, until)
+    answer::taken(spelled.as_slice(), all, BEFORE, until)
 }
 
 /// What the parser answers to this text.
 pub fn answered(rt: &impl Abort, alloc: Global, form: ProofForm, text: &[u8]) -> Answer {
     let tokens = tokens_behind_begin(alloc, text).expect(rt, "tokens");
-    if tokens.items.len() < 5 {
+    if tokens.items.len() < BEFORE {
         return Answer::TooFew;
     }
     let all = marked_tokens(alloc, &tokens).expect(rt, "memory");
-    match proof(alloc, &tokens, 5, form) {
+    match proof(alloc, &tokens, BEFORE, form) {
         Ok(answer) => {
             let (tree, until) = answer;
             of_tree(rt, alloc, &tree, all.as_slice(), until)

@@ -1,28 +1,20 @@
 //! The table of rows by their heads.
-use mz_logic::kind::Kind;
-use mz_logic::sym::Sym;
 use mz_match::row::{Head, Row};
 use mz_match::table::Table;
 use mz_match::value::Value;
-
-fn sym(kind: Kind, number: u32) -> Sym {
-    Sym {
-        article: 0,
-        kind,
-        number,
-    }
-}
+use mz_samples::symbols::symbol;
 
 #[test]
 fn heads_are_compared(rt: HostRuntime) {
-    let p = sym(Kind::Predicate, 1);
+    let p = symbol("A.R1").expect(&rt, "a symbol");
+    let q = symbol("A.R2").expect(&rt, "a symbol");
     let heads = [
         Head::Constant(1),
         Head::Constant(2),
         Head::Functor(p),
         Head::Holds(p),
         Head::Fails(p),
-        Head::Fails(sym(Kind::Predicate, 2)),
+        Head::Fails(q),
         Head::Disequal,
     ];
     for i in 0..heads.len() {
@@ -36,7 +28,7 @@ fn heads_are_compared(rt: HostRuntime) {
 #[test]
 fn rows_by_their_heads(rt: HostRuntime) {
     let alloc = rt.alloc();
-    let holds = Head::Holds(sym(Kind::Predicate, 1));
+    let holds = Head::Holds(symbol("A.R1").expect(&rt, "a symbol"));
     let mut table = Table::new(alloc);
     for (head, value) in [
         (Head::Constant(1), 5),
@@ -68,7 +60,7 @@ fn rows_by_their_heads(rt: HostRuntime) {
 #[test]
 fn values_of_arguments(rt: HostRuntime) {
     let alloc = rt.alloc();
-    let functor = Head::Functor(sym(Kind::Functor, 1));
+    let functor = Head::Functor(symbol("A.O1").expect(&rt, "a symbol"));
     let mut table = Table::new(alloc);
     for (arg, value) in [(1, 5), (2, 5), (1, 5), (3, 5), (3, 6)] {
         let args = vec![in alloc; arg].expect(&rt, "memory");

@@ -3,9 +3,9 @@
 #![tactic(auto)]
 
 #[cfg(test)]
-mod making;
+mod answers;
 #[cfg(test)]
-mod reading;
+mod environments;
 #[cfg(test)]
 mod sizes;
 #[cfg(test)]

@@ -1,6 +1,6 @@
 //! The limits on nodes and depth, met exactly and passed by one.
-use crate::making::{environment, put_functor, sym_of, term_of};
-use crate::reading::{Call, answer};
+use crate::answers::{Call, answer};
+use crate::environments::{environment, put_functor, sym_of, term_of};
 use crate::small::{ITEMS, SYMBOLS, context};
 use mz_context::context::Context;
 use mz_environment::environment::Environment;

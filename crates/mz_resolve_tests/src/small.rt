@@ -1,11 +1,13 @@
 //! A small article, at a place of which the tables' texts stand.
-use crate::making::{Private, put_functors, put_predicates, term_of};
-use crate::reading::Symbols;
+use crate::answers::Symbols;
+use crate::environments::{Private, put_functors, put_predicates, term_of};
 use mz_context::context::Context;
 use mz_core::statement::Statement;
-use mz_item_samples::contexts::{L, V, put_constants, put_letters, put_reserved, start};
-use mz_item_samples::items::{ItemRow, MeaningRow, P};
-use mz_item_samples::types::{OBJECT, SET, T};
+use mz_item_samples::contexts::{
+    LetterRow, VariableRow, put_constants, put_letters, put_reserved, start,
+};
+use mz_item_samples::items::{ItemRow, MeaningRow, PatternRow};
+use mz_item_samples::types::{OBJECT, SET, TypeRow};
 use mz_logic::kind::Kind;
 use std::alloc::Global;
 use std::mem::{forget, replace};
@@ -16,9 +18,9 @@ pub const SYMBOLS: Symbols =
     b"Klb\nLrb\nMElm\nO+\nO* 66\nO!\nO^\nO@\nR##\nRsep\nVempty\nVfull\nVbig\nVnear\nVfar\n";
 
 /// An element of the locus before it.
-const ELEMENT: T = ("(A.M1 b0)", "");
+const ELEMENT: TypeRow = ("(A.M1 b0)", "");
 
-const SUM_AGAIN: P = ("+", &[SET, ELEMENT], &[0], &[1]);
+const SUM_AGAIN: PatternRow = ("+", &[SET, ELEMENT], &[0], &[1]);
 
 /// The functors `+`, `*`, `!` and `^`, the mode `Elm of` a set; a set and an element of it make an element of it by `+`; the
 /// attributes, where `near` is one of elements, whose set is hidden; the predicate `##` of a set and an element of it; `full`
@@ -43,11 +45,11 @@ pub const ITEMS: [ItemRow; 12] = [
 ];
 
 /// An element of the constant 2.
-const OF_D: T = ("(A.M1 c2)", "");
+const OF_D: TypeRow = ("(A.M1 c2)", "");
 
-const CONSTANTS: [V; 3] = [("c", OBJECT), ("d", SET), ("e", OF_D)];
+const CONSTANTS: [VariableRow; 3] = [("c", OBJECT), ("d", SET), ("e", OF_D)];
 
-const RESERVED: [V; 4] = [("x", OBJECT), ("y", OBJECT), ("X", SET), ("w", OF_D)];
+const RESERVED: [VariableRow; 4] = [("x", OBJECT), ("y", OBJECT), ("X", SET), ("w", OF_D)];
 
 /// Of the two `F` the later one counts.
 const FUNCTORS: [Private; 4] = [
@@ -59,7 +61,7 @@ const FUNCTORS: [Private; 4] = [
 
 const PREDICATES: [Private; 2] = [("P", &[OF_D], "(A.V1 b0)"), ("Q", &[], "(not (A.V1 c2))")];
 
-const LETTERS: [L; 2] = [
+const LETTERS: [LetterRow; 2] = [
     ("H", "A.F1", &[OBJECT, OBJECT], Some(SET)),
     ("R", "A.P1", &[OBJECT], None),
 ];

@@ -1,6 +1,6 @@
 //! Texts, what they are read to, and the nodes that this takes.
-use crate::making::environment;
-use crate::reading::{Call, Row, answer, check, is_answer};
+use crate::answers::{Call, Row, answer, check, is_answer};
+use crate::environments::environment;
 use crate::small::{ITEMS, SYMBOLS, context};
 use std::alloc::Global;
 use std::mem::forget;

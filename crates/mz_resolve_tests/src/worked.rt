@@ -1,12 +1,12 @@
 //! Small articles that were worked out by hand: what is covered by a registration, functors of two priorities, a predicate
 //! that is defined twice, and elements of structures.
-use crate::making::{environment, term_of};
-use crate::reading::{Call, Row, Symbols, check};
+use crate::answers::{Call, Row, Symbols, check};
+use crate::environments::{environment, term_of};
 use mz_context::context::Context;
 use mz_environment::environment::Environment;
 use mz_item_samples::contexts::{put_constants, start};
-use mz_item_samples::items::{ItemRow, MeaningRow, N, P};
-use mz_item_samples::types::{OBJECT, SET, T};
+use mz_item_samples::items::{ItemRow, MeaningRow, NotationRow, PatternRow};
+use mz_item_samples::types::{OBJECT, SET, TypeRow};
 use mz_logic::kind::Kind;
 use std::alloc::Global;
 use std::mem::{forget, replace};
@@ -21,7 +21,7 @@ const JOIN: ItemRow = ItemRow::Functor("A.O1", ("\\/", &[SET, SET], &[0], &[1]),
 
 const MEET: ItemRow = ItemRow::Functor("A.O2", ("/\\", &[SET, SET], &[0], &[1]), SET, "true");
 
-const RELATION: P = ("##", &[OBJECT, OBJECT], &[0], &[1]);
+const RELATION: PatternRow = ("##", &[OBJECT, OBJECT], &[0], &[1]);
 
 const ONE: ItemRow = ItemRow::Predicate("P8.R1", RELATION, "true");
 
@@ -119,10 +119,10 @@ fn worked(rt: HostRuntime) {
     }
 }
 
-const MAG: T = ("A.G1", "");
+const MAG: TypeRow = ("A.G1", "");
 
 /// Two elements of a structure that isn't written.
-const PRODUCT: P = (
+const PRODUCT: PatternRow = (
     "**",
     &[MAG, ("(A.M1 b0)", ""), ("(A.M1 b1)", "")],
     &[1],
@@ -133,7 +133,7 @@ const PRODUCT: P = (
 const SYMBOLS: Symbols = b"GMag\nUcar\nUcdr\nMElm\nMIn\nO**\n";
 
 /// The notations of the structure and of its selector.
-const NOTATIONS: &[N] = &[
+const NOTATIONS: &[NotationRow] = &[
     (
         Kind::Structure,
         ("Mag", &[], &[], &[]),

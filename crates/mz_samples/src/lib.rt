@@ -9,3 +9,4 @@ mod reader;
 pub mod symbols;
 #[cfg(test)]
 mod tests;
+pub mod texts;

@@ -3,7 +3,7 @@ use mz_base::text::Text;
 use mz_core::soft_type::SoftType;
 use mz_core::statement::Statement;
 use mz_item_samples::statements::statement;
-use mz_item_samples::types::{SET, T, ty};
+use mz_item_samples::types::{SET, TypeRow, ty};
 use mz_logic::term::Term;
 use mz_names::variable::{Variable, Variables};
 use mz_now::now_part::{NowPart, NowParts};
@@ -13,9 +13,9 @@ use std::process::Abort;
 
 /// A part of a `now`: its letter, its constant, its type, and its statement or term. The letters: `q` a quantifier, `a`
 /// an antecedent, `c` a conjunct, `d` a definition, `h` a hidden constant.
-pub type P = (char, u32, T, &'static str);
+pub type P = (char, u32, TypeRow, &'static str);
 
-fn type_of(rt: &impl Abort, alloc: Global, t: T) -> SoftType {
+fn type_of(rt: &impl Abort, alloc: Global, t: TypeRow) -> SoftType {
     ty(alloc, t).expect(rt, "a type")
 }
 
@@ -66,7 +66,7 @@ pub fn conjuncts(rt: &impl Abort, alloc: Global, count: usize) -> NowParts {
 }
 
 /// A variable of the type, without a name.
-pub fn variable(rt: &impl Abort, alloc: Global, t: T) -> Variable {
+pub fn variable(rt: &impl Abort, alloc: Global, t: TypeRow) -> Variable {
     Variable {
         name: Text::new(alloc),
         ty: type_of(rt, alloc, t),
@@ -74,7 +74,7 @@ pub fn variable(rt: &impl Abort, alloc: Global, t: T) -> Variable {
 }
 
 /// One variable of the type.
-pub fn variables(rt: &impl Abort, alloc: Global, t: T) -> Variables {
+pub fn variables(rt: &impl Abort, alloc: Global, t: TypeRow) -> Variables {
     let mut out = Variables::new(alloc);
     out.push(variable(rt, alloc, t)).expect(rt, "memory");
     out

@@ -7,7 +7,7 @@ use mz_core::statement::Statement;
 use mz_environment::unfoldings::Unfoldings;
 use mz_ground::clauses::Clauses;
 use mz_item_samples::contexts::in_force;
-use mz_item_samples::types::{K, SET, T};
+use mz_item_samples::types::{ConstantRow, SET, TypeRow};
 use mz_logic::formula::Formula;
 use mz_now::hidden::{brings_hidden, defined};
 use mz_now::now_part::{NowPart, NowParts};
@@ -20,7 +20,7 @@ use std::alloc::Global;
 use std::mem::forget;
 use std::process::Abort;
 
-const MODE: T = ("A.M1", "");
+const MODE: TypeRow = ("A.M1", "");
 
 fn is_text(rt: &impl Abort, alloc: Global, s: Statement, wanted: &str) -> bool {
     let f: Formula = erase(alloc, &s).expect(rt, "memory");
@@ -225,7 +225,7 @@ fn a_term_with_a_hidden_constant_hides(rt: HostRuntime) {
     }
 }
 
-const IN_FORCE: [K; 1] = [(MODE, "")];
+const IN_FORCE: [ConstantRow; 1] = [(MODE, "")];
 
 fn context_of(rt: &impl Abort, alloc: Global, thesis: &str) -> Context {
     let mut ctx = in_force(alloc, 0, &IN_FORCE).expect(rt, "constants");

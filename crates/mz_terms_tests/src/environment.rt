@@ -4,18 +4,18 @@ use mz_core::hidden::set_type;
 use mz_core::registration::ExistentialRegistration;
 use mz_core::soft_types::SoftTypes;
 use mz_environment::environment::Environment;
-use mz_item_samples::contexts::{V, put_constants, start};
-use mz_item_samples::items::{MeaningRow, N, notation};
-use mz_item_samples::types::{OBJECT, SET, T, adjectives};
+use mz_item_samples::contexts::{VariableRow, put_constants, start};
+use mz_item_samples::items::{MeaningRow, NotationRow, notation};
+use mz_item_samples::types::{OBJECT, SET, TypeRow, adjectives};
 use mz_logic::kind::Kind;
 use std::alloc::Global;
 use std::process::Abort;
 
-const ONE: &[T] = &[OBJECT];
+const ONE: &[TypeRow] = &[OBJECT];
 
-const TWO: &[T] = &[OBJECT, OBJECT];
+const TWO: &[TypeRow] = &[OBJECT, OBJECT];
 
-const NOTATIONS: [N; 15] = [
+const NOTATIONS: [NotationRow; 15] = [
     (
         Kind::Functor,
         ("+", TWO, &[0], &[1]),
@@ -106,7 +106,7 @@ pub fn environment(rt: &impl Abort, alloc: Global) -> Environment {
     env
 }
 
-const CONSTANTS: [V; 2] = [("x", OBJECT), ("y", OBJECT)];
+const CONSTANTS: [VariableRow; 2] = [("x", OBJECT), ("y", OBJECT)];
 
 /// The constants `x` and `y`, of `object`, are in force.
 pub fn context(rt: &impl Abort, alloc: Global) -> Context {

@@ -4,6 +4,6 @@
 #[cfg(test)]
 mod environment;
 #[cfg(test)]
-mod reading;
-#[cfg(test)]
 mod tests;
+#[cfg(test)]
+mod texts;

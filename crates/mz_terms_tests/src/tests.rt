@@ -1,6 +1,6 @@
 //! Texts beside what they are read to, worked out by hand.
 use crate::environment::{context, environment};
-use crate::reading::{is_term, refusal, term_of, type_of};
+use crate::texts::{is_term, refusal, term_of, type_of};
 use mz_context::context::Context;
 use mz_environment::environment::Environment;
 use mz_logic::term::Term;

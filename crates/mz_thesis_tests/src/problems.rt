@@ -1,7 +1,7 @@
 //! Problems of simple justifications, worked out by hand from the rules.
 use crate::samples::{Given, PART, S, U, in_force, statement_of};
 use mz_core::statements::Statements;
-use mz_item_samples::types::{K, SET};
+use mz_item_samples::types::{ConstantRow, SET};
 use mz_logic::formula::Formula;
 use mz_logic::texts::push_formula;
 use mz_nf::problem::Problem;
@@ -60,7 +60,7 @@ fn check(rt: &impl Abort, alloc: Global, g: &Given, row: Row) {
 }
 
 /// A part that is odd, a set, and a set that is equal to a value at the second.
-const CONSTANTS: [K; 3] = [(("A.M1", "A.V1"), ""), (SET, ""), (SET, "(A.O1 c1)")];
+const CONSTANTS: [ConstantRow; 3] = [(("A.M1", "A.V1"), ""), (SET, ""), (SET, "(A.O1 c1)")];
 
 /// An atom that is a conjunction, and one of parts alone.
 const UNFOLDINGS: [U; 2] = [

@@ -4,18 +4,20 @@ use mz_core::statement::Statement;
 use mz_environment::unfoldings::{Unfolding, Unfoldings};
 use mz_ground::clauses::Clauses;
 use mz_item_samples::statements::statement;
-use mz_item_samples::types::{C, K, SET, T, clauses, constants, trigger, types};
+use mz_item_samples::types::{
+    ClauseRow, ConstantRow, SET, TypeRow, clauses, constants, trigger, types,
+};
 use std::alloc::Global;
 use std::process::Abort;
 
 /// A statement: its formula, and the types of its quantifiers from the left.
-pub type S = (&'static str, &'static [T]);
+pub type S = (&'static str, &'static [TypeRow]);
 
 /// An unfolding: the types of its loci, its head, an atom or a term, and its definiens.
-pub type U = (&'static [T], &'static str, S);
+pub type U = (&'static [TypeRow], &'static str, S);
 
 /// A type that says more than `set`.
-pub const PART: T = ("A.M1", "");
+pub const PART: TypeRow = ("A.M1", "");
 
 /// What is in force.
 #[derive(Drop)]
@@ -47,7 +49,13 @@ fn unfoldings(rt: &impl Abort, alloc: Global, us: &[U]) -> Unfoldings {
 }
 
 /// These clauses, constants from 1 on and unfoldings.
-pub fn in_force(rt: &impl Abort, alloc: Global, cs: &[C], ks: &[K], us: &[U]) -> Given {
+pub fn in_force(
+    rt: &impl Abort,
+    alloc: Global,
+    cs: &[ClauseRow],
+    ks: &[ConstantRow],
+    us: &[U],
+) -> Given {
     Given {
         clauses: clauses(alloc, cs).expect(rt, "clauses"),
         constants: constants(alloc, ks).expect(rt, "constants"),

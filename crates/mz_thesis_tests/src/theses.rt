@@ -1,7 +1,7 @@
 //! Theses after steps, worked out by hand from the table of steps.
 use crate::samples::{Given, PART, S, U, in_force, statement_of};
 use mz_core::statement::Statement;
-use mz_item_samples::types::{C, K, SET, T, ty};
+use mz_item_samples::types::{ClauseRow, ConstantRow, SET, TypeRow, ty};
 use mz_samples::forms::term;
 use mz_thesis::apply::apply;
 use mz_thesis::step::Step;
@@ -12,7 +12,7 @@ use std::process::Abort;
 /// A step as texts. The constant of `let` is the third.
 #[derive(Clone, Copy)]
 enum Move {
-    Let(T),
+    Let(TypeRow),
     Assume(S),
     Thus(S),
     Take(&'static str),
@@ -22,7 +22,7 @@ enum Move {
 type Row = (S, Move, Option<S>);
 
 /// A set and a part.
-const CONSTANTS: [K; 2] = [(SET, ""), (PART, "")];
+const CONSTANTS: [ConstantRow; 2] = [(SET, ""), (PART, "")];
 
 fn step(rt: &impl Abort, alloc: Global, m: Move) -> Step {
     match m {
@@ -92,7 +92,7 @@ const B: S = ("A.R2", &[]);
 const C: S = ("A.R3", &[]);
 
 /// That what is odd is `V1`.
-const ODD: C = (1, "(A.V2 b0)", "(A.V2 b0)", "(A.V1 b0)");
+const ODD: ClauseRow = (1, "(A.V2 b0)", "(A.V2 b0)", "(A.V1 b0)");
 
 const LETS: [Row; 8] = [
     (

@@ -1,19 +1,19 @@
 //! Chosen notations, worked out by hand from the rules.
+use crate::applications::{A, Row, applied, check_as, check_rows, means, reads};
 use crate::items::{Made, in_force, text_of, with_letter};
-use crate::making::{A, Row, applied, check_as, check_rows, means, reads};
 use mz_choice::choice::{Wanted, chosen_by};
 use mz_choice::resolve::resolve_by;
 use mz_context::context::Context;
-use mz_item_samples::contexts::L;
-use mz_item_samples::items::{ItemRow, P};
-use mz_item_samples::types::{K, OBJECT, SET};
+use mz_item_samples::contexts::LetterRow;
+use mz_item_samples::items::{ItemRow, PatternRow};
+use mz_item_samples::types::{ConstantRow, OBJECT, SET};
 use mz_logic::kind::Kind;
 use mz_logic::term::Term;
 use std::alloc::Global;
 use std::mem::{forget, replace};
 use std::process::Abort;
 
-const PRODUCT: P = (
+const PRODUCT: PatternRow = (
     "**",
     &[("A.G1", ""), ("(A.M1 b0)", ""), ("(A.M1 b1)", "")],
     &[1],
@@ -29,7 +29,7 @@ const MAGMAS: [ItemRow; 3] = [
 
 #[test]
 fn a_hidden_locus_is_fixed_by_a_match(rt: HostRuntime) {
-    let ks: [K; 5] = [
+    let ks: [ConstantRow; 5] = [
         (("A.G1", ""), ""),
         (("A.G1", ""), ""),
         (("(A.M1 c1)", ""), ""),
@@ -55,7 +55,7 @@ fn a_hidden_locus_is_fixed_by_a_match(rt: HostRuntime) {
 /// The same where the two structures are equal by the facts: what was fixed first stands.
 #[test]
 fn loci_are_equal_by_the_facts(rt: HostRuntime) {
-    let ks: [K; 4] = [
+    let ks: [ConstantRow; 4] = [
         (("A.G1", ""), ""),
         (("A.G1", ""), "c1"),
         (("(A.M1 c1)", ""), ""),
@@ -71,7 +71,7 @@ fn loci_are_equal_by_the_facts(rt: HostRuntime) {
 }
 
 /// A predicate's symbol and pattern.
-type N = (&'static str, P);
+type N = (&'static str, PatternRow);
 
 /// What is read by two notations, the second of which is let in after the first.
 fn check_latest(rt: &impl Abort, alloc: Global, first: N, second: N, a: A, wanted: &str) {
@@ -84,9 +84,9 @@ fn check_latest(rt: &impl Abort, alloc: Global, first: N, second: N, a: A, wante
     forget(ctx);
 }
 
-const BOTH: P = ("##", &[OBJECT, OBJECT], &[0], &[1]);
+const BOTH: PatternRow = ("##", &[OBJECT, OBJECT], &[0], &[1]);
 
-const BESIDE_MODE: P = ("##", &[OBJECT, ("A.M1", "")], &[0], &[1]);
+const BESIDE_MODE: PatternRow = ("##", &[OBJECT, ("A.M1", "")], &[0], &[1]);
 
 const SAME: A = ("##", Kind::Predicate, "c1", "c1");
 
@@ -109,13 +109,13 @@ fn the_latest_notation_is_taken(rt: HostRuntime) {
     }
 }
 
-const OF_SET: P = ("f", &[SET], &[], &[0]);
+const OF_SET: PatternRow = ("f", &[SET], &[], &[0]);
 
-const VISIBLE: P = ("in", &[SET, ("(A.M1 b0)", "")], &[0], &[1]);
+const VISIBLE: PatternRow = ("in", &[SET, ("(A.M1 b0)", "")], &[0], &[1]);
 
-const HIDDEN: P = ("of", &[SET, ("(A.M1 b0)", "")], &[], &[1]);
+const HIDDEN: PatternRow = ("of", &[SET, ("(A.M1 b0)", "")], &[], &[1]);
 
-const BIG: P = (
+const BIG: PatternRow = (
     "big",
     &[("HIDDEN.M2", "A.V1"), ("(A.M1 b0)", "")],
     &[],
@@ -139,7 +139,7 @@ const RELATED: [ItemRow; 7] = [
 /// first one with the symbol doesn't match, and the latest redefinition's where all match.
 #[test]
 fn guards_and_members(rt: HostRuntime) {
-    let ks: [K; 4] = [
+    let ks: [ConstantRow; 4] = [
         (SET, ""),
         (("HIDDEN.M2", "A.V1"), ""),
         (("(A.M1 c1)", ""), ""),
@@ -167,11 +167,11 @@ fn guards_and_members(rt: HostRuntime) {
     check_rows(&rt, rt.alloc(), made, ctx, &rows);
 }
 
-const PLAIN: P = ("V", &[SET], &[], &[0]);
+const PLAIN: PatternRow = ("V", &[SET], &[], &[0]);
 
-const BESIDE: P = ("in", &[SET, SET], &[0], &[1]);
+const BESIDE: PatternRow = ("in", &[SET, SET], &[0], &[1]);
 
-const DENSE: P = ("dense", &[("HIDDEN.M2", "A.V1")], &[], &[0]);
+const DENSE: PatternRow = ("dense", &[("HIDDEN.M2", "A.V1")], &[], &[0]);
 
 /// Attributes: of sets, of a set beside another, and of sets that have an attribute.
 const ATTRIBUTES: [ItemRow; 3] = [
@@ -221,7 +221,7 @@ fn check_adjectives(rt: &impl Abort, alloc: Global, made: Made, ctx: Context) {
 /// other argument.
 #[test]
 fn adjectives_are_of_their_subject(rt: HostRuntime) {
-    let ks: [K; 3] = [(SET, ""), (("HIDDEN.M2", "A.V1"), ""), (SET, "")];
+    let ks: [ConstantRow; 3] = [(SET, ""), (("HIDDEN.M2", "A.V1"), ""), (SET, "")];
     let made = Made::of(&rt, rt.alloc(), &ATTRIBUTES);
     let ctx = in_force(&rt, rt.alloc(), &ks);
     check_adjectives(&rt, rt.alloc(), made, ctx);
@@ -268,7 +268,7 @@ fn a_pair_of_brackets_is_one_symbol(rt: HostRuntime) {
 
 const AT_LETTER: A = ("dense", Kind::Attribute, "", "(A.F1 c1)");
 
-const LETTER: L = ("", "A.F1", &[SET], Some(("HIDDEN.M2", "A.V1")));
+const LETTER: LetterRow = ("", "A.F1", &[SET], Some(("HIDDEN.M2", "A.V1")));
 
 /// A letter's type counts while the letter is in force.
 #[test]

@@ -3,13 +3,20 @@ use crate::items::{Made, in_force, type_of};
 use mz_choice::cover::is_covered_by;
 use mz_choice::resolve::is_covered;
 use mz_item_samples::items::ItemRow;
-use mz_item_samples::types::{K, SET, T};
+use mz_item_samples::types::{ConstantRow, SET, TypeRow};
 use std::alloc::Global;
 use std::mem::forget;
 use std::process::Abort;
 
 /// Whether the type is covered, by both calls, which leave the context with so many constants.
-fn check_covered(rt: &impl Abort, alloc: Global, made: &Made, ks: &[K], t: T, wanted: bool) {
+fn check_covered(
+    rt: &impl Abort,
+    alloc: Global,
+    made: &Made,
+    ks: &[ConstantRow],
+    t: TypeRow,
+    wanted: bool,
+) {
     let mut ctx = in_force(rt, alloc, ks);
     let at = type_of(rt, alloc, t);
     let clauses = made.env.typing.as_slice();
@@ -31,7 +38,7 @@ const EMPTY: ItemRow = ItemRow::Attribute("A.V1", ("empty", &[SET], &[], &[0]), 
 /// There is a set that isn't empty.
 const REGISTERED: ItemRow = ItemRow::Existential(&[], "(not A.V1)", SET);
 
-const NON_EMPTY: T = ("HIDDEN.M2", "(not A.V1)");
+const NON_EMPTY: TypeRow = ("HIDDEN.M2", "(not A.V1)");
 
 /// `non empty set` without and with a registration.
 #[test]
@@ -58,7 +65,7 @@ const REGISTRATIONS: [ItemRow; 7] = [
     ItemRow::Conditional(&[], "", "A.V5", ("A.M3", "")),
 ];
 
-const COVERED: [(T, bool); 9] = [
+const COVERED: [(TypeRow, bool); 9] = [
     (("(A.M1 c1)", ""), true),
     (("(A.M1 c2)", "A.V2"), true),
     (("(A.M1 c1)", "A.V2"), false),
@@ -70,7 +77,7 @@ const COVERED: [(T, bool); 9] = [
     (("A.M3", "A.V5, A.V3"), false),
 ];
 
-const TWO: [K; 2] = [(SET, ""), (("HIDDEN.M2", "A.V1"), "")];
+const TWO: [ConstantRow; 2] = [(SET, ""), (("HIDDEN.M2", "A.V1"), "")];
 
 fn check_all(rt: &impl Abort, alloc: Global, made: Made) {
     for (t, wanted) in &COVERED {

@@ -6,9 +6,9 @@ use mz_core::soft_type::SoftType;
 use mz_environment::environment::Environment;
 use mz_environment::numbering::Numbering;
 use mz_item_samples::contexts;
-use mz_item_samples::contexts::{L, put_letters};
+use mz_item_samples::contexts::{LetterRow, put_letters};
 use mz_item_samples::items::{ItemRow, item};
-use mz_item_samples::types::{K, T, ty};
+use mz_item_samples::types::{ConstantRow, TypeRow, ty};
 use mz_logic::sym::Sym;
 use mz_logic::term::Term;
 use mz_samples::forms::term;
@@ -18,7 +18,7 @@ use std::mem::forget;
 use std::process::Abort;
 
 /// A context with these constants in force.
-pub fn in_force(rt: &impl Abort, alloc: Global, ks: &[K]) -> Context {
+pub fn in_force(rt: &impl Abort, alloc: Global, ks: &[ConstantRow]) -> Context {
     contexts::in_force(alloc, 1, ks).expect(rt, "constants")
 }
 
@@ -38,12 +38,12 @@ pub fn term_of(rt: &impl Abort, alloc: Global, text: &str) -> Term {
 }
 
 /// The type of the texts.
-pub fn type_of(rt: &impl Abort, alloc: Global, t: T) -> SoftType {
+pub fn type_of(rt: &impl Abort, alloc: Global, t: TypeRow) -> SoftType {
     ty(alloc, t).expect(rt, "a type")
 }
 
 /// The context with one letter more.
-pub fn with_letter(rt: &impl Abort, alloc: Global, ctx: Context, l: L) -> Context {
+pub fn with_letter(rt: &impl Abort, alloc: Global, ctx: Context, l: LetterRow) -> Context {
     let mut out = ctx;
     put_letters(alloc, &mut out, &[l]).expect(rt, "letters");
     out

@@ -2,12 +2,12 @@
 #![tactic(auto)]
 
 #[cfg(test)]
+mod applications;
+#[cfg(test)]
 mod choice_tests;
 #[cfg(test)]
 mod cover_tests;
 #[cfg(test)]
 mod items;
-#[cfg(test)]
-mod making;
 #[cfg(test)]
 mod tests;

@@ -6,10 +6,10 @@ use mz_context::context::Context;
 use mz_core::adjectives::Adjectives;
 use mz_core::radix::Radix;
 use mz_core::soft_type::SoftType;
-use mz_item_samples::contexts::L;
-use mz_item_samples::items::{F, ItemRow, P, mode_again};
+use mz_item_samples::contexts::LetterRow;
+use mz_item_samples::items::{FieldRow, ItemRow, PatternRow, mode_again};
 use mz_item_samples::texts::radix_text;
-use mz_item_samples::types::{K, OBJECT, SET};
+use mz_item_samples::types::{ConstantRow, OBJECT, SET};
 use mz_logic::term::{Term, Terms};
 use mz_types::radices::Radixes;
 use mz_types::types::{chain, fits};
@@ -107,13 +107,13 @@ fn a_constant_begins_with_its_declared_radix(rt: HostRuntime) {
     check_chains(&rt, rt.alloc(), Made::new(rt.alloc()), ctx, &rows);
 }
 
-const OF_SET: P = ("M", &[SET], &[], &[0]);
+const OF_SET: PatternRow = ("M", &[SET], &[], &[0]);
 
-const PLAIN: P = ("N", &[], &[], &[]);
+const PLAIN: PatternRow = ("N", &[], &[], &[]);
 
-const OF_MODE: P = ("f", &[("(A.M1 A.O1)", "")], &[], &[0]);
+const OF_MODE: PatternRow = ("f", &[("(A.M1 A.O1)", "")], &[], &[0]);
 
-const OF_PLAIN: P = ("f", &[("A.M2", "")], &[], &[0]);
+const OF_PLAIN: PatternRow = ("f", &[("A.M2", "")], &[], &[0]);
 
 /// A mode with an argument, a constant of the functor, a mode with a redefinition, and a functor of sets with two.
 const REDEFINED: [ItemRow; 7] = [
@@ -145,9 +145,9 @@ fn redefinitions_stand_before_the_definition(rt: HostRuntime) {
     check_chains(&rt, rt.alloc(), made, ctx, &rows);
 }
 
-const FIRST: F = ("A.U1", SET);
+const FIRST: FieldRow = ("A.U1", SET);
 
-const SECOND: F = ("A.U2", ("(A.M1 b1)", ""));
+const SECOND: FieldRow = ("A.U2", ("(A.M1 b1)", ""));
 
 /// A structure with one field, one with a further field, and one with both as ancestors.
 const STRUCTURES: [ItemRow; 4] = [
@@ -171,7 +171,7 @@ const STRUCTURES: [ItemRow; 4] = [
 #[test]
 fn structures_have_ancestors_fields_and_aggregates(rt: HostRuntime) {
     let made = Made::of(&rt, rt.alloc(), &STRUCTURES);
-    let ks: [K; 3] = [(SET, ""), (("A.G3", ""), ""), (("(A.M1 c1)", ""), "")];
+    let ks: [ConstantRow; 3] = [(SET, ""), (("A.G3", ""), ""), (("(A.M1 c1)", ""), "")];
     let ctx = in_force(&rt, rt.alloc(), &ks);
     let rows = [
         ("c2", "A.G3 A.G1 A.G2 "),
@@ -236,9 +236,9 @@ fn no_more_than_256_radices(rt: HostRuntime) {
     check_redefined(&rt, rt.alloc(), 255, 258);
 }
 
-const TO_MODE: L = ("", "A.F1", &[SET], Some(("(A.M1 b0)", "")));
+const TO_MODE: LetterRow = ("", "A.F1", &[SET], Some(("(A.M1 b0)", "")));
 
-const TO_STRUCTURE: L = ("", "A.F2", &[("A.G1", "")], Some(("A.G2", "")));
+const TO_STRUCTURE: LetterRow = ("", "A.F2", &[("A.G1", "")], Some(("A.G2", "")));
 
 /// Letters with their types, where the guards of the arguments fit, an aggregate's and a letter's among them.
 #[test]

@@ -39,7 +39,8 @@ fn want_of_memory_frees_the_claim(rt: HostRuntime) {
     assert!(&rt; matches!(desk.claim(alloc, 1).expect(&rt, "memory"), Claim::Take(_)));
 }
 
-/// While one worker checks the only ready row the other waits for the bell; the first one stops, and the other goes on.
+/// While one worker checks the only ready row the other waits at the condition variable; the first one stops, and the other
+/// goes on.
 #[test]
 fn want_of_memory_wakes_the_other(rt: HostRuntime) {
     let alloc: Global = rt.alloc();

@@ -6,9 +6,10 @@ use mz_axioms::checker::Semantics;
 use mz_axioms::exports::Exports;
 use mz_base::name::Name;
 use mz_compare::items::export_equal;
-use mz_core::verdict::{Entry, Verdict, Verdicts};
+use mz_core::verdict::{Entry, Verdicts};
 use mz_desk::desk::Desk;
 use mz_desk_tests::corpora::{diamond, name_of};
+use mz_desk_tests::letters::letter;
 use mz_io::gate::Gate;
 use mz_workers::work::work;
 use std::alloc::{AllocError, Global};
@@ -26,18 +27,6 @@ pub const LIBRARY: [&str; 7] = ["DA", "DB", "DC", "DD", "HIDDEN", "TARSKI_0", "T
 /// The name that the word spells.
 pub fn name<R: Abort>(rt: &R, word: &str) -> Name {
     name_of(word).expect(rt, "a name")
-}
-
-/// How an entry reads, by one letter.
-fn letter(entry: &Entry) -> u8 {
-    match entry.verdict {
-        None => b'-',
-        Some(Verdict::Accepted) => b'a',
-        Some(Verdict::Rejected) => b'r',
-        Some(Verdict::Blocked(_)) => b'b',
-        Some(Verdict::Cyclic) => b'c',
-        Some(Verdict::Missing) => b'm',
-    }
 }
 
 /// Whether the desk has these verdicts of the four articles, by their letters.

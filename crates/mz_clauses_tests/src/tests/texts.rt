@@ -4,7 +4,8 @@ use mz_ground::clauses::Clauses;
 use mz_ground::trigger::Trigger;
 use mz_logic::formula::Formula;
 use mz_logic::texts::{formula_text, term_text};
-use mz_part_samples::texts::{digit, literal_text};
+use mz_part_samples::texts::digit;
+use mz_samples::texts::literal_text;
 use std::alloc::Global;
 use std::process::Abort;
 

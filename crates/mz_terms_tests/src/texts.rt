@@ -5,9 +5,8 @@ use mz_environment::environment::Environment;
 use mz_logic::term::Term;
 use mz_logic::texts::term_text;
 use mz_names::refusal::Refusal;
-use mz_parser_samples::texts::article_tokens;
+use mz_parser_samples::trees::expression_of;
 use mz_pexpr::forms::{Expression, Form};
-use mz_pexpr::parse::expression;
 use mz_terms::terms::read_term;
 use mz_terms::types::read_type;
 use std::alloc::Global;
@@ -18,21 +17,9 @@ use std::process::Abort;
 const SYMBOLS: &[u8] =
     b"Gstr\nKlb\nLrb\nLrc\nMmod\nModds\nO+\nO* 66\nOone\nOneg\nOfac\nUcar\nUcdr\nVodd\nVnear\nVfar\n";
 
-/// What stands before the text, whose first byte stands in column 31.
-const FRONT: &[u8] = b"environ vocabularies A; begin ";
-
-/// The tree of the text.
+/// The tree of the text, whose first byte stands in column 31.
 fn parsed(rt: &impl Abort, alloc: Global, text: &str, form: Form) -> Expression {
-    let mut bytes = Vec::from_slice(alloc, FRONT).expect(rt, "memory");
-    bytes
-        .extend_from_slice(text.as_bytes())
-        .expect(rt, "memory");
-    let tokens = article_tokens(alloc, SYMBOLS, bytes.as_slice()).expect(rt, "tokens");
-    assert!(rt; tokens.items.len() > 5);
-    let (tree, _) = expression(alloc, &tokens, 5, form).expect(rt, "a tree");
-    forget(tokens);
-    forget(bytes);
-    tree
+    expression_of(alloc, SYMBOLS, text.as_bytes(), form).expect(rt, "a tree")
 }
 
 /// What the text is read to as a term.

@@ -1,36 +1,21 @@
 //! A small environment and a small context. What a test is done with is forgotten, not dropped.
 use mz_axioms::built_in::built_in;
 use mz_base::name::Name;
-use mz_base::token::Tokens;
 use mz_context::context::Context;
 use mz_core::statement::Statement;
 use mz_env::accommodate::accommodate;
 use mz_environment::environment::Environment;
-use mz_environment::numbering::Numbering;
-use mz_item_samples::contexts::{V, put_constants, put_reserved, start};
-use mz_item_samples::items::{ItemRow, item};
+use mz_item_samples::contexts::{VariableRow, put_constants, put_reserved, start};
+use mz_item_samples::environments::put_items;
+use mz_item_samples::items::ItemRow;
 use mz_item_samples::types::{OBJECT, SET};
 use mz_lex::head::head;
-use mz_parser_samples::texts::article_tokens;
 use std::alloc::Global;
 use std::mem::forget;
 use std::process::Abort;
 
 /// Two functors, a mode, two attributes and a predicate.
-const SYMBOLS: &[u8] = b"O+\nO*\nMElm\nVempty\nVbig\nR##\n";
-
-const ENVIRON: &[u8] = b"environ vocabularies A; begin ";
-
-/// The tokens of the text behind `begin`. Its first byte stands in column 31.
-pub fn tokens_of(rt: &impl Abort, alloc: Global, text: &str) -> Tokens {
-    let mut bytes = Vec::from_slice(alloc, ENVIRON).expect(rt, "memory");
-    bytes
-        .extend_from_slice(text.as_bytes())
-        .expect(rt, "memory");
-    let found = article_tokens(alloc, SYMBOLS, bytes.as_slice()).expect(rt, "tokens");
-    forget(bytes);
-    found
-}
+pub const SYMBOLS: &[u8] = b"O+\nO*\nMElm\nVempty\nVbig\nR##\n";
 
 /// `+` of two objects, which is a set; the mode `Elm of` a set; the attributes `empty` of sets and `big` of a set before it
 /// and a set; the predicate `##` of a set and an element of it. There is a set that isn't empty.
@@ -51,29 +36,20 @@ fn number_of_a(rt: &impl Abort) -> u64 {
     Name::read(b"A").expect(rt, "a name").number()
 }
 
-fn with(rt: &impl Abort, alloc: Global, env: &mut Environment, at: &mut Numbering, row: ItemRow) {
-    let item = item(alloc, row).expect(rt, "an item");
-    env.add(alloc, at, &item).expect(rt, "memory");
-    forget(item);
-}
-
 /// HIDDEN's items, and these.
 pub fn environment(rt: &impl Abort, alloc: Global) -> Environment {
     let exports = built_in(alloc).expect(rt, "memory");
     let none = head(alloc, b"environ begin").expect(rt, "a head");
     let mut env = accommodate(alloc, &none, &exports).expect(rt, "an environment");
-    let mut at = Numbering::of_article(number_of_a(rt));
-    for row in &ITEMS {
-        with(rt, alloc, &mut env, &mut at, *row);
-    }
+    put_items(alloc, &mut env, number_of_a(rt), &ITEMS).expect(rt, "items");
     forget(exports);
     forget(none);
     env
 }
 
-const CONSTANTS: [V; 2] = [("c", OBJECT), ("d", SET)];
+const CONSTANTS: [VariableRow; 2] = [("c", OBJECT), ("d", SET)];
 
-const RESERVED: [V; 4] = [("x", OBJECT), ("y", OBJECT), ("X", SET), ("Y", SET)];
+const RESERVED: [VariableRow; 4] = [("x", OBJECT), ("y", OBJECT), ("X", SET), ("Y", SET)];
 
 /// The constants `c` and `d`, an object and a set, are in force; reserved are `x` and `y` for objects, `X` and `Y` for sets.
 /// `thesis` is truth.

@@ -1,6 +1,6 @@
 //! Texts, parsed and read by the calls for expressions that are part of no other.
 use mz_base::place::Place;
-use mz_base::token::{MarkedToken, Tokens};
+use mz_base::token::MarkedToken;
 use mz_context::context::Context;
 use mz_core::items::Items;
 use mz_core::outcome::Left;
@@ -12,7 +12,7 @@ use mz_item_samples::refusals::refusal_text;
 use mz_item_samples::texts::{statement_text, type_text};
 use mz_logic::term::Term;
 use mz_logic::texts::term_text;
-use mz_parser_samples::texts::article_tokens;
+use mz_parser_samples::texts::tokens_of;
 use mz_pexpr::marked_tokens::marked_tokens;
 use mz_pformula::parse::formula as parse_formula;
 use mz_pterm::parse::term as parse_term;
@@ -37,21 +37,6 @@ pub enum Call {
 
 /// The symbols of an article's vocabulary.
 pub type Symbols = &'static [u8];
-
-/// What stands before the text, whose first byte stands in column 31.
-const FRONT: &[u8] = b"environ vocabularies A; begin ";
-
-/// The tokens of the text behind `begin`, which is the fifth.
-fn tokens_of(rt: &impl Abort, alloc: Global, symbols: Symbols, text: &str) -> Tokens {
-    let mut bytes = Vec::from_slice(alloc, FRONT).expect(rt, "memory");
-    bytes
-        .extend_from_slice(text.as_bytes())
-        .expect(rt, "memory");
-    let tokens = article_tokens(alloc, symbols, bytes.as_slice()).expect(rt, "tokens");
-    forget(bytes);
-    assert!(rt; tokens.items.len() > 5);
-    tokens
-}
 
 fn text_of_term(rt: &impl Abort, alloc: Global, t: Term) -> Vec<u8> {
     let text = term_text(alloc, &t).expect(rt, "memory");
@@ -203,7 +188,7 @@ pub fn answer(
     nodes: u64,
     text: &str,
 ) -> Answer {
-    let tokens = tokens_of(rt, alloc, symbols, text);
+    let tokens = tokens_of(alloc, symbols, text.as_bytes()).expect(rt, "tokens");
     let marked = marked_tokens(alloc, &tokens).expect(rt, "memory");
     let mut left = Left {
         nodes,

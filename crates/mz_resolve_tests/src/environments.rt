@@ -1,20 +1,19 @@
-//! Environments of small articles and contexts in them, from rows. What a test is done with is forgotten, not dropped.
+//! Environments of small articles and contexts in them, from rows.
 use mz_base::text::Text;
 use mz_context::context::Context;
 use mz_context::private::{PrivateFunctor, PrivatePredicate};
 use mz_core::soft_types::SoftTypes;
 use mz_environment::environment::Environment;
-use mz_environment::numbering::Numbering;
-use mz_item_samples::items::{ItemRow, MeaningRow, item};
+use mz_item_samples::environments::put_items;
+use mz_item_samples::items::{ItemRow, MeaningRow};
 use mz_item_samples::statements::statement;
-use mz_item_samples::types::{OBJECT, SET, T, types};
+use mz_item_samples::types::{OBJECT, SET, TypeRow, types};
 use mz_logic::kind::Kind;
 use mz_logic::sym::Sym;
 use mz_logic::term::Term;
 use mz_samples::forms::term;
 use mz_samples::symbols::symbol;
 use std::alloc::Global;
-use std::mem::forget;
 use std::process::Abort;
 
 fn text_of(rt: &impl Abort, alloc: Global, word: &str) -> Text {
@@ -31,24 +30,11 @@ pub fn term_of(rt: &impl Abort, alloc: Global, text: &str) -> Term {
     term(alloc, text).expect(rt, "a term")
 }
 
-fn types_of(rt: &impl Abort, alloc: Global, ts: &[T]) -> SoftTypes {
+fn types_of(rt: &impl Abort, alloc: Global, ts: &[TypeRow]) -> SoftTypes {
     types(alloc, ts).expect(rt, "types")
 }
 
-fn put(rt: &impl Abort, alloc: Global, env: &mut Environment, row: ItemRow) {
-    let item = item(alloc, row).expect(rt, "an item");
-    let mut at = Numbering::of_article(1);
-    env.add(alloc, &mut at, &item).expect(rt, "memory");
-    forget(item);
-}
-
-fn put_items(rt: &impl Abort, alloc: Global, env: &mut Environment, rows: &[ItemRow]) {
-    for row in rows {
-        put(rt, alloc, env, *row);
-    }
-}
-
-const TWO: &[T] = &[OBJECT, OBJECT];
+const TWO: &[TypeRow] = &[OBJECT, OBJECT];
 
 /// The notations of HIDDEN.
 const HIDDEN: [ItemRow; 5] = [
@@ -78,13 +64,13 @@ const HIDDEN: [ItemRow; 5] = [
 /// The environment with the notations of HIDDEN and the items of the rows.
 pub fn environment(rt: &impl Abort, alloc: Global, rows: &[ItemRow]) -> Environment {
     let mut env = Environment::new(alloc);
-    put_items(rt, alloc, &mut env, &HIDDEN);
-    put_items(rt, alloc, &mut env, rows);
+    put_items(alloc, &mut env, 1, &HIDDEN).expect(rt, "items");
+    put_items(alloc, &mut env, 1, rows).expect(rt, "items");
     env
 }
 
 /// Something private: its name, the types of its places, and its body, a term or a literal.
-pub type Private = (&'static str, &'static [T], &'static str);
+pub type Private = (&'static str, &'static [TypeRow], &'static str);
 
 /// Puts a private functor with this body into force.
 pub fn put_functor(
@@ -92,7 +78,7 @@ pub fn put_functor(
     alloc: Global,
     ctx: &mut Context,
     word: &str,
-    places: &[T],
+    places: &[TypeRow],
     body: Term,
 ) {
     let name = text_of(rt, alloc, word);

@@ -1,5 +1,5 @@
 //! What is gathered from a shelf, and in which order.
-use crate::reading::{add, gathered, is_line, name_of};
+use crate::samples::{add, gathered, is_line, name_of};
 use mz_corpus::corpus::Corpus;
 use mz_corpus::gather_fault::GatherFault;
 use mz_io::file_kind::FileKind;

@@ -8,12 +8,13 @@ use mz_core::outcome::Export;
 use mz_core::statement::Statement;
 use mz_environment::environment::Environment;
 use mz_environment::numbering::Numbering;
-use mz_item_samples::contexts::{V, put_constants, put_reserved, start};
-use mz_item_samples::items::{ItemRow, MeaningRow, item};
+use mz_item_samples::contexts::{VariableRow, put_constants, put_reserved, start};
+use mz_item_samples::environments::put_items;
+use mz_item_samples::items::{ItemRow, MeaningRow};
 use mz_item_samples::statements::statement;
 use mz_item_samples::types::{OBJECT, SET};
 use mz_logic::kind::Kind;
-use mz_parser_samples::texts::article_tokens;
+use mz_parser_samples::texts::tokens_below;
 use std::alloc::Global;
 use std::mem::forget;
 use std::process::Abort;
@@ -21,21 +22,13 @@ use std::process::Abort;
 const SYMBOLS: &[u8] =
     b"Rp\nRq\nRr\nRc=\nRu1\nRu2\nRu3\nRu4\nRu5\nRu6\nRu7\nRu8\nRu9\nRhas\nMElm\nVempty\nOsin\n";
 
-const ENVIRON: &[u8] = b"environ vocabularies A; begin\n";
-
 fn name(rt: &impl Abort, word: &str) -> Name {
     Name::read(word.as_bytes()).expect(rt, "a name")
 }
 
 /// The tokens of the text behind `begin`, from the sixth on. It stands on the second line, from column 1 on.
 pub fn tokens_of(rt: &impl Abort, alloc: Global, text: &str) -> Tokens {
-    let mut bytes = Vec::from_slice(alloc, ENVIRON).expect(rt, "memory");
-    bytes
-        .extend_from_slice(text.as_bytes())
-        .expect(rt, "memory");
-    let found = article_tokens(alloc, SYMBOLS, bytes.as_slice()).expect(rt, "tokens");
-    forget(bytes);
-    found
+    tokens_below(alloc, SYMBOLS, text.as_bytes()).expect(rt, "tokens")
 }
 
 /// The statement of a text, whose quantifiers are of objects.
@@ -99,12 +92,6 @@ const ITEMS: [ItemRow; 18] = [
     ItemRow::Existential(&[], "(not A.V1)", SET),
 ];
 
-fn with(rt: &impl Abort, alloc: Global, env: &mut Environment, at: &mut Numbering, row: ItemRow) {
-    let item = item(alloc, row).expect(rt, "an item");
-    env.add(alloc, at, &item).expect(rt, "memory");
-    forget(item);
-}
-
 fn with_export(rt: &impl Abort, alloc: Global, env: &mut Environment, export: &Export) {
     let mut at = Numbering::of_article(export.name.number());
     for item in &export.items.items {
@@ -129,16 +116,13 @@ fn with_built_in(rt: &impl Abort, alloc: Global, env: &mut Environment) {
 pub fn environment(rt: &impl Abort, alloc: Global) -> Environment {
     let mut env = Environment::new(alloc);
     with_built_in(rt, alloc, &mut env);
-    let mut at = Numbering::of_article(name(rt, "A").number());
-    for row in &ITEMS {
-        with(rt, alloc, &mut env, &mut at, *row);
-    }
+    put_items(alloc, &mut env, name(rt, "A").number(), &ITEMS).expect(rt, "items");
     env
 }
 
-const CONSTANTS: [V; 3] = [("c", OBJECT), ("d", SET), ("e", ("(A.M1 c2)", ""))];
+const CONSTANTS: [VariableRow; 3] = [("c", OBJECT), ("d", SET), ("e", ("(A.M1 c2)", ""))];
 
-const RESERVED: [V; 5] = [
+const RESERVED: [VariableRow; 5] = [
     ("x", OBJECT),
     ("y", OBJECT),
     ("X", SET),

@@ -1,5 +1,5 @@
 //! What the statements of a text give, as a text.
-use crate::making::{context, environment, tokens_of};
+use crate::environment::{context, environment, tokens_of};
 use mz_base::place::Place;
 use mz_base::token::Tokens;
 use mz_context::context::Context;
