@@ -1,10 +1,9 @@
 //! What accepted articles state.
 use crate::checking::{exports, no_vocabularies, outcome_of};
 use mz_axioms::exports::Exports;
-use mz_core::erasure::erase;
 use mz_core::item::Item;
 use mz_core::outcome::Outcome;
-use mz_logic::texts::formula_text;
+use mz_item_samples::texts::statement_text;
 use std::alloc::Global;
 use std::mem::forget;
 use std::process::Abort;
@@ -13,12 +12,7 @@ use std::thread::Threads;
 /// The formula of a theorem.
 fn theorem_text(rt: &impl Abort, alloc: Global, item: &Item) -> Vec<u8> {
     match item {
-        Item::Theorem(s) => {
-            let f = erase(alloc, s).expect(rt, "memory");
-            let text = formula_text(alloc, &f).expect(rt, "memory");
-            forget(f);
-            text
-        }
+        Item::Theorem(s) => statement_text(alloc, s).expect(rt, "memory"),
         _ => rt.abort(),
     }
 }

@@ -3,79 +3,35 @@ use crate::checking::{Row, check_rows, exports, vocabulary};
 use mz_axioms::exports::Exports;
 use mz_base::name::Name;
 use mz_base::names::Names;
-use mz_base::numbers::Numbers;
-use mz_base::text::Text;
-use mz_core::definition::AtomDefinition;
-use mz_core::formula_definiens::FormulaDefiniens;
-use mz_core::hidden::object_type;
-use mz_core::item::Item;
 use mz_core::items::Items;
-use mz_core::notation::{Meaning, Notation};
 use mz_core::notations::Notations;
 use mz_core::outcome::Export;
-use mz_core::pattern::Pattern;
-use mz_core::soft_types::SoftTypes;
-use mz_core::statement::Statement;
+use mz_item_samples::items::{ItemRow, MeaningRow, P, item, notation};
+use mz_item_samples::types::OBJECT;
 use mz_logic::kind::Kind;
-use mz_logic::literal::Literal;
-use mz_logic::sym::Sym;
-use mz_logic::term::{Term, Terms};
 use std::alloc::Global;
 use std::mem::forget;
 use std::process::Abort;
 use std::sync::Arc;
 
-/// The predicate of W.
-fn predicate(rt: &impl Abort) -> Sym {
-    Sym {
-        article: Name::read(b"W").expect(rt, "a name").number(),
-        kind: Kind::Predicate,
-        number: 1,
-    }
-}
-
 /// `x ## y` for `let x,y be object`.
-fn pattern(rt: &impl Abort, alloc: Global) -> Pattern {
-    let mut loci = SoftTypes::new(alloc);
-    loci.push(object_type(alloc)).expect(rt, "memory");
-    loci.push(object_type(alloc)).expect(rt, "memory");
-    Pattern {
-        symbol: Text::from_slice(alloc, b"##").expect(rt, "memory"),
-        closing: Text::new(alloc),
-        kind: Kind::Predicate,
-        loci,
-        left: Numbers::from_slice(alloc, &[0]).expect(rt, "memory"),
-        right: Numbers::from_slice(alloc, &[1]).expect(rt, "memory"),
-    }
-}
+const PATTERN: P = ("##", &[OBJECT, OBJECT], &[0], &[1]);
 
 /// `pred x ## y means x = y`.
 fn items(rt: &impl Abort, alloc: Global) -> Items {
-    let equation = Statement::equation(Term::bound(1), Term::bound(0));
+    let row = ItemRow::Predicate("W.R1", PATTERN, "(= b1 b0)");
+    let item = item(alloc, row).expect(rt, "an item");
     let mut out = Items::new(alloc);
-    out.push(Item::Predicate(AtomDefinition {
-        pattern: pattern(rt, alloc),
-        sym: predicate(rt),
-        definiens: FormulaDefiniens::Plain(equation),
-    }))
-    .expect(rt, "memory");
+    out.push(item).expect(rt, "memory");
     out
 }
 
 fn notations(rt: &impl Abort, alloc: Global) -> Notations {
-    let mut args = Terms::new(alloc);
-    args.push(Term::bound(1)).expect(rt, "memory");
-    args.push(Term::bound(0)).expect(rt, "memory");
+    let meaning = MeaningRow::Literal("(W.R1 b1 b0)");
+    let row = (Kind::Predicate, PATTERN, meaning);
+    let notation = notation(alloc, row).expect(rt, "a notation");
     let mut out = Notations::new(alloc);
-    out.push(Notation {
-        pattern: pattern(rt, alloc),
-        meaning: Meaning::OfLiteral(Literal::Atom {
-            positive: true,
-            sym: predicate(rt),
-            args,
-        }),
-    })
-    .expect(rt, "memory");
+    out.push(notation).expect(rt, "memory");
     out
 }
 

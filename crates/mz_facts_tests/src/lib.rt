@@ -1,7 +1,9 @@
-//! The plain form of the closing and the numbered classes on one table of problems.
+//! Problems of texts with their facts, and the plain form of the closing and the numbered classes on one table of them.
+//! For tests alone.
 #![tactic(auto)]
 
+pub mod problems;
 #[cfg(test)]
-mod problems;
+mod tables;
 #[cfg(test)]
 mod tests;

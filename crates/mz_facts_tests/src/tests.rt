@@ -1,153 +1,18 @@
 //! Both forms answer each problem as it was worked out.
-use crate::problems::{
-    EIGHTH, FIFTH, FIRST, FOURTH, L, Problem, R, SECOND, SEVENTH, SIXTH, T, THIRD,
-};
+use crate::problems::{Problem, is_as_told};
+use crate::tables::{EIGHTH, FIFTH, FIRST, FOURTH, SECOND, SEVENTH, SIXTH, THIRD};
 use mz_classes::classes::Classes;
 use mz_classes::close_classes::close_classes;
 use mz_facts::close::close;
 use mz_facts::facts::Facts;
-use mz_ground::clause::Clause;
-use mz_ground::clauses::Clauses;
 use mz_ground::fact_set::FactSet;
 use mz_ground::ground::ground;
-use mz_ground::trigger::Trigger;
-use mz_logic::disjunct::Disjunct;
-use mz_logic::formula::Formula;
-use mz_logic::formulas::Formulas;
-use mz_logic::kind::Kind;
-use mz_logic::literal::Literal;
-use mz_logic::literals::Literals;
+use mz_item_samples::types::clauses;
 use mz_logic::sym::Sym;
-use mz_logic::term::{Term, Terms};
+use mz_samples::parts::disjunct;
 use std::alloc::Global;
+use std::mem::forget;
 use std::process::Abort;
-
-fn sym(kind: Kind, letter: u8) -> Sym {
-    Sym {
-        article: 0,
-        kind,
-        number: u32::from(letter),
-    }
-}
-
-fn predicate(letter: u8) -> Sym {
-    sym(Kind::Predicate, letter)
-}
-
-fn term(rt: &impl Abort, alloc: Global, t: T) -> Term {
-    let (depth, number, variable) = t;
-    let mut out = if variable {
-        Term::bound(number)
-    } else {
-        Term::constant(number)
-    };
-    for _ in 0..depth {
-        let mut args = Terms::new(alloc);
-        args.push(out).expect(rt, "memory");
-        out = Term::apply(sym(Kind::Functor, b'f'), args);
-    }
-    out
-}
-
-/// The sides of an equation.
-fn sides(ts: &[T]) -> (T, T) {
-    match ts {
-        [left, right] => (*left, *right),
-        _ => ((0, 0, false), (0, 0, false)),
-    }
-}
-
-fn literal(rt: &impl Abort, alloc: Global, l: L) -> Literal {
-    let (positive, letter, ts) = l;
-    if letter == b'=' {
-        let (left, right) = sides(ts);
-        return Literal::Eq {
-            positive,
-            left: term(rt, alloc, left),
-            right: term(rt, alloc, right),
-        };
-    }
-    let mut args = Terms::new(alloc);
-    for t in ts {
-        args.push(term(rt, alloc, *t)).expect(rt, "memory");
-    }
-    Literal::Atom {
-        positive,
-        sym: predicate(letter),
-        args,
-    }
-}
-
-fn literals(rt: &impl Abort, alloc: Global, ls: &[L]) -> Literals {
-    let mut out = Literals::new(alloc);
-    for l in ls {
-        out.push(literal(rt, alloc, *l)).expect(rt, "memory");
-    }
-    out
-}
-
-fn trigger(l: Literal) -> Trigger {
-    match l {
-        Literal::Atom {
-            positive: _,
-            sym,
-            args,
-        } => Trigger::Atom(sym, args),
-        Literal::Eq {
-            positive: _,
-            left,
-            right: _,
-        } => Trigger::Term(left),
-    }
-}
-
-fn clause(rt: &impl Abort, alloc: Global, r: R) -> Clause {
-    let premises = literals(rt, alloc, r.0);
-    let conclusion = literal(rt, alloc, r.1);
-    let trigger = trigger(literal(rt, alloc, r.2));
-    let variables = if trigger.has(1) { 2 } else { 1 };
-    Clause::new(variables, trigger, premises, conclusion).expect(
-        rt,
-        "the trigger has the variables",
-    )
-}
-
-/// The disjunct of the problem, and for each of its further literals a universal in which that stands without a variable.
-fn disjunct(rt: &impl Abort, alloc: Global, p: Problem) -> Disjunct {
-    let mut universals = Formulas::new(alloc);
-    for l in p.1 {
-        let body = literal(rt, alloc, *l).formula(alloc).expect(rt, "memory");
-        let universal = Formula::all(alloc, body).expect(rt, "memory");
-        universals.push(universal).expect(rt, "memory");
-    }
-    Disjunct {
-        literals: literals(rt, alloc, p.0),
-        universals,
-    }
-}
-
-fn clauses(rt: &impl Abort, alloc: Global, p: Problem) -> Clauses {
-    let mut out = Clauses::new(alloc);
-    for r in p.2 {
-        out.push(clause(rt, alloc, *r)).expect(rt, "memory");
-    }
-    out
-}
-
-/// Whether the facts of the problem are facts, the last literals none, and contradictory facts told as such.
-fn is_as_told<F: FactSet>(rt: &impl Abort, alloc: Global, f: &F, p: Problem) -> bool {
-    for l in p.3 {
-        if !f.holds(&literal(rt, alloc, *l)) {
-            return false;
-        }
-    }
-    for l in p.4 {
-        if f.holds(&literal(rt, alloc, *l)) {
-            return false;
-        }
-    }
-    f.contradictory() == p.5
-}
 
 /// The class of the term with a number, in the one form and in the other.
 fn class_number(f: &Classes, number: u32) -> u32 {
@@ -205,59 +70,69 @@ fn have_same_signs(f: &Classes, plain: &Facts) -> bool {
     true
 }
 
-fn both_forms_answer(rt: &impl Abort, alloc: Global, problems: &[Problem]) {
-    for (number, problem) in problems.iter().enumerate() {
-        let d = disjunct(rt, alloc, *problem);
-        let cs = clauses(rt, alloc, *problem);
-        let g = ground(alloc, &d, cs.as_slice()).expect(rt, "a ground part");
-        let plain = close(alloc, &g, &d, cs.as_slice()).expect(rt, "memory");
-        let classes = close_classes(alloc, &g, &d, cs.as_slice()).expect(rt, "memory");
-        assert!(rt; is_as_told(rt, alloc, &plain, *problem), "plain {number}");
-        assert!(rt;
-            is_as_told(rt, alloc, &classes, *problem),
-            "classes {number}"
-        );
-        assert!(rt; have_same_classes(&classes, &plain), "classes of {number}");
-        assert!(rt; have_same_signs(&classes, &plain), "signs of {number}");
+/// Both forms have the facts of the problem, and the same classes and signs.
+fn check(rt: &impl Abort, alloc: Global, p: Problem) {
+    let text = p.0;
+    let d = disjunct(alloc, text).expect(rt, "a disjunct");
+    let cs = clauses(alloc, p.1).expect(rt, "clauses");
+    let g = ground(alloc, &d, cs.as_slice()).expect(rt, "a ground part");
+    let plain = close(alloc, &g, &d, cs.as_slice()).expect(rt, "memory");
+    let classes = close_classes(alloc, &g, &d, cs.as_slice()).expect(rt, "memory");
+    forget(d);
+    forget(cs);
+    forget(g);
+    let of_plain = is_as_told(alloc, &plain, p).expect(rt, "literals");
+    let of_classes = is_as_told(alloc, &classes, p).expect(rt, "literals");
+    let same_classes = have_same_classes(&classes, &plain);
+    let same_signs = have_same_signs(&classes, &plain);
+    forget(plain);
+    forget(classes);
+    assert!(rt; of_plain && of_classes, "facts at {text}");
+    assert!(rt; same_classes && same_signs, "classes at {text}");
+}
+
+fn check_all(rt: &impl Abort, alloc: Global, problems: &[Problem]) {
+    for p in problems {
+        check(rt, alloc, *p);
     }
 }
 
 #[test]
 fn first_problems(rt: HostRuntime) {
-    both_forms_answer(&rt, rt.alloc(), &FIRST);
+    check_all(&rt, rt.alloc(), &FIRST);
 }
 
 #[test]
 fn second_problems(rt: HostRuntime) {
-    both_forms_answer(&rt, rt.alloc(), &SECOND);
+    check_all(&rt, rt.alloc(), &SECOND);
 }
 
 #[test]
 fn third_problems(rt: HostRuntime) {
-    both_forms_answer(&rt, rt.alloc(), &THIRD);
+    check_all(&rt, rt.alloc(), &THIRD);
 }
 
 #[test]
 fn fourth_problems(rt: HostRuntime) {
-    both_forms_answer(&rt, rt.alloc(), &FOURTH);
+    check_all(&rt, rt.alloc(), &FOURTH);
 }
 
 #[test]
 fn fifth_problems(rt: HostRuntime) {
-    both_forms_answer(&rt, rt.alloc(), &FIFTH);
+    check_all(&rt, rt.alloc(), &FIFTH);
 }
 
 #[test]
 fn sixth_problems(rt: HostRuntime) {
-    both_forms_answer(&rt, rt.alloc(), &SIXTH);
+    check_all(&rt, rt.alloc(), &SIXTH);
 }
 
 #[test]
 fn seventh_problems(rt: HostRuntime) {
-    both_forms_answer(&rt, rt.alloc(), &SEVENTH);
+    check_all(&rt, rt.alloc(), &SEVENTH);
 }
 
 #[test]
 fn eighth_problems(rt: HostRuntime) {
-    both_forms_answer(&rt, rt.alloc(), &EIGHTH);
+    check_all(&rt, rt.alloc(), &EIGHTH);
 }

@@ -3,25 +3,18 @@ use mz_axioms::built_in::built_in;
 use mz_axioms::exports::Exports;
 use mz_base::name::Name;
 use mz_base::names::Names;
-use mz_base::numbers::Numbers;
 use mz_base::text::Text;
 use mz_base::vocabularies::{Vocabularies, VocabularyText};
-use mz_core::definition::AtomDefinition;
-use mz_core::formula_definiens::FormulaDefiniens;
 use mz_core::item::Item;
 use mz_core::items::Items;
 use mz_core::notations::Notations;
 use mz_core::outcome::Export;
-use mz_core::pattern::Pattern;
-use mz_core::soft_types::SoftTypes;
 use mz_core::statement::Statement;
 use mz_front::front::end;
 use mz_front::front_fault::FrontFault;
 use mz_front::stages::front;
-use mz_logic::kind::Kind;
-use mz_logic::sym::Sym;
+use mz_item_samples::items::{ItemRow, item};
 use std::alloc::Global;
-use std::mem::forget;
 use std::process::Abort;
 use std::sync::Arc;
 
@@ -67,24 +60,7 @@ fn vocabularies(
 }
 
 /// The definition of a predicate without sides, by P.
-fn predicate(rt: &impl Abort, alloc: Global) -> Item {
-    Item::Predicate(AtomDefinition {
-        pattern: Pattern {
-            symbol: Text::from_slice(alloc, b"##").expect(rt, "memory"),
-            closing: Text::new(alloc),
-            kind: Kind::Predicate,
-            loci: SoftTypes::new(alloc),
-            left: Numbers::new(alloc),
-            right: Numbers::new(alloc),
-        },
-        sym: Sym {
-            article: name(rt, b"P").number(),
-            kind: Kind::Predicate,
-            number: 1,
-        },
-        definiens: FormulaDefiniens::Plain(Statement::truth()),
-    })
-}
+const PREDICATE: ItemRow = ItemRow::Predicate("P.R1", ("##", &[], &[], &[]), "true");
 
 /// The built-in exports, and P with a theorem and a predicate.
 pub fn exports(rt: &impl Abort, alloc: Global) -> Exports {
@@ -92,7 +68,8 @@ pub fn exports(rt: &impl Abort, alloc: Global) -> Exports {
     items
         .push(Item::Theorem(Statement::truth()))
         .expect(rt, "memory");
-    items.push(predicate(rt, alloc)).expect(rt, "memory");
+    let predicate = item(alloc, PREDICATE).expect(rt, "an item");
+    items.push(predicate).expect(rt, "memory");
     let export = Export {
         name: name(rt, b"P"),
         dependencies: Names::new(alloc),

@@ -7,100 +7,35 @@ use mz_ground::ground_fault::GroundFault;
 use mz_ground::ground_part::Ground;
 use mz_ground::ground_term::GroundTerm;
 use mz_ground::places::Places;
-use mz_ground::trigger::Trigger;
+use mz_item_samples::types::{C, clauses, trigger};
 use mz_logic::disjunct::Disjunct;
-use mz_logic::formula::Formula;
 use mz_logic::formulas::Formulas;
-use mz_logic::kind::Kind;
 use mz_logic::literal::Literal;
 use mz_logic::literals::Literals;
 use mz_logic::sym::Sym;
 use mz_logic::term::{Term, Terms};
+use mz_samples::parts::{disjunct, literal};
+use mz_samples::symbols::symbol;
 use std::alloc::Global;
+use std::mem::forget;
 use std::process::Abort;
 
-fn sym(kind: Kind, number: u32) -> Sym {
-    Sym {
-        article: 1,
-        kind,
-        number,
-    }
+fn sym(rt: &impl Abort, word: &str) -> Sym {
+    symbol(word).expect(rt, "a symbol")
 }
 
-fn one(rt: &impl Abort, alloc: Global, t: Term) -> Terms {
-    let mut ts = Terms::new(alloc);
-    ts.push(t).expect(rt, "memory");
-    ts
+fn disjunct_of(rt: &impl Abort, alloc: Global, text: &str) -> Disjunct {
+    disjunct(alloc, text).expect(rt, "a disjunct")
 }
 
-fn two(rt: &impl Abort, alloc: Global, t: Term, u: Term) -> Terms {
-    let mut ts = one(rt, alloc, t);
-    ts.push(u).expect(rt, "memory");
-    ts
-}
-
-/// The functor applied to one argument.
-fn functor(rt: &impl Abort, alloc: Global, t: Term) -> Term {
-    Term::apply(sym(Kind::Functor, 1), one(rt, alloc, t))
-}
-
-/// The mode for 0, else the attribute with the number.
-fn head(number: u32) -> Sym {
-    if number == 0 {
-        sym(Kind::Mode, 1)
-    } else {
-        sym(Kind::Attribute, number)
-    }
-}
-
-fn says(rt: &impl Abort, alloc: Global, number: u32, positive: bool, t: Term) -> Literal {
-    Literal::Atom {
-        positive,
-        sym: head(number),
-        args: one(rt, alloc, t),
-    }
-}
-
-/// From the mode and an attribute of the variable to another attribute of it.
-fn cluster(rt: &impl Abort, alloc: Global, from: u32, to: u32) -> Option<Clause> {
-    let mut premises = Literals::new(alloc);
-    premises
-        .push(says(rt, alloc, 0, true, Term::bound(0)))
-        .expect(rt, "memory");
-    premises
-        .push(says(rt, alloc, from, true, Term::bound(0)))
-        .expect(rt, "memory");
-    let trigger = Trigger::Atom(head(0), one(rt, alloc, Term::bound(0)));
-    let conclusion = says(rt, alloc, to, true, Term::bound(0));
-    Clause::new(1, trigger, premises, conclusion)
-}
-
-/// From the mode of the variable to the mode or an attribute of the functor's value.
-fn value(rt: &impl Abort, alloc: Global, number: u32) -> Option<Clause> {
-    let mut premises = Literals::new(alloc);
-    premises
-        .push(says(rt, alloc, 0, true, Term::bound(0)))
-        .expect(rt, "memory");
-    let trigger = Trigger::Term(functor(rt, alloc, Term::bound(0)));
-    let conclusion = says(rt, alloc, number, true, functor(rt, alloc, Term::bound(0)));
-    Clause::new(1, trigger, premises, conclusion)
-}
-
-/// Adds a clause, if there is one.
-fn add(rt: &impl Abort, clauses: &mut Clauses, c: Option<Clause>) {
-    match c {
-        Some(c) => clauses.push(c).expect(rt, "memory"),
-        None => {}
-    }
-}
-
-fn disjunct(rt: &impl Abort, alloc: Global, l: Literal) -> Disjunct {
-    let mut literals = Literals::new(alloc);
-    literals.push(l).expect(rt, "memory");
-    Disjunct {
-        literals,
-        universals: Formulas::new(alloc),
-    }
+/// The ground part of the disjunct under the clauses.
+fn ground_of(rt: &impl Abort, alloc: Global, text: &str, cs: &[C]) -> Ground {
+    let d = disjunct_of(rt, alloc, text);
+    let cs = clauses(alloc, cs).expect(rt, "clauses");
+    let g = ground(alloc, &d, cs.as_slice()).expect(rt, "a ground part");
+    forget(d);
+    forget(cs);
+    g
 }
 
 /// Whether the layers end at these numbers of terms, atoms and equations.
@@ -128,21 +63,21 @@ fn place(rt: &impl Abort, alloc: Global, g: &Ground, of_value: bool) -> Option<u
     let mut args = Places::new(alloc);
     args.push(constant).expect(rt, "memory");
     let applied = GroundTerm::App {
-        sym: sym(Kind::Functor, 1),
+        sym: sym(rt, "A.O1"),
         args,
     };
     g.terms.find(&applied)
 }
 
 /// The first layer that has the mode or attribute of the constant 7, or of the functor's value there.
-fn layer(rt: &impl Abort, alloc: Global, g: &Ground, number: u32, of_value: bool) -> Option<usize> {
+fn layer(rt: &impl Abort, alloc: Global, g: &Ground, word: &str, of_value: bool) -> Option<usize> {
     let Some(term) = place(rt, alloc, g, of_value) else {
         return None;
     };
     let mut args = Places::new(alloc);
     args.push(term).expect(rt, "memory");
     let atom = GroundAtom {
-        sym: head(number),
+        sym: sym(rt, word),
         args,
     };
     let Some(found) = g.atoms.find(&atom) else {
@@ -156,34 +91,31 @@ fn layer(rt: &impl Abort, alloc: Global, g: &Ground, number: u32, of_value: bool
     None
 }
 
-/// `four` is denied of the functor's value at a constant of the mode. The values have the mode and are `one`, and
-/// of the mode each `one` is `two`, each `two` is `three`, each `three` is `four`.
-fn registrations(rt: &impl Abort, alloc: Global) -> (Disjunct, Clauses) {
-    let mut clauses = Clauses::new(alloc);
-    add(rt, &mut clauses, value(rt, alloc, 0));
-    add(rt, &mut clauses, cluster(rt, alloc, 1, 2));
-    add(rt, &mut clauses, cluster(rt, alloc, 2, 3));
-    add(rt, &mut clauses, cluster(rt, alloc, 3, 4));
-    add(rt, &mut clauses, value(rt, alloc, 1));
-    let mut d = disjunct(rt, alloc, says(rt, alloc, 0, true, Term::constant(7)));
-    d.literals
-        .push(says(rt, alloc, 4, false, functor(rt, alloc, Term::constant(7))))
-        .expect(rt, "memory");
-    (d, clauses)
-}
+/// `four` is denied of the functor's value at a constant of the mode.
+const DENIED: &str = "(A.M1 c7) (not (A.V4 (A.O1 c7)))";
 
-// The attribute or the mode, whether of the functor's value, and the first layer that has it.
-const ATOMS: [(u32, bool, usize); 10] = [
-    (0, false, 0),
-    (4, true, 0),
-    (0, true, 1),
-    (1, false, 1),
-    (2, false, 1),
-    (3, false, 1),
-    (4, false, 1),
-    (1, true, 1),
-    (2, true, 2),
-    (3, true, 2),
+/// The values have the mode and are `one`, and of the mode each `one` is `two`, each `two` is `three`, each `three` is
+/// `four`.
+const REGISTRATIONS: [C; 5] = [
+    (1, "(A.O1 b0)", "(A.M1 b0)", "(A.M1 (A.O1 b0))"),
+    (1, "(A.M1 b0)", "(A.M1 b0) (A.V1 b0)", "(A.V2 b0)"),
+    (1, "(A.M1 b0)", "(A.M1 b0) (A.V2 b0)", "(A.V3 b0)"),
+    (1, "(A.M1 b0)", "(A.M1 b0) (A.V3 b0)", "(A.V4 b0)"),
+    (1, "(A.O1 b0)", "(A.M1 b0)", "(A.V1 (A.O1 b0))"),
+];
+
+/// The attribute or the mode, whether of the functor's value, and the first layer that has it.
+const ATOMS: [(&str, bool, usize); 10] = [
+    ("A.M1", false, 0),
+    ("A.V4", true, 0),
+    ("A.M1", true, 1),
+    ("A.V1", false, 1),
+    ("A.V2", false, 1),
+    ("A.V3", false, 1),
+    ("A.V4", false, 1),
+    ("A.V1", true, 1),
+    ("A.V2", true, 2),
+    ("A.V3", true, 2),
 ];
 
 const ENDS: [(usize, usize, usize); 5] = [(3, 2, 0), (3, 8, 0), (3, 10, 0), (3, 10, 0), (3, 10, 0)];
@@ -192,45 +124,56 @@ const ENDS: [(usize, usize, usize); 5] = [(3, 2, 0), (3, 8, 0), (3, 10, 0), (3, 
 #[test]
 fn registrations_layer_by_layer(rt: HostRuntime) {
     let alloc = rt.alloc();
-    let (d, clauses) = registrations(&rt, alloc);
-    assert!(rt; clauses.copy(alloc).expect(&rt, "memory").len() == 5);
-    let g = ground(alloc, &d, clauses.as_slice()).expect(&rt, "memory");
+    let cs = clauses(alloc, &REGISTRATIONS).expect(&rt, "clauses");
+    assert!(rt; cs.copy(alloc).expect(&rt, "memory").len() == 5);
+    forget(cs);
+    let g = ground_of(&rt, alloc, DENIED, &REGISTRATIONS);
     assert!(rt; ends_are(&g, &ENDS));
     assert!(rt; ends_are(&g.copy(alloc).expect(&rt, "memory"), &ENDS));
-    for (number, of_value, first) in ATOMS {
+    for (word, of_value, first) in ATOMS {
         assert!(rt;
-            layer(&rt, alloc, &g, number, of_value) == Some(first),
-            "{number} {of_value}"
+            layer(&rt, alloc, &g, word, of_value) == Some(first),
+            "{word} {of_value}"
         );
+    }
+    forget(g);
+}
+
+/// A disjunct, clauses, and the numbers of terms, atoms and equations where each layer ends.
+type Row = (&'static str, &'static [C], [(usize, usize, usize); 5]);
+
+const ROWS: [Row; 2] = [
+    // what has no index in a universal and in an equation stands in the first layer
+    (
+        "(not (= c3 c4)) (all (and (= b0 (A.O1 c3)) (not (A.V1 c2))))",
+        &[],
+        [(5, 1, 1), (5, 1, 1), (5, 1, 1), (5, 1, 1), (5, 1, 1)],
+    ),
+    // a variable that stands twice in a trigger stands for one term
+    (
+        "(A.M1 c2) (A.R2 c1 c2) (A.R2 c2 c2)",
+        &[(1, "(A.R2 b0 b0)", "", "(A.V1 b0)")],
+        [(3, 3, 0), (3, 4, 0), (3, 4, 0), (3, 4, 0), (3, 4, 0)],
+    ),
+];
+
+#[test]
+fn ends_of_layers(rt: HostRuntime) {
+    for (text, cs, wanted) in &ROWS {
+        let g = ground_of(&rt, rt.alloc(), text, cs);
+        let same = ends_are(&g, wanted);
+        forget(g);
+        assert!(rt; same, "at {text}");
     }
 }
 
-/// What has no index in a universal and in an equation stands in the first layer.
-#[test]
-fn universals_and_equations(rt: HostRuntime) {
-    let alloc = rt.alloc();
-    let left = Formula::equation(Term::bound(0), functor(&rt, alloc, Term::constant(3)));
-    let right = Formula::atom(head(1), one(&rt, alloc, Term::constant(2)));
-    let body = Formula::and(
-        alloc,
-        left,
-        Formula::not(alloc, right).expect(&rt, "memory"),
-    )
-    .expect(&rt, "memory");
-    let mut d = disjunct(
-        &rt,
-        alloc,
-        Literal::Eq {
-            positive: false,
-            left: Term::constant(3),
-            right: Term::constant(4),
-        },
-    );
-    d.universals
-        .push(Formula::all(alloc, body).expect(&rt, "memory"))
-        .expect(&rt, "memory");
-    let g = ground(alloc, &d, &[]).expect(&rt, "memory");
-    assert!(rt; ends_are(&g, &[(5, 1, 1), (5, 1, 1), (5, 1, 1), (5, 1, 1), (5, 1, 1)]));
+/// An atom of the symbol, with the arguments.
+fn atom(rt: &impl Abort, word: &str, args: Terms) -> Literal {
+    Literal::Atom {
+        positive: true,
+        sym: sym(rt, word),
+        args,
+    }
 }
 
 /// An atom of so many different constants, from 1 on.
@@ -239,15 +182,9 @@ fn constants(rt: &impl Abort, alloc: Global, count: u32) -> Disjunct {
     for number in 0..count {
         args.push(Term::constant(number + 1)).expect(rt, "memory");
     }
-    disjunct(
-        rt,
-        alloc,
-        Literal::Atom {
-            positive: true,
-            sym: sym(Kind::Predicate, 1),
-            args,
-        },
-    )
+    let mut d = disjunct_of(rt, alloc, "");
+    d.literals.push(atom(rt, "A.R1", args)).expect(rt, "memory");
+    d
 }
 
 /// With the constant 0 there are 4,096 terms.
@@ -256,7 +193,9 @@ fn as_many_terms_as_the_limit(rt: HostRuntime) {
     let alloc = rt.alloc();
     let d = constants(&rt, alloc, 4095);
     let g = ground(alloc, &d, &[]).expect(&rt, "memory");
+    forget(d);
     assert!(rt; g.terms.len() == 4096 && g.atoms.len() == 1);
+    forget(g);
 }
 
 /// With the constant 0 there are 4,097 terms.
@@ -265,20 +204,25 @@ fn one_term_more_than_the_limit(rt: HostRuntime) {
     let alloc = rt.alloc();
     let d = constants(&rt, alloc, 4096);
     let refused = ground(alloc, &d, &[]);
+    forget(d);
     assert!(rt; matches!(refused, Err(GroundFault::TooManyTerms)));
 }
 
-/// Atoms of two arguments each, for all pairs of so many constants.
+/// An atom of two constants.
+fn pair(rt: &impl Abort, alloc: Global, left: u32, right: u32) -> Literal {
+    let mut args = Terms::new(alloc);
+    args.push(Term::constant(left)).expect(rt, "memory");
+    args.push(Term::constant(right)).expect(rt, "memory");
+    atom(rt, "A.R2", args)
+}
+
+/// An atom for each pair of so many constants.
 fn pairs(rt: &impl Abort, alloc: Global, count: u32) -> Disjunct {
     let mut literals = Literals::new(alloc);
     for left in 0..count {
         for right in 0..count {
             literals
-                .push(Literal::Atom {
-                    positive: true,
-                    sym: sym(Kind::Predicate, 2),
-                    args: two(rt, alloc, Term::constant(left), Term::constant(right)),
-                })
+                .push(pair(rt, alloc, left, right))
                 .expect(rt, "memory");
         }
     }
@@ -295,75 +239,48 @@ fn atoms_at_the_limit(rt: HostRuntime) {
     let mut d = pairs(&rt, alloc, 128);
     let g = ground(alloc, &d, &[]).expect(&rt, "memory");
     assert!(rt; g.terms.len() == 128 && g.atoms.len() == 16384);
-    d.literals
-        .push(says(&rt, alloc, 1, true, Term::constant(0)))
-        .expect(&rt, "memory");
+    forget(g);
+    let another = literal(alloc, "(A.V1 c0)").expect(&rt, "a literal");
+    d.literals.push(another).expect(&rt, "memory");
     let refused = ground(alloc, &d, &[]);
+    forget(d);
     assert!(rt; matches!(refused, Err(GroundFault::TooManyAtoms)));
 }
 
 /// A clause whose conclusion has so many arguments, each the variable.
-fn wide(rt: &impl Abort, alloc: Global, count: u32) -> Option<Clause> {
+fn wide(rt: &impl Abort, alloc: Global, count: u32) -> Clause {
     let mut args = Terms::new(alloc);
     for _number in 0..count {
         args.push(Term::bound(0)).expect(rt, "memory");
     }
-    let trigger = Trigger::Atom(head(0), one(rt, alloc, Term::bound(0)));
-    let conclusion = Literal::Atom {
-        positive: true,
-        sym: sym(Kind::Predicate, 1),
-        args,
-    };
-    Clause::new(1, trigger, Literals::new(alloc), conclusion)
+    let head = trigger(alloc, "(A.M1 b0)").expect(rt, "a trigger");
+    let conclusion = atom(rt, "A.R1", args);
+    Clause::new(1, head, Literals::new(alloc), conclusion).expect(
+        rt,
+        "the trigger has the variable",
+    )
 }
 
 /// An instance of 4,097 nodes is left out, one of 4,096 is added.
 #[test]
 fn nodes_of_an_instance_at_the_limit(rt: HostRuntime) {
     let alloc = rt.alloc();
-    let d = disjunct(&rt, alloc, says(&rt, alloc, 0, true, Term::constant(1)));
-    let mut clauses = Clauses::new(alloc);
-    add(&rt, &mut clauses, wide(&rt, alloc, 4096));
-    let g = ground(alloc, &d, clauses.as_slice()).expect(&rt, "memory");
+    let d = disjunct_of(&rt, alloc, "(A.M1 c1)");
+    let mut cs = Clauses::new(alloc);
+    cs.push(wide(&rt, alloc, 4096)).expect(&rt, "memory");
+    let g = ground(alloc, &d, cs.as_slice()).expect(&rt, "memory");
     assert!(rt; ends_are(&g, &[(2, 1, 0), (2, 1, 0), (2, 1, 0), (2, 1, 0), (2, 1, 0)]));
-    add(&rt, &mut clauses, wide(&rt, alloc, 4095));
-    let g = ground(alloc, &d, clauses.as_slice()).expect(&rt, "memory");
+    cs.push(wide(&rt, alloc, 4095)).expect(&rt, "memory");
+    let g = ground(alloc, &d, cs.as_slice()).expect(&rt, "memory");
     assert!(rt; ends_are(&g, &[(2, 1, 0), (2, 2, 0), (2, 2, 0), (2, 2, 0), (2, 2, 0)]));
-}
-
-/// A variable that stands twice in a trigger stands for one term.
-#[test]
-fn a_repeated_variable(rt: HostRuntime) {
-    let alloc = rt.alloc();
-    let relation = sym(Kind::Predicate, 2);
-    let trigger = Trigger::Atom(relation, two(&rt, alloc, Term::bound(0), Term::bound(0)));
-    let conclusion = says(&rt, alloc, 1, true, Term::bound(0));
-    let mut clauses = Clauses::new(alloc);
-    add(
-        &rt,
-        &mut clauses,
-        Clause::new(1, trigger, Literals::new(alloc), conclusion),
-    );
-    let mut d = disjunct(&rt, alloc, says(&rt, alloc, 0, true, Term::constant(2)));
-    for left in 1..3 {
-        d.literals
-            .push(Literal::Atom {
-                positive: true,
-                sym: relation,
-                args: two(&rt, alloc, Term::constant(left), Term::constant(2)),
-            })
-            .expect(&rt, "memory");
-    }
-    let g = ground(alloc, &d, clauses.as_slice()).expect(&rt, "memory");
-    assert!(rt; ends_are(&g, &[(3, 3, 0), (3, 4, 0), (3, 4, 0), (3, 4, 0), (3, 4, 0)]));
 }
 
 /// A trigger without a variable makes no clause.
 #[test]
 fn a_missing_variable(rt: HostRuntime) {
     let alloc = rt.alloc();
-    let trigger = Trigger::Atom(head(0), one(&rt, alloc, Term::bound(1)));
-    let conclusion = says(&rt, alloc, 1, true, Term::bound(0));
-    let c = Clause::new(2, trigger, Literals::new(alloc), conclusion);
+    let head = trigger(alloc, "(A.M1 b1)").expect(&rt, "a trigger");
+    let conclusion = literal(alloc, "(A.V1 b0)").expect(&rt, "a literal");
+    let c = Clause::new(2, head, Literals::new(alloc), conclusion);
     assert!(rt; c.is_none());
 }
