@@ -6,7 +6,7 @@ use mz_base::names::Names;
 use mz_core::items::Items;
 use mz_core::notations::Notations;
 use mz_core::outcome::Export;
-use mz_item_samples::items::{ItemRow, MeaningRow, P, item, notation};
+use mz_item_samples::items::{ItemRow, MeaningRow, PatternRow, item, notation};
 use mz_item_samples::types::OBJECT;
 use mz_logic::kind::Kind;
 use std::alloc::Global;
@@ -15,7 +15,7 @@ use std::process::Abort;
 use std::sync::Arc;
 
 /// `x ## y` for `let x,y be object`.
-const PATTERN: P = ("##", &[OBJECT, OBJECT], &[0], &[1]);
+const PATTERN: PatternRow = ("##", &[OBJECT, OBJECT], &[0], &[1]);
 
 /// `pred x ## y means x = y`.
 fn items(rt: &impl Abort, alloc: Global) -> Items {

@@ -9,7 +9,7 @@ use mz_facts_tests::problems::{Problem, is_as_told};
 use mz_ground::clauses::Clauses;
 use mz_ground::fact_set::FactSet;
 use mz_ground::ground::ground;
-use mz_item_samples::types::{C, clauses};
+use mz_item_samples::types::{ClauseRow, clauses};
 use mz_logic::disjunct::Disjunct;
 use mz_samples::parts::disjunct;
 use mz_samples::symbols::symbol;
@@ -18,7 +18,7 @@ use std::mem::forget;
 use std::process::Abort;
 
 /// The facts of the disjunct under the clauses.
-fn closed(rt: &impl Abort, alloc: Global, text: &str, cs: &[C]) -> Classes {
+fn closed(rt: &impl Abort, alloc: Global, text: &str, cs: &[ClauseRow]) -> Classes {
     let d = disjunct(alloc, text).expect(rt, "a disjunct");
     let cs = clauses(alloc, cs).expect(rt, "clauses");
     let g = ground(alloc, &d, cs.as_slice()).expect(rt, "a ground part");
@@ -155,7 +155,7 @@ fn is_complete(rt: &impl Abort, alloc: Global, d: &Disjunct, clauses: &Clauses) 
 }
 
 /// The work list alone finds all of the disjunct under the clauses.
-fn check_complete(rt: &impl Abort, alloc: Global, text: &str, cs: &[C]) {
+fn check_complete(rt: &impl Abort, alloc: Global, text: &str, cs: &[ClauseRow]) {
     let d = disjunct(alloc, text).expect(rt, "a disjunct");
     let cs = clauses(alloc, cs).expect(rt, "clauses");
     let complete = is_complete(rt, alloc, &d, &cs);

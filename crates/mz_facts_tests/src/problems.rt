@@ -1,13 +1,19 @@
 //! Problems, read from their texts, and what is told of them.
 use mz_ground::fact_set::FactSet;
-use mz_item_samples::types::C;
+use mz_item_samples::types::ClauseRow;
 use mz_samples::fault::SampleFault;
 use mz_samples::parts::literals;
 use std::alloc::Global;
 
 /// A disjunct, clauses, facts, literals that are none, and whether the facts are contradictory. A further ground literal
 /// stands in the disjunct behind `all`, as a universal without its variable.
-pub type Problem = (&'static str, &'static [C], &'static str, &'static str, bool);
+pub type Problem = (
+    &'static str,
+    &'static [ClauseRow],
+    &'static str,
+    &'static str,
+    bool,
+);
 
 /// Whether the literals of the text are all facts, or where `wanted` is false none of them is one.
 fn are_facts<F: FactSet>(

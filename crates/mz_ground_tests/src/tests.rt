@@ -7,7 +7,7 @@ use mz_ground::ground_fault::GroundFault;
 use mz_ground::ground_part::Ground;
 use mz_ground::ground_term::GroundTerm;
 use mz_ground::places::Places;
-use mz_item_samples::types::{C, clauses, trigger};
+use mz_item_samples::types::{ClauseRow, clauses, trigger};
 use mz_logic::disjunct::Disjunct;
 use mz_logic::formulas::Formulas;
 use mz_logic::literal::Literal;
@@ -29,7 +29,7 @@ fn disjunct_of(rt: &impl Abort, alloc: Global, text: &str) -> Disjunct {
 }
 
 /// The ground part of the disjunct under the clauses.
-fn ground_of(rt: &impl Abort, alloc: Global, text: &str, cs: &[C]) -> Ground {
+fn ground_of(rt: &impl Abort, alloc: Global, text: &str, cs: &[ClauseRow]) -> Ground {
     let d = disjunct_of(rt, alloc, text);
     let cs = clauses(alloc, cs).expect(rt, "clauses");
     let g = ground(alloc, &d, cs.as_slice()).expect(rt, "a ground part");
@@ -96,7 +96,7 @@ const DENIED: &str = "(A.M1 c7) (not (A.V4 (A.O1 c7)))";
 
 /// The values have the mode and are `one`, and of the mode each `one` is `two`, each `two` is `three`, each `three` is
 /// `four`.
-const REGISTRATIONS: [C; 5] = [
+const REGISTRATIONS: [ClauseRow; 5] = [
     (1, "(A.O1 b0)", "(A.M1 b0)", "(A.M1 (A.O1 b0))"),
     (1, "(A.M1 b0)", "(A.M1 b0) (A.V1 b0)", "(A.V2 b0)"),
     (1, "(A.M1 b0)", "(A.M1 b0) (A.V2 b0)", "(A.V3 b0)"),
@@ -140,7 +140,11 @@ fn registrations_layer_by_layer(rt: HostRuntime) {
 }
 
 /// A disjunct, clauses, and the numbers of terms, atoms and equations where each layer ends.
-type Row = (&'static str, &'static [C], [(usize, usize, usize); 5]);
+type Row = (
+    &'static str,
+    &'static [ClauseRow],
+    [(usize, usize, usize); 5],
+);
 
 const ROWS: [Row; 2] = [
     // what has no index in a universal and in an equation stands in the first layer
