@@ -34,7 +34,8 @@ use Rattle.mz_judged.specs.Laws as judged
 use Rattle.mz_judged.proofs.MetProofs.{met_law}
 use Rattle.mz_standing.specs.Standing.{standing_at_start}
 use Rattle.mz_standing.specs.declared.standing.Standing.{Standing}
-use Rattle.mz_standing_laws.specs.Soundly.{axioms_of, AreProved, Setting, AreDecided, StandsSoundly}
+use Rattle.mz_standing_laws.specs.Proved.{AreProved}
+use Rattle.mz_standing_laws.specs.Soundly.{axioms_of, Setting, AreDecided, StandsSoundly}
 use Rattle.mz_standing_laws.specs.Added.{IsSettingOf}
 use Rattle.mz_standing_laws.proofs.ItemProofs.{start_law, reservation_law, theorem_law, statement_law}
 use Rattle.mz_standing_laws.proofs.AddedProofs.{closed_exports, used_law, added_law}

@@ -19,7 +19,8 @@ use Rattle.mz_axioms.specs.BuiltIn.{hidden, tarski_0, tarski_a, built_in_exports
 use Rattle.mz_axioms.specs.Library.{HasName, AreExportsOf}
 use Rattle.mz_axioms.proofs.BuiltInLemmas.{built_in_order, built_in_named, built_in_sound}
 use Rattle.mz_dependency_laws.proofs.LibraryRests.{used_exports}
-use Rattle.mz_standing_laws.specs.Soundly.{axioms_of, IsProved, AreProved}
+use Rattle.mz_standing_laws.specs.Proved.{IsProved, AreProved}
+use Rattle.mz_standing_laws.specs.Soundly.{axioms_of}
 use Rattle.mz_accepted_laws.specs.Alone.{AxiomsLaw, AloneLaw}
 use Rattle.mz_accepted_laws.proofs.AcceptedProofs.{Rested, accepted_rests, accepted_law}
 

@@ -9,7 +9,7 @@ use Rattle.mz_axioms.specs.AxiomList.{axioms}
 use Rattle.mz_axioms.specs.BuiltIn.{built_in_exports}
 use Rattle.mz_axioms.specs.Library.{Sound, added}
 use Rattle.mz_article.specs.Outcome.{IsOutcome}
-use Rattle.mz_standing_laws.specs.Soundly.{AreProved}
+use Rattle.mz_standing_laws.specs.Proved.{AreProved}
 
 -- each item of such an article is a theorem that derives from the seven axioms, and has no constant and no loose index
 abbrev pub AxiomsLaw : Type 0

@@ -30,7 +30,8 @@ use Rattle.mz_dependency_laws.proofs.KnownDependencies.{known_dependencies}
 use Rattle.mz_dependency_laws.proofs.LibraryRests.{used_exports, rests_on_used}
 use Rattle.mz_corpus.specs.Directives.{dependencies_of}
 use Rattle.mz_standing.specs.Standing.{clauses_in}
-use Rattle.mz_standing_laws.specs.Soundly.{axioms_of, IsProved, AreProved}
+use Rattle.mz_standing_laws.specs.Proved.{IsProved, AreProved}
+use Rattle.mz_standing_laws.specs.Soundly.{axioms_of}
 use Rattle.mz_standing_laws.specs.Added.{UsedLaw, AddedLaw}
 use Rattle.mz_standing_laws.proofs.GroundProofs.{items_closed}
 

@@ -34,7 +34,8 @@ use Rattle.mz_walk_laws.specs.Grounds.{Basis, IsGrounded, IsProper}
 use Rattle.mz_level_laws.specs.Level.{IsLevel}
 use Rattle.mz_level_laws.proofs.ClosedLemmas.{closed_law}
 use Rattle.mz_standing.specs.declared.standing.Standing.{Standing}
-use Rattle.mz_standing_laws.specs.Soundly.{axioms_of, own_of, IsProved, AreProved, Setting, StandsSoundly}
+use Rattle.mz_standing_laws.specs.Proved.{IsProved, AreProved}
+use Rattle.mz_standing_laws.specs.Soundly.{axioms_of, own_of, Setting, StandsSoundly}
 
 -- what reasonings rest on there
 abbrev pub basis : Setting → Standing → Basis

@@ -47,7 +47,8 @@ use Rattle.mz_level_laws.proofs.SentenceProofs as level
 use Rattle.mz_level_laws.proofs.LevelProofs as level_proofs
 use Rattle.mz_standing.specs.Standing.{clauses_of, extent_of, with_left, with_context, with_item, behind_item, behind_theorem}
 use Rattle.mz_standing.specs.declared.standing.Standing.{Standing}
-use Rattle.mz_standing_laws.specs.Soundly.{axioms_of, own_of, AreProved, Setting, HaveNoConstants, AreDecided, StandsSoundly}
+use Rattle.mz_standing_laws.specs.Proved.{AreProved}
+use Rattle.mz_standing_laws.specs.Soundly.{axioms_of, own_of, Setting, HaveNoConstants, AreDecided, StandsSoundly}
 use Rattle.mz_standing_laws.specs.Laws.{StartLaw, ReservationLaw, TheoremLaw, StatementLaw}
 use Rattle.mz_standing_laws.proofs.GroundProofs.{basis, theorem_closed, is_grounded, is_proper}
 use Rattle.mz_standing_laws.proofs.ContextProofs.{IsPart, facts_part, order_part, behind_item_part, part_further, IsReserved, is_reserved, theorem_fact, theorem_order, theorem_level}

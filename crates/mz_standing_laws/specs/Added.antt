@@ -11,7 +11,8 @@ use Rattle.mz_env_laws.specs.Entries.{IsOfExports, AreOfItems}
 use Rattle.mz_env_laws.specs.Used.{Uses}
 use Rattle.mz_corpus.specs.Directives.{dependencies_of}
 use Rattle.mz_standing.specs.Standing.{clauses_in}
-use Rattle.mz_standing_laws.specs.Soundly.{axioms_of, Setting, AreProved}
+use Rattle.mz_standing_laws.specs.Proved.{AreProved}
+use Rattle.mz_standing_laws.specs.Soundly.{axioms_of, Setting}
 
 -- a setting of an article with the name, by exports that its environment part uses and by what is let in of them
 pub record IsSettingOf (name : Name) (head : List Directive) (exports : List Export) (e : Environment) (g : Setting) : Type 0 where

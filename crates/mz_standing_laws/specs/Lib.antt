@@ -1,3 +1,4 @@
+pub mod Proved
 pub mod Soundly
 pub mod Laws
 pub mod Added

@@ -9,7 +9,6 @@ use Rattle.mz_core.specs.Closed.{statement_under}
 use Rattle.mz_core.specs.Erasure.{erase}
 use Rattle.mz_core.specs.Statement.{Statement}
 use Rattle.mz_core.specs.declared.item.Item.{Item}
-use Rattle.mz_core.specs.declared.item.Item.TheVariants.{Theorem}
 use Rattle.mz_core.specs.declared.outcome.Export.{Export}
 use Rattle.mz_ground.specs.ClauseFormula.{clause_formula}
 use Rattle.mz_ground.specs.declared.clause.Clause.{Clause}
@@ -19,6 +18,7 @@ use Rattle.mz_environment.specs.Cited.{at_start}
 use Rattle.mz_closed_laws.specs.ClosedClauses.{clause_closed}
 use Rattle.mz_closed_laws.specs.ClosedEnvironment.{IsClosedEnvironment}
 use Rattle.mz_steps_laws.specs.Facts.{facts}
+use Rattle.mz_standing_laws.specs.Proved.{AreProved}
 use Rattle.mz_env_laws.specs.Entries.{IsOfExports, AreOfItems, behind_items}
 use Rattle.mz_obligations.specs.declared.obligation.Obligation.{Obligation}
 use Rattle.mz_block_laws.specs.Orders.{IsInOrder}
@@ -33,16 +33,6 @@ axioms_of used = flat_map statements_of used
 -- an article's own part, with these items
 abbrev pub own_of : Name → List Item → Export
 own_of name items = record { name = name; dependencies = []; items = items; notations = [] }
-
--- the item is a theorem that derives, and has no constant and no loose index
-pub record IsProved (axioms : List Formula) (x : Item) : Type 0 where
-  pub statement : Statement
-  pub is : x ≡ Theorem statement
-  pub closed : statement_under 0 statement ≡ true
-  pub derives : Derives axioms [] (erase statement)
-
-abbrev pub AreProved : List Formula → List Item → Type 0
-AreProved axioms items = (x : Item) → Contains items x → IsProved axioms x
 
 -- an article's name, the exports that it uses, and the clauses by which its obligations are decided. No item of these exports and
 -- none of these clauses has a constant or a loose index, and the clauses derive from what the exports say
