@@ -14,7 +14,7 @@ use std::alloc::Global;
 use std::mem::forget;
 use std::process::Abort;
 
-/// The class of the term with a number, in the one form and in the other.
+/// The class of the term with a number, in the numbered form.
 fn class_number(f: &Classes, number: u32) -> u32 {
     if (number as usize) < f.ground().terms.len() {
         f.class_of(number)
@@ -23,6 +23,7 @@ fn class_number(f: &Classes, number: u32) -> u32 {
     }
 }
 
+/// The same in the plain form.
 fn plain_class(f: &Classes, plain: &Facts, number: u32) -> usize {
     if (number as usize) < f.ground().terms.len() {
         let place = f.term_place(number);
