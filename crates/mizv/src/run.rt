@@ -14,11 +14,14 @@ use mz_base::text::Text;
 use mz_core::verdict::{Entry, Verdict, Verdicts};
 use mz_corpus::gather_fault::GatherFault;
 use mz_corpus::ordering::Ordering;
+use mz_defs::defining::Defining;
 use mz_entry::entry::entry_of;
 use mz_io::gate::Gate;
 use mz_io::shelf::Shelf;
 use mz_io::sink::{Sink, write_all};
+use mz_regs::registering::Registering;
 use mz_report::report::report;
+use mz_structs::structuring::Structuring;
 use mz_texts::texts::texts_of;
 use std::alloc::{AllocError, Global};
 use std::sync::Wait;
@@ -104,7 +107,7 @@ pub fn run<R: Threads + Wait + Sync, S: Shelf, W: Sink, G: Gate>(
         Err(fault) => return refusal_of(&fault),
     };
     gate.enter(0);
-    match entry_of(rt, alloc, name, &texts) {
+    match entry_of::<Defining, Registering, Structuring>(rt, alloc, name, &texts) {
         Ok(entry) => reported(alloc, out, entry),
         Err(AllocError) => Status::OutOfMemory,
     }

@@ -1,6 +1,5 @@
 -- What is accepted keeps a sound library sound.
-use Rattle.std.proofs.Common.{◌≡◌, ℕ, List, [], ◌∷◌, length, append-nil, refl, sym, ap, ◌∙◌, subst, false, Ok}
-use Rattle.std.proofs.lemmas.List.Elements.{Contains-append_left, Contains-append_right}
+use Rattle.std.proofs.Common.{◌≡◌, ℕ, List, [], ◌∷◌, length, refl, sym, ap, subst, Ok}
 use Rattle.mz_base.specs.NamedText.{NamedText}
 use Rattle.mz_base.specs.declared.name.Name.{Name}
 use Rattle.mz_base.specs.declared.head.Directive.{Directive}
@@ -10,101 +9,30 @@ use Rattle.mz_core.specs.declared.fault.Fault.{Fault}
 use Rattle.mz_core.specs.declared.outcome.Outcome.{Outcome}
 use Rattle.mz_core.specs.declared.outcome.Outcome.TheVariants.{Accepted, Rejected}
 use Rattle.mz_ground.specs.declared.clause.Clause.{Clause}
+use Rattle.mz_ground.proofs.ListLemmas.{extends_itself}
 use Rattle.mz_axioms.specs.Checker.{AnswersName, KeepsSound}
 use Rattle.mz_axioms.specs.Library.{HasName, Sound, AreExportsOf}
 use Rattle.mz_corpus.specs.Directives.{dependencies_of}
 use Rattle.mz_environment.specs.declared.environment.Environment.{Environment}
 use Rattle.mz_env.specs.LetIn.{LetIn}
-use Rattle.mz_obligations.specs.declared.obligation.Duty.{Duty}
-use Rattle.mz_obligations.specs.declared.obligation.Duty.TheVariants.{By}
 use Rattle.mz_obligations.specs.declared.obligation.Obligation.{Obligation}
-use Rattle.mz_block_laws.specs.Met.{clauses_for, IsDone}
-use Rattle.mz_cited.specs.Cited.{members}
-use Rattle.mz_parts.specs.Propositions.{label_in}
-use Rattle.mz_walk.specs.Walked.{Walked, Made, Refused, behind}
-use Rattle.mz_tree_proof.specs.Reasoning.{StatementData}
-use Rattle.mz_tree_part.specs.declared.reserve.ReserveTree.{ReserveTree}
-use Rattle.mz_tree_item.specs.declared.schemes.TheoremTree.{TheoremTree}
-use Rattle.mz_tree_item.specs.declared.article.ItemTree.{ItemTree}
+use Rattle.mz_taken.specs.Taken.{Made}
 use Rattle.mz_tree_item.specs.declared.article.ArticlePartTree.{ArticlePartTree}
 use Rattle.mz_front.specs.Front.{IsFront, front}
 use Rattle.mz_front.specs.declared.front.Front.{Front}
 use Rattle.mz_judged.specs.Judged.{AreJudged}
-use Rattle.mz_judged.specs.Laws as judged
 use Rattle.mz_judged.proofs.MetProofs.{met_law}
 use Rattle.mz_standing.specs.Standing.{standing_at_start}
 use Rattle.mz_standing.specs.declared.standing.Standing.{Standing}
-use Rattle.mz_standing_laws.specs.Proved.{AreProved}
+use Rattle.mz_standing_laws.specs.Owed.{AreOwed}
 use Rattle.mz_standing_laws.specs.Soundly.{axioms_of, Setting, AreDecided, StandsSoundly}
 use Rattle.mz_standing_laws.specs.Added.{IsSettingOf}
-use Rattle.mz_standing_laws.proofs.ItemProofs.{start_law, reservation_law, theorem_law, statement_law}
+use Rattle.mz_standing_laws.proofs.ItemProofs.{start_law}
 use Rattle.mz_standing_laws.proofs.AddedProofs.{closed_exports, used_law, added_law}
-use Rattle.mz_article_items.specs.Items as rule
-use Rattle.mz_article_items.specs.Items.{IsReserved, IsTheorem, IsStatement, IsItem, AreItems}
+use Rattle.mz_article_items.specs.Items.{AreItems}
+use Rattle.mz_accepted_laws.proofs.ItemKeeps.{items_keep}
 use Rattle.mz_article.specs.Outcome as outcome
 use Rattle.mz_article.specs.Outcome.{export_of, outcome_by, IsDecided, IsOutcomeFrom, IsOutcome}
-
--- what an item makes stands soundly, where its obligations are decided
-
-abbrev KeepsSoundly : Setting → Walked Standing → Type 0
-KeepsSoundly g (Made os t) = AreDecided g.clauses os → StandsSoundly g t
-KeepsSoundly g (Refused r) = Unit {0}
-
-reserve_keeps : (g : Setting) (s : Standing) (t : ReserveTree) (w : Walked Standing) → StandsSoundly g s → IsReserved s t w → KeepsSoundly g w
-reserve_keeps g s t w sound (rule.not_read r after h) = tt
-reserve_keeps g s t w sound (rule.reserved c after h) = λ decided. reservation_law g s (members t.segments) c after sound h
-
-theorem_keeps : (g : Setting) (s : Standing) (t : TheoremTree) (w : Walked Standing) → StandsSoundly g s → IsTheorem s t w → KeepsSoundly g w
-theorem_keeps g s t w sound (rule.not_read r after h) = tt
-theorem_keeps g s t w sound (rule.read x between (Made os l) h j) =
-    λ decided. theorem_law g s (label_in t.proposition.label) t.proposition.formula x between l t.theorem t.semicolon false t.just os sound h j decided
-theorem_keeps g s t w sound (rule.read x between (Refused r) h j) = tt
-
-statement_keeps : (g : Setting) (s : Standing) (t : StatementData) (w : Walked Standing) → StandsSoundly g s → IsStatement s t w → KeepsSoundly g w
-statement_keeps g s t w sound (rule.stated first (Made os d) at h) = λ decided. statement_law g s first t os d sound h decided
-statement_keeps g s t w sound (rule.stated first (Refused r) at h) = tt
-
-item_keeps : (g : Setting) (s : Standing) (x : ItemTree) (w : Walked Standing) → StandsSoundly g s → IsItem s x w → KeepsSoundly g w
-item_keeps g s _ w sound (rule.reserve t _ h) = reserve_keeps g s t w sound h
-item_keeps g s _ w sound (rule.theorem t _ h) = theorem_keeps g s t w sound h
-item_keeps g s _ w sound (rule.statement t _ h) = statement_keeps g s t w sound h
-item_keeps g s x w sound (rule.not_built _ first b at) = tt
-
-behind_keeps : (g : Setting) (os : List Obligation) (w : Walked Standing) → (AreDecided g.clauses os → KeepsSoundly g w) → KeepsSoundly g (behind os w)
-behind_keeps g os (Made ps t) h = λ decided. h (λ o is. decided o (Contains-append_left os ps o is)) (λ o is. decided o (Contains-append_right os ps o is))
-behind_keeps g os (Refused r) h = tt
-
-items_keep : (g : Setting) {s : Standing} {parts : List ArticlePartTree} {w : Walked Standing} → StandsSoundly g s → AreItems s parts w → KeepsSoundly g w
-items_keep g sound (rule.no_more s) = λ decided. sound
-items_keep g sound (rule.section s begin parts w h) = items_keep g sound h
-items_keep g sound (rule.stopped s x parts r h) = tt
-items_keep g sound (rule.further s t x parts os w h k) = behind_keeps g os w (λ decided. items_keep g (item_keeps g s x (Made os t) sound h decided) k)
-
--- the clauses stay those that are let in, since a theorem gives none
-
-abbrev HasClauses : List Clause → Walked Standing → Type 0
-HasClauses cs (Made os t) = t.clauses ≡ cs
-HasClauses cs (Refused r) = Unit {0}
-
-item_clauses : (cs : List Clause) (s : Standing) (x : ItemTree) (w : Walked Standing) → s.clauses ≡ cs → IsItem s x w → HasClauses cs w
-item_clauses cs s _ w same (rule.reserve t _ (rule.not_read r after h)) = tt
-item_clauses cs s _ w same (rule.reserve t _ (rule.reserved c after h)) = same
-item_clauses cs s _ w same (rule.theorem t _ (rule.not_read r after h)) = tt
-item_clauses cs s _ w same (rule.theorem t _ (rule.read x between (Made os l) h j)) = append-nil s.clauses ∙ same
-item_clauses cs s _ w same (rule.theorem t _ (rule.read x between (Refused r) h j)) = tt
-item_clauses cs s _ w same (rule.statement t _ (rule.stated first (Made os d) at h)) = same
-item_clauses cs s _ w same (rule.statement t _ (rule.stated first (Refused r) at h)) = tt
-item_clauses cs s x w same (rule.not_built _ first b at) = tt
-
-behind_clauses : (cs : List Clause) (os : List Obligation) (w : Walked Standing) → HasClauses cs w → HasClauses cs (behind os w)
-behind_clauses cs os (Made ps t) h = h
-behind_clauses cs os (Refused r) h = tt
-
-same_clauses : {cs : List Clause} {s : Standing} {parts : List ArticlePartTree} {w : Walked Standing} → AreItems s parts w → s.clauses ≡ cs → HasClauses cs w
-same_clauses (rule.no_more s) same = same
-same_clauses (rule.section s begin parts w h) same = same_clauses h same
-same_clauses (rule.stopped s x parts r h) same = tt
-same_clauses {cs} (rule.further s t x parts os w h k) same = behind_clauses cs os w (same_clauses k (item_clauses cs s x (Made os t) same h))
 
 -- how an accepted article ended
 
@@ -148,11 +76,8 @@ fronted {name} {vs} {exports} {bytes} (outcome.read x o h d) = fronted_on name e
 
 -- laws
 
-done_so : (cs : List Clause) (d : Duty) → judged.IsDone cs d → IsDone [] cs d
-done_so cs (By p) h = h
-
-all_decided : (cs : List Clause) (t : Standing) (os : List Obligation) → AreJudged t.clauses os [] → t.clauses ≡ cs → AreDecided cs os
-all_decided cs t os judged same o is none = done_so (clauses_for cs o) o.duty (met_law cs os (subst (λ ds. AreJudged ds os []) same judged) o is none)
+all_decided : (cs : List Clause) (os : List Obligation) → AreJudged cs os [] → AreDecided cs os
+all_decided cs os judged o is none = met_law cs os judged o is none
 
 -- what an accepted article rests on
 pub record Rested (exports : List Export) (e : Export) : Type 0 where
@@ -163,7 +88,7 @@ pub record Rested (exports : List Export) (e : Export) : Type 0 where
   pub set_so : IsSettingOf e.name head exports environment setting
   pub depends : e.dependencies ≡ dependencies_of head
   pub with_notations : HasNotationsOfItems e
-  pub proved : AreProved (axioms_of setting.used) e.items
+  pub met : AreOwed (axioms_of setting.used) e.items
 
 rested : (name : Name) (exports : List Export) (bytes : ℕ) (e : Export) (library : List Export) → Sound library → AreExportsOf library exports → Fronted name exports bytes e → Rested exports e
 rested name exports bytes e library sound of_library f =
@@ -174,9 +99,9 @@ rested name exports bytes e library sound of_library f =
     let start : StandsSoundly g (standing_at_start name bytes x.environment) =
     subst (λ n. StandsSoundly g (standing_at_start n bytes x.environment)) used.1.named
     (start_law g x.head exports x.environment bytes (closed_exports library exports sound of_library) f.lets used.1.entries used.1.clauses_are) in
-    let decided : AreDecided g.clauses f.ends.obligations =
-    all_decided g.clauses f.ends.last f.ends.obligations f.ends.judged_so (same_clauses f.ends.read_so (sym used.1.clauses_are)) in
-    let last : StandsSoundly g f.ends.last = items_keep g start f.ends.read_so decided in
+    let end : Standing = f.ends.last in
+    let decided : AreDecided end.clauses f.ends.obligations = all_decided end.clauses f.ends.obligations f.ends.judged_so in
+    let last : StandsSoundly g end = (items_keep g (standing_at_start name bytes x.environment) x.tree.parts (Made f.ends.obligations end) start f.ends.read_so).1 end.clauses (extends_itself end.clauses) decided in
     record {
       head = x.head;
       environment = x.environment;
@@ -185,7 +110,7 @@ rested name exports bytes e library sound of_library f =
       set_so = subst (λ n. IsSettingOf n x.head exports x.environment g) (ap (λ (d : Export). d.name) (sym same)) used.1;
       depends = ap (λ (d : Export). d.dependencies) same;
       with_notations = subst HasNotationsOfItems (sym same) refl;
-      proved = subst (λ (d : Export). AreProved (axioms_of g.used) d.items) (sym same) last.proved;
+      met = subst (λ (d : Export). AreOwed (axioms_of g.used) d.items) (sym same) last.met;
     }
 
 pub accepted_rests : (name : Name) (vs : List NamedText) (exports : List Export) (bytes : List ℕ) (e : Export) (library : List Export) → Sound library → AreExportsOf library exports → IsOutcome name vs exports bytes (Accepted e) → Rested exports e
@@ -198,4 +123,4 @@ pub accepted_law : KeepsSound IsOutcome
 accepted_law name vs exports bytes e library sound fresh of_library accepted =
     let r : Rested exports e = accepted_rests name vs exports bytes e library sound of_library accepted in
     added_law r.head library exports r.environment e r.setting sound of_library r.lets r.set_so
-    (subst (λ n. HasName library n → ⊥) (sym (name_law name vs exports bytes e accepted)) fresh) r.depends r.with_notations r.proved
+    (subst (λ n. HasName library n → ⊥) (sym (name_law name vs exports bytes e accepted)) fresh) r.depends r.with_notations r.met

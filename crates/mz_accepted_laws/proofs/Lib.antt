@@ -1,2 +1,3 @@
+pub mod ItemKeeps
 pub mod AcceptedProofs
 pub mod AloneProofs

@@ -58,39 +58,39 @@ one_adjective_law e c w place form a o p h k = one_application e c w place form 
 pub one_statement_law : OneStatementLaw
 one_statement_law e c w place form a o p h k = one_application e c w place form a o p h k
 
--- why arguments aren't admitted, by the two tests
-abbrev FitAs : Environment → Context → Place → List SoftType → List Term → Option Refusal → Type 0
-FitAs e c place places ts o =
-    (PlacesFit (typing e c) c.constants places ts × (o ≡ None)) ⊎ ((PlacesFit (typing e c) c.constants places ts → ⊥) × (o ≡ Some (UnfitArgument place)))
+-- why arguments aren't admitted, by the tests in their order
+usable_as : Place → Bool → Option Refusal
+usable_as place true = None
+usable_as place false = Some (UnknownVariable place)
 
-abbrev AdmitsAs : Environment → Context → Place → List SoftType → List Term → Bool → Bool → Option Refusal → Type 0
-AdmitsAs e c place places ts false same o = o ≡ Some (UnknownVariable place)
-AdmitsAs e c place places ts true false o = o ≡ Some (NoNotation place)
-AdmitsAs e c place places ts true true o = FitAs e c place places ts o
+abbrev FitAs : Environment → Context → Place → Bool → List SoftType → List Term → Option Refusal → Type 0
+FitAs e c place usable places ts o =
+    (PlacesFit (typing e c) c.constants places ts × (o ≡ usable_as place usable)) ⊎ ((PlacesFit (typing e c) c.constants places ts → ⊥) × (o ≡ Some (UnfitArgument place)))
 
-admits_as : (e : Environment) (c : Context) (place : Place) (usable : Bool) (places : List SoftType) (ts : List Term) (o : Option Refusal) → Admits e c place usable places ts o → AdmitsAs e c place places ts usable (nat_eq (length ts) (length places)) o
-admits_as e c place usable places ts o (pr.not_usable h) = subst (λ b. AdmitsAs e c place places ts b (nat_eq (length ts) (length places)) (Some (UnknownVariable place))) (sym h) refl
-admits_as e c place usable places ts o (pr.other_number h n) =
-    subst (λ b. AdmitsAs e c place places ts b (nat_eq (length ts) (length places)) (Some (NoNotation place))) (sym h) (subst (λ b. AdmitsAs e c place places ts true b (Some (NoNotation place))) (sym n) refl)
-admits_as e c place usable places ts o (pr.unfit h n f) =
-    subst (λ b. AdmitsAs e c place places ts b (nat_eq (length ts) (length places)) (Some (UnfitArgument place))) (sym h) (subst (λ b. AdmitsAs e c place places ts true b (Some (UnfitArgument place))) (sym n) (inr (f, refl)))
-admits_as e c place usable places ts o (pr.admits h n f) =
-    subst (λ b. AdmitsAs e c place places ts b (nat_eq (length ts) (length places)) None) (sym h) (subst (λ b. AdmitsAs e c place places ts true b None) (sym n) (inl (f, refl)))
+abbrev AdmitsAs : Environment → Context → Place → Bool → List SoftType → List Term → Bool → Option Refusal → Type 0
+AdmitsAs e c place usable places ts false o = o ≡ Some (NoNotation place)
+AdmitsAs e c place usable places ts true o = FitAs e c place usable places ts o
 
-fit_once : (e : Environment) (c : Context) (place : Place) (places : List SoftType) (ts : List Term) (o p : Option Refusal) → FitAs e c place places ts o → FitAs e c place places ts p → o ≡ p
-fit_once e c place places ts o p (inl (f, h)) (inl (g, k)) = h ∙ sym k
-fit_once e c place places ts o p (inl (f, h)) (inr (g, k)) = absurd (g f)
-fit_once e c place places ts o p (inr (f, h)) (inl (g, k)) = absurd (f g)
-fit_once e c place places ts o p (inr (f, h)) (inr (g, k)) = h ∙ sym k
+admits_as : (e : Environment) (c : Context) (place : Place) (usable : Bool) (places : List SoftType) (ts : List Term) (o : Option Refusal) → Admits e c place usable places ts o → AdmitsAs e c place usable places ts (nat_eq (length ts) (length places)) o
+unfolding usable_as
+admits_as e c place usable places ts o (pr.other_number n) = subst (λ b. AdmitsAs e c place usable places ts b (Some (NoNotation place))) (sym n) refl
+admits_as e c place usable places ts o (pr.unfit n f) = subst (λ b. AdmitsAs e c place usable places ts b (Some (UnfitArgument place))) (sym n) (inr (f, refl))
+admits_as e c place usable places ts o (pr.not_usable n f h) = subst (λ b. AdmitsAs e c place usable places ts b (Some (UnknownVariable place))) (sym n) (inl (f, sym (ap (usable_as place) h)))
+admits_as e c place usable places ts o (pr.admits n f h) = subst (λ b. AdmitsAs e c place usable places ts b None) (sym n) (inl (f, sym (ap (usable_as place) h)))
 
-admits_once : (e : Environment) (c : Context) (place : Place) (places : List SoftType) (ts : List Term) (usable same : Bool) (o p : Option Refusal) → AdmitsAs e c place places ts usable same o → AdmitsAs e c place places ts usable same p → o ≡ p
-admits_once e c place places ts false same o p h k = h ∙ sym k
-admits_once e c place places ts true false o p h k = h ∙ sym k
-admits_once e c place places ts true true o p h k = fit_once e c place places ts o p h k
+fit_once : (e : Environment) (c : Context) (place : Place) (usable : Bool) (places : List SoftType) (ts : List Term) (o p : Option Refusal) → FitAs e c place usable places ts o → FitAs e c place usable places ts p → o ≡ p
+fit_once e c place usable places ts o p (inl (f, h)) (inl (g, k)) = h ∙ sym k
+fit_once e c place usable places ts o p (inl (f, h)) (inr (g, k)) = absurd (g f)
+fit_once e c place usable places ts o p (inr (f, h)) (inl (g, k)) = absurd (f g)
+fit_once e c place usable places ts o p (inr (f, h)) (inr (g, k)) = h ∙ sym k
+
+admits_once : (e : Environment) (c : Context) (place : Place) (usable : Bool) (places : List SoftType) (ts : List Term) (same : Bool) (o p : Option Refusal) → AdmitsAs e c place usable places ts same o → AdmitsAs e c place usable places ts same p → o ≡ p
+admits_once e c place usable places ts false o p h k = h ∙ sym k
+admits_once e c place usable places ts true o p h k = fit_once e c place usable places ts o p h k
 
 one_refusal : (e : Environment) (c : Context) (place : Place) (usable : Bool) (places : List SoftType) (ts : List Term) (o p : Option Refusal) → Admits e c place usable places ts o → Admits e c place usable places ts p → o ≡ p
 one_refusal e c place usable places ts o p h k =
-    admits_once e c place places ts usable (nat_eq (length ts) (length places)) o p (admits_as e c place usable places ts o h) (admits_as e c place usable places ts p k)
+    admits_once e c place usable places ts (nat_eq (length ts) (length places)) o p (admits_as e c place usable places ts o h) (admits_as e c place usable places ts p k)
 
 functor_behind : Place → List Term → PrivateFunctor → Option Refusal → Result Term Refusal
 functor_behind place ts f (Some r) = Err r

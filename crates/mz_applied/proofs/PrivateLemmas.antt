@@ -78,19 +78,19 @@ other_count m n h = tested m n (nat_eq m n) refl h
 pub same_count : (m n : ℕ) → m ≡ n → nat_eq m n ≡ true
 same_count m n h = grind (arith, h)
 
-pub told_not_usable : (e : Environment) (c : Context) (place : Place) (usable : Bool) (places : List SoftType) (ts : List Term) → usable ≡ false → Admits e c place usable places ts (Some (UnknownVariable place))
-told_not_usable e c place usable places ts h = pr.not_usable h
+pub told_other_number : (e : Environment) (c : Context) (place : Place) (usable : Bool) (places : List SoftType) (ts : List Term) → (length ts ≡ length places → ⊥) → Admits e c place usable places ts (Some (NoNotation place))
+told_other_number e c place usable places ts n = pr.other_number (other_count _ _ n)
 
-pub told_other_number : (e : Environment) (c : Context) (place : Place) (usable : Bool) (places : List SoftType) (ts : List Term) → usable ≡ true → (length ts ≡ length places → ⊥) → Admits e c place usable places ts (Some (NoNotation place))
-told_other_number e c place usable places ts h n = pr.other_number h (other_count _ _ n)
+pub told_unfit : (e : Environment) (c : Context) (place : Place) (usable : Bool) (places : List SoftType) (ts : List Term) (fit : Bool) → length ts ≡ length places → IsTrue fit ↔ PlacesFit (typing e c) c.constants places ts → fit ≡ false → Admits e c place usable places ts (Some (UnfitArgument place))
+told_unfit e c place usable places ts fit n i ef = pr.unfit (same_count _ _ n) (λ f. not_both fit ef (i.1 f))
 
-pub told_unfit : (e : Environment) (c : Context) (place : Place) (usable : Bool) (places : List SoftType) (ts : List Term) (fit : Bool) → usable ≡ true → length ts ≡ length places → IsTrue fit ↔ PlacesFit (typing e c) c.constants places ts → fit ≡ false → Admits e c place usable places ts (Some (UnfitArgument place))
-told_unfit e c place usable places ts fit h n i ef = pr.unfit h (same_count _ _ n) (λ f. not_both fit ef (i.1 f))
+pub told_not_usable : (e : Environment) (c : Context) (place : Place) (usable : Bool) (places : List SoftType) (ts : List Term) (fit : Bool) → length ts ≡ length places → IsTrue fit ↔ PlacesFit (typing e c) c.constants places ts → fit ≡ true → usable ≡ false → Admits e c place usable places ts (Some (UnknownVariable place))
+told_not_usable e c place usable places ts fit n i ef h = pr.not_usable (same_count _ _ n) (i.0 ef) h
 
-pub told_admits : (e : Environment) (c : Context) (place : Place) (usable : Bool) (places : List SoftType) (ts : List Term) (fit : Bool) → usable ≡ true → length ts ≡ length places → IsTrue fit ↔ PlacesFit (typing e c) c.constants places ts → fit ≡ true → Admits e c place usable places ts None
-told_admits e c place usable places ts fit h n i ef = pr.admits h (same_count _ _ n) (i.0 ef)
+pub told_admits : (e : Environment) (c : Context) (place : Place) (usable : Bool) (places : List SoftType) (ts : List Term) (fit : Bool) → length ts ≡ length places → IsTrue fit ↔ PlacesFit (typing e c) c.constants places ts → fit ≡ true → usable ≡ true → Admits e c place usable places ts None
+told_admits e c place usable places ts fit n i ef h = pr.admits (same_count _ _ n) (i.0 ef) h
 
-pub ruleset admits_rules = (told_not_usable, told_other_number, told_unfit, told_admits)
+pub ruleset admits_rules = (told_other_number, told_unfit, told_not_usable, told_admits)
 
 pub told_functor_refused : (e : Environment) (c : Context) (least : ℕ) (place : Place) (name : List ℕ) (ts : List Term) (f : PrivateFunctor) (usable : Bool) (q : Option Refusal) (r : Refusal) → private_functor c name ≡ Some f → usable ≡ is_functor_usable least f → Admits e c place usable f.places ts q → q ≡ Some r → AppliesFunctor e c least place name ts (Err r)
 told_functor_refused e c least place name ts f usable q r ef eu h eq =

@@ -1,6 +1,6 @@
 -- What an application means, as a term, a type, an adjective or a statement. `place` is the symbol's place and `first` that
 -- of the expression's first token.
-use Rattle.std.specs.Prelude.{◌-◌, Bool, true, false, not, List, length, take, Result, Ok, Err}
+use Rattle.std.specs.Prelude.{◌-◌, Bool, true, false, not, if◌then◌else◌, List, length, take, Result, Ok, Err}
 use Rattle.mz_base.specs.declared.place.Place.{Place}
 use Rattle.mz_logic.specs.declared.literal.Literal.{Literal}
 use Rattle.mz_logic.specs.declared.literal.Literal.TheVariants.{Atom, Eq}
@@ -52,15 +52,24 @@ abbrev pub literal_of : Bool → Literal → Literal
 literal_of non (Atom positive s ts) = Atom (sign_of non positive) s ts
 literal_of non (Eq positive t u) = Eq (sign_of non positive) t u
 
--- as what an attribute says of its subject, which stands in `is`
-abbrev pub as_attributed : Bool → Place → Place → Meaning → Result Statement Refusal
-as_attributed non place first (OfTerm t) = Err (refusal.UnfitArgument place)
-as_attributed non place first (OfLiteral l) = within statement_keeps first (literal_statement (literal_of non l))
-as_attributed non place first (OfType ty) = Err (refusal.UnfitArgument place)
-
 -- the terms but for the last one
 abbrev pub but_last : {X : Type 0} → List X → List X
 but_last ts = take (length ts - 1) ts
+
+-- the adjective alone, which is an attribute's literal without its subject, keeps the limits; an equation is no adjective
+abbrev pub keeps_alone : Literal → Bool
+keeps_alone (Atom positive s ts) = adjective_keeps (record { positive = positive; sym = s; args = but_last ts })
+keeps_alone (Eq positive t u) = true
+
+abbrev pub attributed : Bool → Place → Literal → Result Statement Refusal
+attributed non first l = if keeps_alone l then Ok (literal_statement (literal_of non l)) else Err (refusal.TooLarge first)
+
+-- as what an attribute says of its subject, which stands in `is`. `first` is the place of the adjective's first token; what is
+-- said is tested with the whole formula
+abbrev pub as_attributed : Bool → Place → Place → Meaning → Result Statement Refusal
+as_attributed non place first (OfTerm t) = Err (refusal.UnfitArgument place)
+as_attributed non place first (OfLiteral l) = attributed non first l
+as_attributed non place first (OfType ty) = Err (refusal.UnfitArgument place)
 
 -- as an adjective: the atom without its last argument, which is the subject
 abbrev pub adjective_of : Bool → Place → Place → Literal → Result Adjective Refusal

@@ -1,5 +1,5 @@
 -- Private functors and predicates, and letters, applied to arguments. They are named by the identifier at `place`.
-use Rattle.std.specs.Prelude.{◌≡◌, ℕ, Bool, true, false, ◌&&◌, nat_eq, if◌then◌else◌, List, [], ◌∷◌, length, Option, Some, None, Result, Err}
+use Rattle.std.specs.Prelude.{◌≡◌, ℕ, Bool, true, false, nat_eq, if◌then◌else◌, List, [], ◌∷◌, length, Option, Some, None, Result, Err}
 use Rattle.mz_base.specs.declared.place.Place.{Place}
 use Rattle.mz_logic.specs.Term.{Term, App, terms_of}
 use Rattle.mz_logic.specs.Substitution.{substitute, argument_at}
@@ -16,7 +16,7 @@ use Rattle.mz_environment.specs.declared.environment.Environment.{Environment}
 use Rattle.mz_fits.specs.Fits.{TypeFits}
 use Rattle.mz_types.specs.Known.{typing}
 use Rattle.mz_names.specs.Names.{private_functor, private_predicate, functor_letter, predicate_letter, letter_sym, letter_places}
-use Rattle.mz_names.specs.Scope.{term_from, statement_from, types_from}
+use Rattle.mz_names.specs.Scope.{term_from, statement_from}
 use Rattle.mz_names.specs.declared.refusal.Refusal.{Refusal}
 use Rattle.mz_names.specs.declared.refusal.Refusal.TheVariants.{UnknownVariable, NoNotation, UnfitArgument}
 use Rattle.mz_sizes.specs.Sizes.{term_keeps, statement_keeps}
@@ -27,20 +27,20 @@ pub data PlacesFit (cs : List Clause) (ks : List (Option Constant)) : List SoftT
   no_places : PlacesFit cs ks [] []
   and_place : (ty : SoftType) (tys : List SoftType) (t : Term) (ts : List Term) → TypeFits cs ks t ty → PlacesFit cs ks tys ts → PlacesFit cs ks (ty ∷ tys) (t ∷ ts)
 
--- why what has such places isn't applied to the arguments: it has a constant that may not be used, another number of
--- places, or a place that an argument doesn't fit
+-- why what has such places isn't applied to the arguments: it has another number of places, a place that an argument
+-- doesn't fit, or a body with a constant that may not be used
 pub data Admits (e : Environment) (c : Context) (place : Place) (usable : Bool) (places : List SoftType) (ts : List Term) : Option Refusal → Type 0 where
-  not_usable : usable ≡ false → Admits e c place usable places ts (Some (UnknownVariable place))
-  other_number : usable ≡ true → nat_eq (length ts) (length places) ≡ false → Admits e c place usable places ts (Some (NoNotation place))
-  unfit : usable ≡ true → nat_eq (length ts) (length places) ≡ true → ¬ PlacesFit (typing e c) c.constants places ts → Admits e c place usable places ts (Some (UnfitArgument place))
-  admits : usable ≡ true → nat_eq (length ts) (length places) ≡ true → PlacesFit (typing e c) c.constants places ts → Admits e c place usable places ts None
+  other_number : nat_eq (length ts) (length places) ≡ false → Admits e c place usable places ts (Some (NoNotation place))
+  unfit : nat_eq (length ts) (length places) ≡ true → ¬ PlacesFit (typing e c) c.constants places ts → Admits e c place usable places ts (Some (UnfitArgument place))
+  not_usable : nat_eq (length ts) (length places) ≡ true → PlacesFit (typing e c) c.constants places ts → usable ≡ false → Admits e c place usable places ts (Some (UnknownVariable place))
+  admits : nat_eq (length ts) (length places) ≡ true → PlacesFit (typing e c) c.constants places ts → usable ≡ true → Admits e c place usable places ts None
 
--- the constants of a private functor or predicate may be used
+-- the constants of the body of a private functor or predicate may be used; the types of its places don't count
 abbrev pub is_functor_usable : ℕ → PrivateFunctor → Bool
-is_functor_usable least f = term_from least f.body && types_from least f.places
+is_functor_usable least f = term_from least f.body
 
 abbrev pub is_predicate_usable : ℕ → PrivatePredicate → Bool
-is_predicate_usable least p = statement_from least p.body && types_from least p.places
+is_predicate_usable least p = statement_from least p.body
 
 -- a letter with as many arguments as it has places, or why there is none
 abbrev pub term_of_letter : Place → List Term → Option NamedLetter → Result Term Refusal

@@ -110,7 +110,8 @@ pub fn applied_statement(
 
 /// What the applied attribute, behind `non` where that is written, says of its subject, which is its argument on the right.
 ///
-/// Refusals as for a predicate.
+/// Refusals as for a predicate, but `TooLarge` where the adjective alone, without its subject, is beyond the limits; `first` is
+/// the place of the adjective's first token.
 #[tactic(auto, using(crate::proofs::ReadingLemmas::reading_rules))]
 pub fn applied_attribute(
     alloc: Global,

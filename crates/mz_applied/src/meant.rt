@@ -1,6 +1,6 @@
 //! What an application means, as a term, a type, an adjective or a statement.
 ghost use Rattle.std.specs.Prelude.{◌≡◌, IfOk};
-ghost use Rattle.mz_applied.specs.Meant.{meant, as_term, as_type, as_statement, sign_of, literal_of, as_attributed, but_last, adjective_of, as_adjective};
+ghost use Rattle.mz_applied.specs.Meant.{meant, as_term, as_type, as_statement, sign_of, literal_of, keeps_alone, attributed, as_attributed, but_last, adjective_of, as_adjective};
 
 use crate::within::{within_adjective, within_statement, within_term};
 use mz_base::place::Place;
@@ -13,6 +13,7 @@ use mz_core::type_statements::literal_statement;
 use mz_logic::literal::Literal;
 use mz_logic::term::{Term, Terms};
 use mz_names::refusal::Refusal;
+use mz_sizes::keeps::adjective_keeps;
 use std::alloc::{AllocError, Global};
 
 /// What it reads to, or the refusal at the symbol's place.
@@ -106,7 +107,46 @@ fn literal_of(alloc: Global, non: bool, l: &Literal) -> Result<Literal, AllocErr
     }
 }
 
-/// As what an attribute says of its subject, denied behind `non`.
+/// Whether the adjective alone, without its subject, keeps the limits.
+fn keeps_alone(alloc: Global, l: &Literal) -> Result<bool, AllocError>
+    ensures { IfOk result (λ b. b ≡ keeps_alone l.now) }
+{
+    match l {
+        Literal::Atom {
+            positive,
+            sym,
+            args,
+        } => {
+            let args = but_last(args.copy(alloc)?);
+            let a = Adjective {
+                positive: *positive,
+                sym: *sym,
+                args,
+            };
+            Ok(adjective_keeps(&a))
+        }
+        Literal::Eq { .. } => Ok(true),
+    }
+}
+
+fn attributed(
+    alloc: Global,
+    non: bool,
+    first: Place,
+    l: &Literal,
+) -> Result<Result<Statement, Refusal>, AllocError>
+    ensures { IfOk result (λ o. o ≡ attributed non first l.now) }
+{
+    if !keeps_alone(alloc, l)? {
+        return Ok(Err(Refusal::TooLarge(first)));
+    }
+    let k = literal_of(alloc, non, l)?;
+    let s = literal_statement(alloc, &k)?;
+    Ok(Ok(s))
+}
+
+/// As what an attribute says of its subject, denied behind `non`. The adjective alone is tested here, at the place of its first
+/// token; what it says is not.
 pub fn as_attributed(
     alloc: Global,
     non: bool,
@@ -119,9 +159,8 @@ pub fn as_attributed(
     match m {
         Meaning::OfTerm(_) => Ok(Err(Refusal::UnfitArgument(place))),
         Meaning::OfLiteral(l) => {
-            let k = literal_of(alloc, non, l)?;
-            let s = literal_statement(alloc, &k)?;
-            Ok(within_statement(first, s))
+            let o = attributed(alloc, non, first, l)?;
+            Ok(o)
         }
         Meaning::OfType(_) => Ok(Err(Refusal::UnfitArgument(place))),
     }

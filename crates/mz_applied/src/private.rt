@@ -25,7 +25,7 @@ use mz_names::names::{
     functor_letter, letter_places, letter_sym, predicate_letter, private_functor, private_predicate,
 };
 use mz_names::refusal::Refusal;
-use mz_names::scope::{statement_from, term_from, types_from};
+use mz_names::scope::{statement_from, term_from};
 use mz_types::known::typing;
 use std::alloc::{AllocError, Global};
 
@@ -96,30 +96,30 @@ fn refusal_of(
 ) -> Result<Option<Refusal>, AllocError>
     ensures { IfOk result (λ o. Admits env.now ctx.now place usable places.now ts.now o) }
 {
-    if !usable {
-        return Ok(Some(Refusal::UnknownVariable(place)));
-    }
     if ts.items.len() != places.items.len() {
         return Ok(Some(Refusal::NoNotation(place)));
     }
     let fit = places_fit(alloc, env, ctx, places, ts)?;
-    if fit {
+    if !fit {
+        return Ok(Some(Refusal::UnfitArgument(place)));
+    }
+    if usable {
         Ok(None)
     } else {
-        Ok(Some(Refusal::UnfitArgument(place)))
+        Ok(Some(Refusal::UnknownVariable(place)))
     }
 }
 
 fn is_functor_usable(least: u32, f: &PrivateFunctor) -> bool
     ensures { result ≡ is_functor_usable least f.now }
 {
-    term_from(&f.body, least) && types_from(&f.places, least)
+    term_from(&f.body, least)
 }
 
 fn is_predicate_usable(least: u32, p: &PrivatePredicate) -> bool
     ensures { result ≡ is_predicate_usable least p.now }
 {
-    statement_from(&p.body, least) && types_from(&p.places, least)
+    statement_from(&p.body, least)
 }
 
 fn term_of_letter(place: Place, ts: Terms, l: Option<&NamedLetter>) -> Result<Term, Refusal>
@@ -159,9 +159,9 @@ fn statement_of_letter(
 /// What the identifier at the place is read to with arguments in parentheses: the body of the private functor at the
 /// arguments, or else the functor letter with them. Constants below `least` may not be used.
 ///
-/// Refusals, all at the identifier: `UnknownVariable` where it is neither, or is a private functor with a constant that may
-/// not be used; `NoNotation` with another number of arguments; `UnfitArgument` where an argument doesn't fit its place;
-/// `TooLarge`.
+/// Refusals, all at the identifier and in this order: `UnknownVariable` where it is neither; `NoNotation` with another number
+/// of arguments; `UnfitArgument` where an argument doesn't fit its place; `UnknownVariable` where it is a private functor whose
+/// body has a constant that may not be used; `TooLarge`.
 #[tactic(auto, using(crate::proofs::PrivateLemmas::functor_rules))]
 pub fn applied_functor(
     alloc: Global,

@@ -10,13 +10,12 @@ use Rattle.mz_core.specs.declared.fault.Fault.{Fault}
 use Rattle.mz_core.specs.declared.item.Item.{Item}
 use Rattle.mz_core.specs.declared.outcome.Outcome.{Outcome}
 use Rattle.mz_obligations.specs.declared.obligation.Obligation.{Obligation}
-use Rattle.mz_justified.specs.Answers.{OnMade}
-use Rattle.mz_justified.specs.declared.proof_fault.ProofFault.{ProofFault}
-use Rattle.mz_justified.specs.declared.proof_fault.ProofFault.TheVariants as fault
-use Rattle.mz_justified.specs.declared.proof_fault.ProofRefusal.{ProofRefusal}
-use Rattle.mz_walk.specs.Answers.{IsBrought, Brings}
-use Rattle.mz_walk.specs.Walked.{Made, Refused}
-use Rattle.mz_article_items.proofs.AnswerLemmas.{on_ok}
+use Rattle.mz_taken.specs.declared.item_fault.ItemFault.{ItemFault}
+use Rattle.mz_taken.specs.declared.item_fault.ItemFault.TheVariants as fault
+use Rattle.mz_taken.specs.declared.item_fault.ItemRefusal.{ItemRefusal}
+use Rattle.mz_taken.specs.Answers.{OnTaken, Brings}
+use Rattle.mz_taken.specs.Taken.{Made, Refused}
+use Rattle.mz_taken.proofs.OneByOneProofs.{on_ok}
 use Rattle.mz_tree_item.specs.declared.article.ArticlePartTree.{ArticlePartTree}
 use Rattle.mz_front.specs.Front.{IsFront, OnTold}
 use Rattle.mz_front.specs.declared.front.Front.{Front}
@@ -26,7 +25,7 @@ use Rattle.mz_judged.specs.Judged.{AreJudged}
 use Rattle.mz_standing.specs.Standing.{standing_at_start}
 use Rattle.mz_standing.specs.declared.standing.Standing.{Standing}
 use Rattle.mz_article_items.specs.Items.{AreItems}
-use Rattle.mz_article.specs.Told.{reasoning_told}
+use Rattle.mz_article.specs.Told.{item_told}
 use Rattle.mz_article.specs.Outcome as rule
 use Rattle.mz_article.specs.Outcome.{export_of, outcome_by, rejected, IsDecided, IsOutcomeFrom, IsOutcome}
 
@@ -40,8 +39,8 @@ told_decided name ds s os fs xs r h e k = if_same (IsDecided name ds s os) r (ou
 
 pub ruleset judged_rules = (told_decided)
 
-pub told_judged : {X : Type 0} (name : Name) (ds : List Directive) (parts : List ArticlePartTree) (s t : Standing) (none os : List Obligation) (z : Result X ProofFault) (v : X) (r : Result Outcome AllocError) →
-    none ≡ [] → OnMade z (Brings (AreItems s parts) t none os) → z ≡ Ok v → IfOk r (IsDecided name ds t os) → IfOk r (IsOutcomeFrom name ds parts s)
+pub told_judged : {X : Type 0} (name : Name) (ds : List Directive) (parts : List ArticlePartTree) (s t : Standing) (none os : List Obligation) (z : Result X ItemFault) (v : X) (r : Result Outcome AllocError) →
+    none ≡ [] → OnTaken z (Brings (AreItems s parts) t none os) → z ≡ Ok v → IfOk r (IsDecided name ds t os) → IfOk r (IsOutcomeFrom name ds parts s)
 told_judged name ds parts s t none os z v (Ok o) en h e k =
     let b = on_ok (Brings (AreItems s parts) t none os) z v e h in
     let all : os ≡ b.made = b.are_last ∙ ap (λ xs. xs ++ b.made) en in
@@ -49,16 +48,16 @@ told_judged name ds parts s t none os z v (Ok o) en h e k =
 told_judged name ds parts s t none os z v (Err a) en h e k = tt
 
 -- the outcome of what was refused
-abbrev pub ItemsRefused : ProofFault → Outcome → Type 0
-ItemsRefused g o = (q : ProofRefusal) × (g ≡ fault.Refused q) × (o ≡ rejected (reasoning_told q))
+abbrev pub ItemsRefused : ItemFault → Outcome → Type 0
+ItemsRefused g o = (q : ItemRefusal) × (g ≡ fault.Refused q) × (o ≡ rejected (item_told q))
 
-refused_with : (name : Name) (ds : List Directive) (parts : List ArticlePartTree) (s : Standing) (q : ProofRefusal) (o : Outcome) → AreItems s parts (Refused q) → o ≡ rejected (reasoning_told q) → IsOutcomeFrom name ds parts s o
+refused_with : (name : Name) (ds : List Directive) (parts : List ArticlePartTree) (s : Standing) (q : ItemRefusal) (o : Outcome) → AreItems s parts (Refused q) → o ≡ rejected (item_told q) → IsOutcomeFrom name ds parts s o
 refused_with name ds parts s q o h e = subst (λ (p : Outcome). IsOutcomeFrom name ds parts s p) (sym e) (rule.stopped q h)
 
-pub told_stopped : {X : Type 0} (name : Name) (ds : List Directive) (parts : List ArticlePartTree) (s t : Standing) (none os : List Obligation) (z : Result X ProofFault) (g : ProofFault) (r : Result Outcome AllocError) →
-    OnMade z (Brings (AreItems s parts) t none os) → z ≡ Err g → IfOk r (ItemsRefused g) → IfOk r (IsOutcomeFrom name ds parts s)
+pub told_stopped : {X : Type 0} (name : Name) (ds : List Directive) (parts : List ArticlePartTree) (s t : Standing) (none os : List Obligation) (z : Result X ItemFault) (g : ItemFault) (r : Result Outcome AllocError) →
+    OnTaken z (Brings (AreItems s parts) t none os) → z ≡ Err g → IfOk r (ItemsRefused g) → IfOk r (IsOutcomeFrom name ds parts s)
 told_stopped name ds parts s t none os z g (Ok o) h e (q, eg, eo) =
-    refused_with name ds parts s q o (subst (λ y. OnMade y (Brings (AreItems s parts) t none os)) (e ∙ ap Err eg) h) eo
+    refused_with name ds parts s q o (subst (λ y. OnTaken y (Brings (AreItems s parts) t none os)) (e ∙ ap Err eg) h) eo
 told_stopped name ds parts s t none os z g (Err a) h e k = tt
 
 pub ruleset parts_rules = (told_judged, told_stopped)

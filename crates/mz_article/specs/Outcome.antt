@@ -11,13 +11,13 @@ use Rattle.mz_core.specs.declared.outcome.Outcome.TheVariants.{Accepted, Rejecte
 use Rattle.mz_items.specs.Exports.{notations_of}
 use Rattle.mz_corpus.specs.Directives.{dependencies_of}
 use Rattle.mz_obligations.specs.declared.obligation.Obligation.{Obligation}
-use Rattle.mz_justified.specs.declared.proof_fault.ProofRefusal.{ProofRefusal}
-use Rattle.mz_walk.specs.Walked.{Made, Refused}
+use Rattle.mz_taken.specs.declared.item_fault.ItemRefusal.{ItemRefusal}
+use Rattle.mz_taken.specs.Taken.{Made, Refused}
 use Rattle.mz_tree_item.specs.declared.article.ArticlePartTree.{ArticlePartTree}
 use Rattle.mz_front.specs.Front.{IsFront}
 use Rattle.mz_front.specs.declared.front.Front.{Front}
 use Rattle.mz_judged.specs.Judged.{AreJudged}
-use Rattle.mz_article.specs.Told.{reasoning_told}
+use Rattle.mz_article.specs.Told.{item_told}
 use Rattle.mz_standing.specs.Standing.{standing_at_start}
 use Rattle.mz_article_items.specs.Items.{AreItems}
 use Rattle.mz_standing.specs.declared.standing.Standing.{Standing}
@@ -43,7 +43,7 @@ pub data IsDecided (name : Name) (ds : List Directive) (s : Standing) (os : List
 -- The outcome from where the items start: they are read with all their reasonings, in the order of the text, and the first refusal is
 -- the one fault; else all obligations are judged.
 pub data IsOutcomeFrom (name : Name) (ds : List Directive) (parts : List ArticlePartTree) (s : Standing) : Outcome → Type 0 where
-  stopped : (r : ProofRefusal) → AreItems s parts (Refused r) → IsOutcomeFrom name ds parts s (rejected (reasoning_told r))
+  stopped : (r : ItemRefusal) → AreItems s parts (Refused r) → IsOutcomeFrom name ds parts s (rejected (item_told r))
   judged : (t : Standing) (os : List Obligation) (o : Outcome) → AreItems s parts (Made os t) → IsDecided name ds t os o → IsOutcomeFrom name ds parts s o
 
 -- The outcome: the fault in front of the items, or what comes of them.

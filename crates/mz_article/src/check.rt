@@ -2,31 +2,35 @@
 ghost use Rattle.std.specs.Prelude.{◌≡◌, IfOk};
 ghost use Rattle.mz_core.specs.declared.fault.Fault.{Fault};
 ghost use Rattle.mz_front.specs.declared.front_fault.FrontFault.TheVariants as front_faults;
-ghost use Rattle.mz_justified.specs.declared.proof_fault.ProofFault.TheVariants as proof_faults;
-ghost use Rattle.mz_justified.specs.declared.proof_fault.ProofRefusal.{ProofRefusal};
+ghost use Rattle.mz_taken.specs.declared.item_fault.ItemFault.TheVariants as item_faults;
+ghost use Rattle.mz_taken.specs.declared.item_fault.ItemRefusal.{ItemRefusal};
 ghost use Rattle.mz_standing.specs.Standing.{standing_at_start};
 ghost use Rattle.mz_article.specs.Outcome.{rejected, IsDecided, IsOutcomeFrom, IsOutcome};
-ghost use Rattle.mz_article.specs.Told.{reasoning_told};
+ghost use Rattle.mz_article.specs.Told.{item_told};
 
 use crate::export::{outcome_by, rejected};
-use crate::told::reasoning_told;
-use mz_article_items::items::{end as end_standing, read_parts};
+use crate::told::item_told;
+use mz_article_items::parts::{end as end_standing, read_parts};
 use mz_axioms::exports::Exports;
 use mz_base::head::Head;
 use mz_base::name::Name;
 use mz_base::vocabularies::Vocabularies;
 use mz_core::items::Items;
 use mz_core::outcome::Outcome;
+use mz_define::define_items::DefineItems;
 use mz_environment::environment::Environment;
 use mz_front::front::{Front, end as end_front};
 use mz_front::front_fault::FrontFault;
 use mz_front::stages::front;
 use mz_judged::judge_all::judge_all;
-use mz_justified::proof_fault::ProofFault;
 use mz_obligations::obligation::Obligations;
 use mz_proof::proving::Proving;
+use mz_register::register_items::RegisterItems;
+use mz_scheme::stating::Stating;
 use mz_standing::standing::Standing;
 use mz_standing::start::standing_at_start;
+use mz_structure::struct_items::StructItems;
+use mz_taken::item_fault::ItemFault;
 use mz_tree_item::article::ArticlePartTree;
 use std::alloc::{AllocError, Global};
 use std::mem;
@@ -50,18 +54,18 @@ fn judged_outcome(
 }
 
 /// The outcome of the first refusal of its items.
-fn items_refused(alloc: Global, fault: ProofFault) -> Result<Outcome, AllocError>
-    ensures { IfOk result (λ o. (r : ProofRefusal) × (fault ≡ proof_faults.Refused r) × (o ≡ rejected (reasoning_told r))) }
+fn items_refused(alloc: Global, fault: ItemFault) -> Result<Outcome, AllocError>
+    ensures { IfOk result (λ o. (r : ItemRefusal) × (fault ≡ item_faults.Refused r) × (o ≡ rejected (item_told r))) }
 {
     match fault {
-        ProofFault::Refused(refusal) => rejected(alloc, reasoning_told(refusal)),
-        ProofFault::Memory => Err(AllocError),
+        ItemFault::Refused(refusal) => rejected(alloc, item_told(refusal)),
+        ItemFault::Memory => Err(AllocError),
     }
 }
 
 /// The outcome of an article from where it starts.
 #[tactic(auto, using(crate::proofs::CheckLemmas::parts_rules))]
-fn outcome_from(
+fn outcome_from<D: DefineItems, T: RegisterItems, S: StructItems>(
     rt: &(impl Threads + Sync),
     alloc: Global,
     name: Name,
@@ -72,7 +76,7 @@ fn outcome_from(
     ensures { IfOk result (IsOutcomeFrom name head.now parts.now s.old) }
 {
     let mut os = Obligations::new(alloc);
-    match read_parts::<Proving>(alloc, s, &mut os, parts) {
+    match read_parts::<Proving, D, T, S, Stating>(alloc, s, &mut os, parts) {
         Ok(()) => judged_outcome(rt, alloc, name, head, s, &os),
         Err(fault) => items_refused(alloc, fault),
     }
@@ -90,7 +94,7 @@ fn started(alloc: Global, name: Name, bytes: usize, x: &mut Front) -> Result<Sta
 
 /// The outcome of an article of so many bytes with this front.
 #[tactic(auto, using(crate::proofs::CheckLemmas::front_rules))]
-fn outcome_behind(
+fn outcome_behind<D: DefineItems, T: RegisterItems, S: StructItems>(
     rt: &(impl Threads + Sync),
     alloc: Global,
     name: Name,
@@ -101,7 +105,7 @@ fn outcome_behind(
 {
     let mut s = started(alloc, name, bytes, x)?;
     let parts = x.tree.parts.items.as_slice();
-    let outcome = outcome_from(rt, alloc, name, &x.head, parts, &mut s);
+    let outcome = outcome_from::<D, T, S>(rt, alloc, name, &x.head, parts, &mut s);
     end_standing(s);
     outcome
 }
@@ -116,7 +120,7 @@ fn front_refused(alloc: Global, fault: FrontFault) -> Result<Outcome, AllocError
     }
 }
 
-/// Checks an article: its outcome by the vocabularies, among which its own are looked for by their names, and by the exports of
+/// Checks an article, its blocks of definitions and of notations by `D`, of registrations by `T` and its structures by `S`: its outcome by the vocabularies, among which its own are looked for by their names, and by the exports of
 /// the articles on which it depends and of the built-in ones (`docs/LANGUAGE.md`, `docs/FAULTS.md`).
 ///
 /// The first of these decides and is then the one fault: that of the environment part, of the vocabularies, of the tokens, of the
@@ -128,7 +132,7 @@ fn front_refused(alloc: Global, fault: FrontFault) -> Result<Outcome, AllocError
 /// # Errors
 /// `AllocError` where there wasn't enough memory.
 #[tactic(auto, using(crate::proofs::CheckLemmas::outcome_rules))]
-pub fn check_article(
+pub fn check_article<D: DefineItems, T: RegisterItems, S: StructItems>(
     rt: &(impl Threads + Sync),
     alloc: Global,
     name: Name,
@@ -140,7 +144,7 @@ pub fn check_article(
 {
     match front(alloc, vocabularies, exports, bytes) {
         Ok(mut x) => {
-            let outcome = outcome_behind(rt, alloc, name, bytes.len(), &mut x);
+            let outcome = outcome_behind::<D, T, S>(rt, alloc, name, bytes.len(), &mut x);
             end_front(x);
             outcome
         }

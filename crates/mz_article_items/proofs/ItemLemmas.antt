@@ -18,7 +18,7 @@ use Rattle.mz_justified.specs.Answers.{OnMade}
 use Rattle.mz_justified.specs.declared.proof_fault.ProofFault.{ProofFault}
 use Rattle.mz_justified.specs.declared.proof_fault.ProofFault.TheVariants as fault
 use Rattle.mz_justified.specs.declared.proof_fault.ProofRefusal.{ProofRefusal}
-use Rattle.mz_justified.specs.declared.proof_fault.ProofRefusal.TheVariants.{Resolve, NotBuilt}
+use Rattle.mz_justified.specs.declared.proof_fault.ProofRefusal.TheVariants.{Resolve}
 use Rattle.mz_walk.specs.Answers.{resolved, IsBrought, Brings}
 use Rattle.mz_walk.specs.Walked.{State, state, Walked, Made, Refused}
 use Rattle.mz_walk.specs.Walk.{Justifies, States}
@@ -28,14 +28,11 @@ use Rattle.mz_tree.specs.Places.{first_place}
 use Rattle.mz_tree_proof.specs.Reasoning.{StatementData}
 use Rattle.mz_tree_proof.specs.SpellReasoning.{spell_statement}
 use Rattle.mz_tree_part.specs.declared.reserve.ReserveTree.{ReserveTree}
-use Rattle.mz_tree_item.specs.Spell.{spell_item}
 use Rattle.mz_tree_item.specs.declared.schemes.TheoremTree.{TheoremTree}
-use Rattle.mz_tree_item.specs.declared.article.ItemTree.{ItemTree}
-use Rattle.mz_tree_item.specs.declared.article.ItemTree.TheVariants as tree
 use Rattle.mz_standing.specs.Standing.{extent_of, with_left, with_context, with_item, behind_item, behind_theorem}
 use Rattle.mz_standing.specs.declared.standing.Standing.{Standing}
 use Rattle.mz_article_items.specs.Items as rule
-use Rattle.mz_article_items.specs.Items.{is_built, IsReserved, ReadsTheorem, JustifiesTheorem, IsTheorem, StatesThere, IsStatement, IsItem}
+use Rattle.mz_article_items.specs.Items.{IsReserved, ReadsTheorem, JustifiesTheorem, IsTheorem, StatesThere, IsStatement}
 
 -- nothing was made
 nothing_made : {makes : List Obligation → Type 0} (os : List Obligation) → makes [] → IsBrought makes os os
@@ -129,24 +126,3 @@ pub told_statement : {X : Type 0} (s u : Standing) (os os2 : List Obligation) (t
 told_statement s u os os2 t at z ea h e = there s u os os2 t z (subst (λ x. OnMade z (StatementAnswered s t x u os os2)) ea h) e
 
 pub ruleset statement_rules = (told_statement)
-
--- an item
-
-brought_on : {X : Type 0} (P Q : Walked Standing → Type 0) (u : Standing) (os os2 : List Obligation) (z : Result X ProofFault) → ((o : Walked Standing) → P o → Q o) → OnMade z (Brings P u os os2) → OnMade z (Brings Q u os os2)
-brought_on P Q u os os2 (Ok v) g b = record { made = b.made; is_made = g (Made b.made u) b.is_made; are_last = b.are_last }
-brought_on P Q u os os2 (Err (fault.Refused r)) g h = g (Refused r) h
-brought_on P Q u os os2 (Err fault.Memory) g h = tt
-
-pub told_reserve_item : {X : Type 0} (s u : Standing) (os : List Obligation) (x : ItemTree) (t : ReserveTree) (z : Result X ProofFault) → x ≡ tree.Reserve t → OnMade z (Brings (IsReserved s t) u os os) → OnMade z (Brings (IsItem s x) u os os)
-told_reserve_item s u os x t z e h = subst (λ (y : ItemTree). OnMade z (Brings (IsItem s y) u os os)) (sym e) (brought_on (IsReserved s t) (IsItem s (tree.Reserve t)) u os os z (λ o k. rule.reserve t o k) h)
-
-pub told_theorem_item : {X : Type 0} (s u : Standing) (os os2 : List Obligation) (x : ItemTree) (t : TheoremTree) (z : Result X ProofFault) → x ≡ tree.Theorem t → OnMade z (Brings (IsTheorem s t) u os os2) → OnMade z (Brings (IsItem s x) u os os2)
-told_theorem_item s u os os2 x t z e h = subst (λ (y : ItemTree). OnMade z (Brings (IsItem s y) u os os2)) (sym e) (brought_on (IsTheorem s t) (IsItem s (tree.Theorem t)) u os os2 z (λ o k. rule.theorem t o k) h)
-
-pub told_statement_item : {X : Type 0} (s u : Standing) (os os2 : List Obligation) (x : ItemTree) (t : StatementData) (z : Result X ProofFault) → x ≡ tree.Statement t → OnMade z (Brings (IsStatement s t) u os os2) → OnMade z (Brings (IsItem s x) u os os2)
-told_statement_item s u os os2 x t z e h = subst (λ (y : ItemTree). OnMade z (Brings (IsItem s y) u os os2)) (sym e) (brought_on (IsStatement s t) (IsItem s (tree.Statement t)) u os os2 z (λ o k. rule.statement t o k) h)
-
-pub told_not_built : (s : Standing) (x : ItemTree) (p : Place) → first_place (spell_item x) ≡ Some p → is_built x ≡ false → IsItem s x (Refused (NotBuilt p))
-told_not_built s x p at b = rule.not_built x p b at
-
-pub ruleset item_rules = (told_reserve_item, told_theorem_item, told_statement_item, told_not_built)

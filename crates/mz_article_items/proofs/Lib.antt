@@ -1,3 +1,3 @@
-pub mod ItemLemmas
-pub mod PartLemmas
 pub mod AnswerLemmas
+pub mod ItemLemmas
+pub mod KindLemmas

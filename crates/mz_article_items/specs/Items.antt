@@ -1,6 +1,6 @@
 -- The items of an article, read one after another with their reasonings: what each gives, and the obligations that it makes; or the
 -- first refusal in the order of reading.
-use Rattle.std.specs.Prelude.{◌≡◌, ℕ, Bool, true, false, List, [], ◌∷◌, Some, Result, Ok, Err}
+use Rattle.std.specs.Prelude.{◌≡◌, Bool, false, List, [], Some, Result, Ok, Err}
 use Rattle.mz_base.specs.declared.place.Place.{Place}
 use Rattle.mz_core.specs.declared.item.Item.TheVariants.{Theorem}
 use Rattle.mz_core.specs.declared.outcome.Left.{Left}
@@ -11,18 +11,19 @@ use Rattle.mz_names.specs.declared.refusal.Refusal.{Refusal}
 use Rattle.mz_resolve.specs.Calls.{SentenceRead}
 use Rattle.mz_cited.specs.Cited.{members}
 use Rattle.mz_steps.specs.declared.block.Block.TheVariants.{Proof}
-use Rattle.mz_obligations.specs.declared.obligation.Obligation.{Obligation}
 use Rattle.mz_parts.specs.Propositions.{label_in}
-use Rattle.mz_justified.specs.declared.proof_fault.ProofRefusal.{ProofRefusal}
-use Rattle.mz_justified.specs.declared.proof_fault.ProofRefusal.TheVariants.{Resolve, NotBuilt}
-use Rattle.mz_walk.specs.Walked.{State, state, Walked, Made, Refused, behind}
+use Rattle.mz_justified.specs.declared.proof_fault.ProofRefusal.TheVariants.{Resolve}
+use Rattle.mz_walk.specs.Walked.{State, state, Walked, Made, Refused}
 use Rattle.mz_walk.specs.Walk.{Justifies, States}
 use Rattle.mz_reserve.specs.Reserve.{Reserves}
 use Rattle.mz_tree.specs.Places.{first_place}
 use Rattle.mz_tree_proof.specs.Reasoning.{StatementData}
 use Rattle.mz_tree_proof.specs.SpellReasoning.{spell_statement}
 use Rattle.mz_tree_part.specs.declared.reserve.ReserveTree.{ReserveTree}
-use Rattle.mz_tree_item.specs.Spell.{spell_item}
+use Rattle.mz_tree_part.specs.declared.notation.NotationTree.{NotationTree}
+use Rattle.mz_tree_item.specs.declared.definition.DefinitionTree.{DefinitionTree}
+use Rattle.mz_tree_item.specs.declared.registration.RegistrationTree.{RegistrationTree}
+use Rattle.mz_tree_item.specs.declared.schemes.SchemeTree.{SchemeTree}
 use Rattle.mz_tree_item.specs.declared.schemes.TheoremTree.{TheoremTree}
 use Rattle.mz_tree_item.specs.declared.article.ItemTree.{ItemTree}
 use Rattle.mz_tree_item.specs.declared.article.ItemTree.TheVariants as tree
@@ -30,16 +31,12 @@ use Rattle.mz_tree_item.specs.declared.article.ArticlePartTree.{ArticlePartTree}
 use Rattle.mz_tree_item.specs.declared.article.ArticlePartTree.TheVariants.{Begin, Item}
 use Rattle.mz_standing.specs.Standing.{extent_of, with_left, with_context, with_item, behind_item, behind_theorem}
 use Rattle.mz_standing.specs.declared.standing.Standing.{Standing}
-
--- whether the form is built
-abbrev pub is_built : ItemTree → Bool
-is_built (tree.Reserve t) = true
-is_built (tree.Theorem t) = true
-is_built (tree.Scheme t) = false
-is_built (tree.Definition t) = false
-is_built (tree.Notation t) = false
-is_built (tree.Registration t) = false
-is_built (tree.Statement t) = true
+use Rattle.mz_taken.specs.Taken as part
+use Rattle.mz_taken.specs.Taken.{Taken, taken}
+use Rattle.mz_taken.specs.OneByOne.{OneByOne}
+use Rattle.mz_define.specs.Defines.{Defines, Notes}
+use Rattle.mz_register.specs.Registers.{Registers}
+use Rattle.mz_scheme_items.specs.StatesScheme.{StatesScheme}
 
 -- a reservation: the identifiers are reserved
 pub data IsReserved (s : Standing) (t : ReserveTree) : Walked Standing → Type 0 where
@@ -79,17 +76,21 @@ StatesThere s t first = States s.environment (extent_of s) (state s.context Proo
 pub data IsStatement (s : Standing) (t : StatementData) : Walked Standing → Type 0 where
   stated : (first : Place) (o : Walked State) → first_place (spell_statement t) ≡ Some first → StatesThere s t first o → IsStatement s t (statement_stated s o)
 
--- an item
-pub data IsItem (s : Standing) : ItemTree → Walked Standing → Type 0 where
-  reserve : (t : ReserveTree) (o : Walked Standing) → IsReserved s t o → IsItem s (tree.Reserve t) o
-  theorem : (t : TheoremTree) (o : Walked Standing) → IsTheorem s t o → IsItem s (tree.Theorem t) o
-  statement : (t : StatementData) (o : Walked Standing) → IsStatement s t o → IsItem s (tree.Statement t) o
-  not_built : (x : ItemTree) (first : Place) → is_built x ≡ false → first_place (spell_item x) ≡ Some first → IsItem s x (Refused (NotBuilt first))
+-- an item: what comes of each kind
+pub data IsItem (s : Standing) : ItemTree → Taken Standing → Type 0 where
+  reserve : (t : ReserveTree) (o : Walked Standing) → IsReserved s t o → IsItem s (tree.Reserve t) (taken o)
+  theorem : (t : TheoremTree) (o : Walked Standing) → IsTheorem s t o → IsItem s (tree.Theorem t) (taken o)
+  scheme : (t : SchemeTree) (o : Taken Standing) → StatesScheme s t o → IsItem s (tree.Scheme t) o
+  definition : (t : DefinitionTree) (o : Taken Standing) → Defines s t o → IsItem s (tree.Definition t) o
+  notation : (t : NotationTree) (o : Taken Standing) → Notes s t o → IsItem s (tree.Notation t) o
+  registration : (t : RegistrationTree) (o : Taken Standing) → Registers s t o → IsItem s (tree.Registration t) o
+  statement : (t : StatementData) (o : Walked Standing) → IsStatement s t o → IsItem s (tree.Statement t) (taken o)
 
--- the parts of an article behind its first `begin`, one after another; a further `begin` changes nothing
-pub data AreItems : Standing → List ArticlePartTree → Walked Standing → Type 0 where
-  no_more : (s : Standing) → AreItems s [] (Made [] s)
-  section : (s : Standing) (begin : Place) (parts : List ArticlePartTree) (o : Walked Standing) → AreItems s parts o → AreItems s (Begin begin ∷ parts) o
-  stopped : (s : Standing) (x : ItemTree) (parts : List ArticlePartTree) (r : ProofRefusal) → IsItem s x (Refused r) → AreItems s (Item x ∷ parts) (Refused r)
-  further : (s t : Standing) (x : ItemTree) (parts : List ArticlePartTree) (os : List Obligation) (o : Walked Standing) →
-      IsItem s x (Made os t) → AreItems t parts o → AreItems s (Item x ∷ parts) (behind os o)
+-- a part of an article behind its first `begin`: a further `begin` changes nothing
+pub data IsPart (s : Standing) : ArticlePartTree → Taken Standing → Type 0 where
+  section : (begin : Place) → IsPart s (Begin begin) (part.Made [] s)
+  item : (x : ItemTree) (o : Taken Standing) → IsItem s x o → IsPart s (Item x) o
+
+-- the parts, one after another
+abbrev pub AreItems : Standing → List ArticlePartTree → Taken Standing → Type 0
+AreItems = OneByOne IsPart

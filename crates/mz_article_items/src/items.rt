@@ -1,4 +1,4 @@
-//! The items of an article, read one after another with their reasonings.
+//! Reservations, theorems and statements of an article's own level, read with their reasonings.
 ghost use Rattle.std.specs.Prelude.{◌≡◌, ◌∷◌, [], IfOk, OnOk, Some};
 ghost use Rattle.mz_base.specs.declared.place.Place.{Place};
 ghost use Rattle.mz_cited.specs.Cited.{members};
@@ -15,12 +15,12 @@ ghost use Rattle.mz_tree_proof.specs.SpellReasoning.{spell_statement};
 ghost use Rattle.mz_walk.specs.Answers.{Brings};
 ghost use Rattle.mz_walk.specs.Walk.{States};
 ghost use Rattle.mz_walk.specs.Walked.{state};
-ghost use Rattle.mz_article_items.specs.Items.{IsReserved, ReadsTheorem, JustifiesTheorem, IsTheorem, IsStatement, IsItem, AreItems};
+ghost use Rattle.mz_article_items.specs.Items.{IsReserved, ReadsTheorem, JustifiesTheorem, IsTheorem, IsStatement};
 
 use crate::fault::resolved;
 use mz_context::context::Context;
 use mz_formulas::sentence::Sentence;
-use mz_justified::proof_fault::{ProofFault, ProofRefusal};
+use mz_justified::proof_fault::ProofFault;
 use mz_obligations::obligation::{Extent, Obligations};
 use mz_parts::propositions::stated_by;
 use mz_reserve::reserve::reserve;
@@ -28,7 +28,6 @@ use mz_resolve::calls::sentence;
 use mz_resolve::resolve_fault::ResolveFault;
 use mz_standing::changes::{end_statement, extent_of, put_theorem};
 use mz_standing::standing::Standing;
-use mz_tree_item::article::{ArticlePartTree, ItemTree};
 use mz_tree_item::schemes::TheoremTree;
 use mz_tree_part::reserve::ReserveTree;
 use mz_tree_proof::reasoning::StatementTree;
@@ -59,7 +58,7 @@ fn end_previous(s: &mut Standing)
 
 /// A reservation.
 #[tactic(auto, using(crate::proofs::ItemLemmas::reserve_rules))]
-fn read_reserve(
+pub fn read_reserve(
     alloc: Global,
     s: &mut Standing,
     os: &Obligations,
@@ -138,7 +137,7 @@ fn put(alloc: Global, s: &mut Standing, t: &TheoremTree, x: &Sentence) -> Result
 
 /// A theorem: its sentence is read, then justified; behind that it can be cited.
 #[tactic(auto, using(crate::proofs::ItemLemmas::theorem_rules))]
-fn read_theorem<P: ProveSteps>(
+pub fn read_theorem<P: ProveSteps>(
     alloc: Global,
     s: &mut Standing,
     os: &mut Obligations,
@@ -182,7 +181,7 @@ fn take_statement<P: ProveSteps>(
 
 /// A statement of the article's own level.
 #[tactic(auto, using(crate::proofs::ItemLemmas::statement_rules))]
-fn read_statement<P: ProveSteps>(
+pub fn read_statement<P: ProveSteps>(
     alloc: Global,
     s: &mut Standing,
     os: &mut Obligations,
@@ -193,66 +192,3 @@ fn read_statement<P: ProveSteps>(
     let at = extent_of(s);
     take_statement::<P>(alloc, s, os, t, at)
 }
-
-/// An item. Where its form isn't built, it is refused at its first token.
-#[tactic(auto, using(crate::proofs::ItemLemmas::item_rules))]
-fn read_item<P: ProveSteps>(
-    alloc: Global,
-    s: &mut Standing,
-    os: &mut Obligations,
-    x: &ItemTree,
-) -> Result<(), ProofFault>
-    ensures { OnMade result (Brings (IsItem s.old x.now) s.new os.old os.new) }
-{
-    match x {
-        ItemTree::Reserve(t) => read_reserve(alloc, s, os, t),
-        ItemTree::Theorem(t) => read_theorem::<P>(alloc, s, os, t),
-        ItemTree::Statement(t) => read_statement::<P>(alloc, s, os, t),
-        ItemTree::Scheme(_)
-        | ItemTree::Definition(_)
-        | ItemTree::Notation(_)
-        | ItemTree::Registration(_) => {
-            Err(ProofFault::Refused(ProofRefusal::NotBuilt(x.first_place())))
-        }
-    }
-}
-
-/// A part of an article.
-#[tactic(auto, using(crate::proofs::PartLemmas::part_rules))]
-fn read_part<P: ProveSteps>(
-    alloc: Global,
-    s: &mut Standing,
-    os: &mut Obligations,
-    part: &ArticlePartTree,
-) -> Result<(), ProofFault>
-    ensures { OnMade result (Brings (AreItems s.old (part.now ∷ [])) s.new os.old os.new) }
-{
-    match part {
-        ArticlePartTree::Begin(_) => Ok(()),
-        ArticlePartTree::Item(x) => read_item::<P>(alloc, s, os, x),
-    }
-}
-
-/// Reads the parts of an article behind its first `begin`, one after another, up to the first refusal. The obligations that
-/// their reasonings make are put behind the others, in the order of the text.
-#[tactic(auto, using(crate::proofs::PartLemmas::parts_rules))]
-pub fn read_parts<P: ProveSteps>(
-    alloc: Global,
-    s: &mut Standing,
-    os: &mut Obligations,
-    parts: &[ArticlePartTree],
-) -> Result<(), ProofFault>
-    ensures { OnMade result (Brings (AreItems s.old parts.now) s.new os.old os.new) }
-{
-    let mut rest = parts;
-    while let Some((part, others)) = rest.split_first() {
-        match read_part::<P>(alloc, s, os, part) {
-            Ok(()) => rest = others,
-            Err(fault) => return Err(fault),
-        }
-    }
-    Ok(())
-}
-
-/// Lets go of where an article stands. It is a call, so that the drops of all that stands there are proved once, in this crate.
-pub fn end(_standing: Standing) {}

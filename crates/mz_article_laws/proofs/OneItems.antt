@@ -1,7 +1,6 @@
 -- The items of an article come to one thing at most.
 use Rattle.std.proofs.Common.{◌≡◌, false, List, [], refl, sym, ap, subst, ◌∙◌, Some}
 use Rattle.std.specs.Prelude.{Ok, Err}
-use Rattle.mz_base.specs.declared.place.Place.{Place}
 use Rattle.mz_core.specs.declared.outcome.Left.{Left}
 use Rattle.mz_context.specs.Context.{next}
 use Rattle.mz_context.specs.declared.context.Context.{Context}
@@ -9,23 +8,33 @@ use Rattle.mz_formulas.specs.declared.sentence.Sentence.{Sentence}
 use Rattle.mz_names.specs.declared.refusal.Refusal.{Refusal}
 use Rattle.mz_cited.specs.Cited.{members}
 use Rattle.mz_steps.specs.declared.block.Block.TheVariants.{Proof}
-use Rattle.mz_justified.specs.declared.proof_fault.ProofRefusal.TheVariants.{Resolve, NotBuilt}
-use Rattle.mz_walk.specs.Walked.{state, Walked, Made, Refused, behind}
+use Rattle.mz_justified.specs.declared.proof_fault.ProofRefusal.TheVariants.{Resolve}
+use Rattle.mz_walk.specs.Walked.{state, Walked, Made, Refused}
 use Rattle.mz_tree.specs.Places.{first_place}
 use Rattle.mz_tree_proof.specs.Reasoning.{StatementData}
 use Rattle.mz_tree_proof.specs.SpellReasoning.{spell_statement}
 use Rattle.mz_tree_part.specs.declared.reserve.ReserveTree.{ReserveTree}
-use Rattle.mz_tree_item.specs.Spell.{spell_item}
 use Rattle.mz_tree_item.specs.declared.schemes.TheoremTree.{TheoremTree}
 use Rattle.mz_tree_item.specs.declared.article.ItemTree.{ItemTree}
 use Rattle.mz_tree_item.specs.declared.article.ItemTree.TheVariants as tree
 use Rattle.mz_tree_item.specs.declared.article.ArticlePartTree.{ArticlePartTree}
+use Rattle.mz_tree_item.specs.declared.article.ArticlePartTree.TheVariants.{Begin, Item}
 use Rattle.mz_standing.specs.Standing.{extent_of, with_left, with_context, behind_item}
 use Rattle.mz_standing.specs.declared.standing.Standing.{Standing}
+use Rattle.mz_taken.specs.Taken as part
+use Rattle.mz_taken.specs.Taken.{Taken, taken}
+use Rattle.mz_taken.specs.OneByOne.{OneLaw}
+use Rattle.mz_taken.proofs.OneByOneProofs.{one_all}
+use Rattle.mz_define.specs.Defines.{Defines, Notes}
+use Rattle.mz_define_laws.proofs.KindProofs.{definitions_one, notations_one}
+use Rattle.mz_register.specs.Registers.{Registers}
+use Rattle.mz_register_laws.proofs.KindProofs.{registrations_one}
+use Rattle.mz_scheme_items.specs.StatesScheme.{StatesScheme}
+use Rattle.mz_scheme_laws.proofs.KindProofs.{schemes_one}
 use Rattle.mz_article_items.specs.Items as rule
-use Rattle.mz_article_items.specs.Items.{is_built, IsReserved, JustifiesTheorem, StatesThere, theorem_stated, IsTheorem, statement_stated, IsStatement, IsItem, AreItems}
+use Rattle.mz_article_items.specs.Items.{IsReserved, JustifiesTheorem, StatesThere, theorem_stated, IsTheorem, statement_stated, IsStatement, IsItem, IsPart, AreItems}
 use Rattle.mz_article_laws.proofs.Determined.{AreDetermined}
-use Rattle.mz_article_laws.proofs.Outcomes.{good_same, bad_same, good_or_bad, bad_or_good, made_or_refused, same_refusal, same_obligations, same_made, some_same}
+use Rattle.mz_article_laws.proofs.Outcomes.{good_same, bad_same, good_or_bad, bad_or_good, some_same}
 
 -- a reservation
 
@@ -67,54 +76,59 @@ one_statement once s t v w (rule.stated p o at h) (rule.stated q u by k) =
 
 -- an item, by what it is
 
-abbrev ItemAs : Standing → ItemTree → Walked Standing → Type 0
-ItemAs s (tree.Reserve t) w = IsReserved s t w
-ItemAs s (tree.Theorem t) w = IsTheorem s t w
-ItemAs s (tree.Statement t) w = IsStatement s t w
-ItemAs s (tree.Scheme t) w = (first : Place) × (first_place (spell_item (tree.Scheme t)) ≡ Some first) × (w ≡ Refused (NotBuilt first))
-ItemAs s (tree.Definition t) w = (first : Place) × (first_place (spell_item (tree.Definition t)) ≡ Some first) × (w ≡ Refused (NotBuilt first))
-ItemAs s (tree.Notation t) w = (first : Place) × (first_place (spell_item (tree.Notation t)) ≡ Some first) × (w ≡ Refused (NotBuilt first))
-ItemAs s (tree.Registration t) w = (first : Place) × (first_place (spell_item (tree.Registration t)) ≡ Some first) × (w ≡ Refused (NotBuilt first))
+record ByReasoning (reasons : Walked Standing → Type 0) (w : Taken Standing) : Type 0 where
+  outcome : Walked Standing
+  reasoned : reasons outcome
+  is : taken outcome ≡ w
 
-not_built_as : (s : Standing) (x : ItemTree) (first : Place) → is_built x ≡ false → first_place (spell_item x) ≡ Some first → ItemAs s x (Refused (NotBuilt first))
-not_built_as s (tree.Reserve t) first b at = let no : ⊥ = cc in absurd no
-not_built_as s (tree.Theorem t) first b at = let no : ⊥ = cc in absurd no
-not_built_as s (tree.Statement t) first b at = let no : ⊥ = cc in absurd no
-not_built_as s (tree.Scheme t) first b at = (first, at, refl)
-not_built_as s (tree.Definition t) first b at = (first, at, refl)
-not_built_as s (tree.Notation t) first b at = (first, at, refl)
-not_built_as s (tree.Registration t) first b at = (first, at, refl)
+abbrev ItemAs : Standing → ItemTree → Taken Standing → Type 0
+ItemAs s (tree.Reserve t) w = ByReasoning (IsReserved s t) w
+ItemAs s (tree.Theorem t) w = ByReasoning (IsTheorem s t) w
+ItemAs s (tree.Statement t) w = ByReasoning (IsStatement s t) w
+ItemAs s (tree.Scheme t) w = StatesScheme s t w
+ItemAs s (tree.Definition t) w = Defines s t w
+ItemAs s (tree.Notation t) w = Notes s t w
+ItemAs s (tree.Registration t) w = Registers s t w
 
-item_as : (s : Standing) (x : ItemTree) (w : Walked Standing) → IsItem s x w → ItemAs s x w
-item_as s _ w (rule.reserve t _ h) = h
-item_as s _ w (rule.theorem t _ h) = h
-item_as s _ w (rule.statement t _ h) = h
-item_as s x w (rule.not_built _ first b at) = not_built_as s x first b at
+item_as : {s : Standing} {x : ItemTree} {w : Taken Standing} → IsItem s x w → ItemAs s x w
+item_as (rule.reserve t o h) = record { outcome = o; reasoned = h; is = refl }
+item_as (rule.theorem t o h) = record { outcome = o; reasoned = h; is = refl }
+item_as (rule.statement t o h) = record { outcome = o; reasoned = h; is = refl }
+item_as (rule.scheme t o h) = h
+item_as (rule.definition t o h) = h
+item_as (rule.notation t o h) = h
+item_as (rule.registration t o h) = h
 
-one_not_built : (x : ItemTree) (p q : Place) (v w : Walked Standing) → first_place (spell_item x) ≡ Some p → first_place (spell_item x) ≡ Some q → v ≡ Refused (NotBuilt p) → w ≡ Refused (NotBuilt q) → v ≡ w
-one_not_built x p q v w at by h k = h ∙ (ap (λ z. Refused (NotBuilt z)) (some_same p q (first_place (spell_item x)) at by) ∙ sym k)
+by_reasoning : (reasons : Walked Standing → Type 0) → ((o p : Walked Standing) → reasons o → reasons p → o ≡ p) → (v w : Taken Standing) → ByReasoning reasons v → ByReasoning reasons w → v ≡ w
+by_reasoning reasons one v w a b = sym a.is ∙ (ap (λ o. taken o) (one a.outcome b.outcome a.reasoned b.reasoned) ∙ b.is)
 
-one_as : AreDetermined → (s : Standing) (x : ItemTree) (v w : Walked Standing) → ItemAs s x v → ItemAs s x w → v ≡ w
-one_as once s (tree.Reserve t) v w h k = one_reservation once s t v w h k
-one_as once s (tree.Theorem t) v w h k = one_theorem once s t v w h k
-one_as once s (tree.Statement t) v w h k = one_statement once s t v w h k
-one_as once s (tree.Scheme t) v w h k = one_not_built (tree.Scheme t) h.0 k.0 v w h.1 k.1 h.2 k.2
-one_as once s (tree.Definition t) v w h k = one_not_built (tree.Definition t) h.0 k.0 v w h.1 k.1 h.2 k.2
-one_as once s (tree.Notation t) v w h k = one_not_built (tree.Notation t) h.0 k.0 v w h.1 k.1 h.2 k.2
-one_as once s (tree.Registration t) v w h k = one_not_built (tree.Registration t) h.0 k.0 v w h.1 k.1 h.2 k.2
+one_as : AreDetermined → (s : Standing) (x : ItemTree) (v w : Taken Standing) → ItemAs s x v → ItemAs s x w → v ≡ w
+one_as once s (tree.Reserve t) v w h k = by_reasoning (IsReserved s t) (one_reservation once s t) v w h k
+one_as once s (tree.Theorem t) v w h k = by_reasoning (IsTheorem s t) (one_theorem once s t) v w h k
+one_as once s (tree.Statement t) v w h k = by_reasoning (IsStatement s t) (one_statement once s t) v w h k
+one_as once s (tree.Scheme t) v w h k = schemes_one s t v w h k
+one_as once s (tree.Definition t) v w h k = definitions_one s t v w h k
+one_as once s (tree.Notation t) v w h k = notations_one s t v w h k
+one_as once s (tree.Registration t) v w h k = registrations_one s t v w h k
 
-one_item : AreDetermined → (s : Standing) (x : ItemTree) (v w : Walked Standing) → IsItem s x v → IsItem s x w → v ≡ w
-one_item once s x v w h k = one_as once s x v w (item_as s x v h) (item_as s x w k)
+-- a part
+
+abbrev PartAs : Standing → ArticlePartTree → Taken Standing → Type 0
+PartAs s (Begin p) w = w ≡ part.Made [] s
+PartAs s (Item x) w = ItemAs s x w
+
+part_as : {s : Standing} {x : ArticlePartTree} {w : Taken Standing} → IsPart s x w → PartAs s x w
+part_as (rule.section p) = refl
+part_as (rule.item x o h) = item_as h
+
+one_part_as : AreDetermined → (s : Standing) (x : ArticlePartTree) (v w : Taken Standing) → PartAs s x v → PartAs s x w → v ≡ w
+one_part_as once s (Begin p) v w h k = h ∙ sym k
+one_part_as once s (Item x) v w h k = one_as once s x v w h k
+
+one_part : AreDetermined → OneLaw IsPart
+one_part once s x v w h k = one_part_as once s x v w (part_as h) (part_as k)
 
 -- all parts
 
-pub one_items : AreDetermined → {s : Standing} {parts : List ArticlePartTree} {v w : Walked Standing} → AreItems s parts v → AreItems s parts w → v ≡ w
-one_items once (rule.no_more s) (rule.no_more _) = refl
-one_items once (rule.section s p parts v h) (rule.section _ _ _ w k) = one_items once h k
-one_items once (rule.stopped s x parts r h) (rule.stopped _ _ _ q k) = ap (λ z. Refused z) (same_refusal {X = Standing} r q (one_item once s x (Refused r) (Refused q) h k))
-one_items once (rule.stopped s x parts r h) (rule.further _ t _ _ os o k g) = absurd (made_or_refused os t r (one_item once s x (Made os t) (Refused r) k h))
-one_items once (rule.further s t x parts os o h g) (rule.stopped _ _ _ r k) = absurd (made_or_refused os t r (one_item once s x (Made os t) (Refused r) h k))
-one_items once (rule.further s t x parts os o h g) (rule.further _ u _ _ ps p k f) =
-    let both = one_item once s x (Made os t) (Made ps u) h k in
-    let rest : o ≡ p = one_items once g (subst (λ z. AreItems z parts p) (sym (same_made os ps t u both)) f) in
-    ap (λ qs. behind qs o) (same_obligations os ps t u both) ∙ ap (behind ps) rest
+pub one_items : AreDetermined → {s : Standing} {parts : List ArticlePartTree} {v w : Taken Standing} → AreItems s parts v → AreItems s parts w → v ≡ w
+one_items once h k = one_all IsPart (one_part once) h k

@@ -12,7 +12,7 @@ use Rattle.mz_front.proofs.OneFront.{one_front}
 use Rattle.mz_judged.proofs.OneJudgement.{one_judgement}
 use Rattle.mz_standing.specs.Standing.{standing_at_start}
 use Rattle.mz_standing.specs.declared.standing.Standing.{Standing}
-use Rattle.mz_article.specs.Told.{reasoning_told}
+use Rattle.mz_article.specs.Told.{item_told}
 use Rattle.mz_article.specs.Outcome as rule
 use Rattle.mz_article.specs.Outcome.{export_of, outcome_by, rejected, IsDecided, IsOutcomeFrom, IsOutcome}
 use Rattle.mz_axioms.specs.Checker.{HasOneOutcome}
@@ -24,7 +24,7 @@ one_decided : (name : Name) (ds : List Directive) (s : Standing) (os : List Obli
 one_decided name ds s os o p (rule.decided fs h) (rule.decided gs k) = ap (outcome_by (export_of name ds s.items)) (one_judgement s.clauses os fs gs h k)
 
 one_from : AreDetermined → (name : Name) (ds : List Directive) (parts : List ArticlePartTree) (s : Standing) (o p : Outcome) → IsOutcomeFrom name ds parts s o → IsOutcomeFrom name ds parts s p → o ≡ p
-one_from once name ds parts s o p (rule.stopped r h) (rule.stopped q k) = ap (λ x. rejected (reasoning_told x)) (same_refusal {X = Standing} r q (one_items once h k))
+one_from once name ds parts s o p (rule.stopped r h) (rule.stopped q k) = ap (λ x. rejected (item_told x)) (same_refusal {X = Standing} r q (one_items once h k))
 one_from once name ds parts s o p (rule.stopped r h) (rule.judged t os _ k d) = absurd (made_or_refused os t r (one_items once k h))
 one_from once name ds parts s o p (rule.judged t os _ h d) (rule.stopped r k) = absurd (made_or_refused os t r (one_items once h k))
 one_from once name ds parts s o p (rule.judged t os _ h d) (rule.judged u ps _ k f) =

@@ -3,8 +3,8 @@ use Rattle.std.proofs.Common.{◌≡◌, List, Option, Some}
 use Rattle.std.specs.Prelude.{Result, Ok, Err}
 use Rattle.mz_base.specs.declared.place.Place.{Place}
 use Rattle.mz_obligations.specs.declared.obligation.Obligation.{Obligation}
-use Rattle.mz_justified.specs.declared.proof_fault.ProofRefusal.{ProofRefusal}
-use Rattle.mz_walk.specs.Walked.{Walked, Made, Refused}
+use Rattle.mz_taken.specs.declared.item_fault.ItemRefusal.{ItemRefusal}
+use Rattle.mz_taken.specs.Taken.{Taken, Made, Refused}
 
 -- of what is answered
 abbrev pub good : {X F : Type 0} → X → Result X F
@@ -26,16 +26,16 @@ pub bad_or_good : {X F : Type 0} (f : F) (x : X) → bad f ≡ good x → ⊥
 bad_or_good f x e = cc
 
 -- of what is made
-abbrev pub made : {X : Type 0} → List Obligation → X → Walked X
+abbrev pub made : {X : Type 0} → List Obligation → X → Taken X
 made os x = Made os x
 
-abbrev pub refused : {X : Type 0} → ProofRefusal → Walked X
+abbrev pub refused : {X : Type 0} → ItemRefusal → Taken X
 refused r = Refused r
 
-pub made_or_refused : {X : Type 0} (os : List Obligation) (x : X) (r : ProofRefusal) → made os x ≡ refused r → ⊥
+pub made_or_refused : {X : Type 0} (os : List Obligation) (x : X) (r : ItemRefusal) → made os x ≡ refused r → ⊥
 made_or_refused os x r e = cc
 
-pub same_refusal : {X : Type 0} (r q : ProofRefusal) → refused {X = X} r ≡ refused q → r ≡ q
+pub same_refusal : {X : Type 0} (r q : ItemRefusal) → refused {X = X} r ≡ refused q → r ≡ q
 same_refusal r q e = cc
 
 pub same_obligations : {X : Type 0} (os ps : List Obligation) (x y : X) → made os x ≡ made ps y → os ≡ ps

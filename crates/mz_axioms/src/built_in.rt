@@ -21,7 +21,7 @@ fn as_items(alloc: Global, notations: Notations) -> Result<Items, AllocError>
     ensures { IfOk result (λ items. items ≡ map item.Primitive notations) }
 {
     let mut out = Items::new(alloc);
-    for n in notations.items {
+    for n in notations.into_items() {
         out.push(Item::Primitive(n))?;
     }
     Ok(out)

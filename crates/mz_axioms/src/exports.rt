@@ -16,9 +16,14 @@ const MOST: usize = 515;
 /// Exports, shared. Those of a sound library are in the order of names.
 ///
 /// There is always room for 515 of them.
-#[derive(Drop)]
 pub struct Exports {
     items: Vec<Arc<Export>>,
+}
+
+impl Drop for Exports {
+    fn drop(self) {
+        let Exports { items: _items } = self;
+    }
 }
 
 impl Model for Exports {

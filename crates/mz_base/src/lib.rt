@@ -7,6 +7,7 @@ pub mod name;
 pub mod names;
 pub mod numbers;
 pub mod place;
+pub mod profile;
 pub mod rule_code;
 pub mod status;
 pub mod symbol_kind;

@@ -38,9 +38,10 @@ use Rattle.mz_steps_laws.specs.Facts.{known_from, just_before, letter_of, statem
 use Rattle.mz_steps_laws.proofs.FactLemmas.{granted}
 use Rattle.mz_obligations.specs.Obligations.{IsDuty}
 use Rattle.mz_obligations.specs.declared.obligation.Duty.{Duty}
-use Rattle.mz_obligations.specs.declared.obligation.Duty.TheVariants.{By}
+use Rattle.mz_obligations.specs.declared.obligation.Duty.TheVariants.{By, From}
 use Rattle.mz_block_laws.specs.Orders.{Stands, AreFounded, is_standing, IsInOrder}
-use Rattle.mz_block_laws.specs.Met.{clauses_for, IsDone, AreHeld, AreKnown, JustifiedLaw, AreTheorems, GivenLaw}
+use Rattle.mz_obligations.specs.Done.{clauses_for, IsDone}
+use Rattle.mz_block_laws.specs.Met.{AreHeld, AreKnown, JustifiedLaw, AreTheorems, GivenLaw}
 use Rattle.mz_block_laws.proofs.OrderLemmas.{member_passes, all_right, stands_out, facts_in_force, known_closed, rests_in}
 
 -- members of lists
@@ -216,6 +217,7 @@ duty_done ax held cs us founded c order usable each ss known s stands (By p) ask
     joined_problem_law ax g cs c.constants us (granted ax held cs us c (rests_in ax held cs us founded c order)) founded.unfoldings (facts_in_force held c order) (known_closed held c order)
     ss known.1 (each_along ax g (map erase ss) (along_known ax g ss known.0)) s stands.0 stands.1 p asks (map clause_formula usable)
     (λ f is. cut_each ax g held f (each_right ax g (facts c) held (each_itself ax g)) (each_along ax held (map clause_formula usable) (along_held ax held usable each) f is)) done
+duty_done ax held cs us founded c order usable each ss known s stands (From v) asks done = absurd asks
 
 pub justified_law : JustifiedLaw
 justified_law ax held cs us founded c order clauses letters p q ss known s stands place extent o is met =

@@ -1,16 +1,20 @@
 -- What it means that an obligation is met, and what it is worth.
-use Rattle.std.specs.Prelude.{◌≡◌, Bool, true, List, ◌++◌, map, take, Contains, Some, Ok}
+use Rattle.std.specs.Prelude.{◌≡◌, Bool, true, List, ◌++◌, Contains, Some, Ok}
 use Rattle.std.specs.List.{list_all}
 use Rattle.mz_base.specs.declared.place.Place.{Place}
 use Rattle.mz_logic.specs.Formula.{Formula}
 use Rattle.mz_logic.specs.Derives.{Derives}
+use Rattle.mz_logic.specs.declared.sequent.Sequent.{Sequent}
 use Rattle.mz_core.specs.Statement.{Statement}
 use Rattle.mz_core.specs.Erasure.{erase}
 use Rattle.mz_core.specs.Below.{statement_below}
+use Rattle.mz_core.specs.TypedSequent.{erased_sequent}
+use Rattle.mz_items.specs.SchemeRows.{scheme_sequent}
 use Rattle.mz_context.specs.Context.{next}
 use Rattle.mz_context.specs.declared.context.Context.{Context}
 use Rattle.mz_ground.specs.ClauseFormula.{clause_formula}
 use Rattle.mz_ground.specs.declared.clause.Clause.{Clause}
+use Rattle.mz_environment.specs.declared.cited.CitedScheme.{CitedScheme}
 use Rattle.mz_environment.specs.declared.cited.CitedStatement.{CitedStatement}
 use Rattle.mz_environment.specs.declared.environment.Environment.{Environment}
 use Rattle.mz_environment.specs.declared.unfoldings.Unfolding.{Unfolding}
@@ -18,22 +22,13 @@ use Rattle.mz_tree_proof.specs.declared.references.ReferenceTree.{ReferenceTree}
 use Rattle.mz_cited.specs.Cited.{cites}
 use Rattle.mz_steps.specs.Premises.{given}
 use Rattle.mz_obligations.specs.Obligations.{IsObligation}
-use Rattle.mz_obligations.specs.declared.obligation.Duty.{Duty}
-use Rattle.mz_obligations.specs.declared.obligation.Duty.TheVariants.{By}
+use Rattle.mz_obligations.specs.Done.{clauses_for, IsDone}
 use Rattle.mz_obligations.specs.declared.obligation.Obligation.{Obligation}
 use Rattle.mz_obligations.specs.declared.obligation.Extent.{Extent}
 use Rattle.mz_steps_laws.specs.Facts.{facts}
 use Rattle.mz_block_laws.specs.Orders.{Stands, AreFounded, IsInOrder}
 
--- the clauses that may be used for an obligation: the first of an article's clauses, as many as stood above its place, and
--- those of the letters in force there
-abbrev pub clauses_for : List Clause → Obligation → List Clause
-clauses_for clauses o = take o.extent.clauses clauses ++ o.letters
-
-abbrev pub IsDone : List Formula → List Clause → Duty → Type 0
-IsDone axioms cs (By p) = Derives axioms (p.premises ++ map clause_formula cs) p.conclusion
-
--- an obligation is met where its problem's conclusion derives from its premises and these clauses
+-- an obligation is met where what it asks is done, by the clauses for it
 abbrev pub IsMet : List Formula → List Clause → Obligation → Type 0
 IsMet axioms clauses o = IsDone axioms (clauses_for clauses o) o.duty
 
@@ -60,7 +55,15 @@ JustifiedLaw =
 abbrev pub AreTheorems : List Formula → List Formula → Environment → Type 0
 AreTheorems axioms held e = (s : CitedStatement) → Contains e.theorems s → Derives axioms held (erase s.statement) × (statement_below 0 s.statement ≡ true)
 
--- so does what a justification is given
+-- the sequent derives
+abbrev pub IsDerivedSequent : List Formula → Sequent → Type 0
+IsDerivedSequent axioms q = Derives axioms q.premises q.conclusion
+
+-- each scheme that may be cited derives: its conclusion from its letters' types and its premises
+abbrev pub AreSchemes : List Formula → Environment → Type 0
+AreSchemes axioms e = (s : CitedScheme) → Contains e.schemes s → IsDerivedSequent axioms (erased_sequent (scheme_sequent s.scheme))
+
+-- what a justification is given derives, too
 abbrev pub GivenLaw : Type 0
 GivenLaw =
     (axioms held : List Formula) (e : Environment) → AreTheorems axioms held e → (c : Context) → IsInOrder held c →

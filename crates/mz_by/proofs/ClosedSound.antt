@@ -7,7 +7,7 @@ use Rattle.mz_logic.proofs.Rules.{hypothesis}
 use Rattle.mz_nf.specs.declared.problem.Problem.{Problem}
 use Rattle.mz_nf.specs.Disjunct.{formulas_of}
 use Rattle.mz_ground.specs.declared.clause.Clause.{Clause}
-use Rattle.mz_ground.specs.ClauseFormula.{clause_formula}
+use Rattle.mz_ground.specs.ClauseFormula.{clause_formula, HaveNoConstants}
 use Rattle.mz_ground.specs.Laws.{IsGranted}
 use Rattle.mz_refute.specs.Laws.{AreGranted}
 use Rattle.mz_refute.proofs.RefutedSound.{closed_derives}
@@ -18,7 +18,7 @@ use Rattle.std.proofs.lemmas.List.Elements.{Contains-append_left, Contains-appen
 use Rattle.mz_nf.specs.Splits.{AreDisjuncts}
 use Rattle.mz_nf.specs.Laws.{HasConstantsOf}
 use Rattle.mz_nf.proofs.SoundLemmas.{splitting}
-use Rattle.mz_by.specs.Laws.{HaveNoConstants, IsDerived}
+use Rattle.mz_by.specs.Laws.{IsDerived}
 
 -- a member of a list is a member of its image
 Contains-map : {A B : Type 0} (f : A → B) (xs : List A) (x : A) → Contains xs x → Contains (map f xs) (f x)

@@ -1,17 +1,11 @@
 -- What a closed problem means.
-use Rattle.std.specs.Prelude.{◌≡◌, ℕ, false, List, [], ◌++◌, map}
-use Rattle.std.specs.List.{list_any}
-use Rattle.mz_logic.specs.Constants.{occurs_in_formula}
+use Rattle.std.specs.Prelude.{◌≡◌, List, [], ◌++◌, map}
 use Rattle.mz_logic.specs.Derives.{Derives}
 use Rattle.mz_nf.specs.declared.problem.Problem.{Problem}
 use Rattle.mz_ground.specs.declared.clause.Clause.{Clause}
 use Rattle.mz_ground.specs.ClauseFormula.{clause_formula}
 use Rattle.mz_by.specs.declared.by.ByVerdict.{ByVerdict}
 use Rattle.mz_by.specs.Verdict.{IsVerdict}
-
--- no clause, read as a formula, has a constant
-abbrev pub HaveNoConstants : List Clause → Type 0
-HaveNoConstants cs = (c : ℕ) → list_any (occurs_in_formula c) (map clause_formula cs) ≡ false
 
 -- the conclusion derives from the premises and the clauses, without axioms
 abbrev pub IsDerived : Problem → List Clause → Type 0

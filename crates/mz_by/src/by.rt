@@ -1,6 +1,7 @@
 //! The decision of a problem.
 ghost use Rattle.std.specs.Prelude.{◌≡◌, ◌<◌, ◌≤◌, ◌^◌, IfOk, MatchOption, length, suc, take};
-ghost use Rattle.mz_by.specs.Laws.{HaveNoConstants, IsDerived};
+ghost use Rattle.mz_by.specs.Laws.{IsDerived};
+ghost use Rattle.mz_ground.specs.ClauseFormula.{HaveNoConstants};
 ghost use Rattle.mz_by.specs.Verdict.{IsClosedWithin, Decides, DecidesAll, IsVerdict};
 ghost use Rattle.mz_ground.specs.Ground.{IsGroundWithinLimits};
 

@@ -1,17 +1,11 @@
-//! Whole articles, accepted or with their faults, worked out by hand from the rules.
+//! Whole articles, worked out by hand: what is told in front of their items, and whether they are accepted.
 #![tactic(auto)]
 
 #[cfg(test)]
-mod accepted;
-#[cfg(test)]
 mod articles;
 #[cfg(test)]
-mod checking;
+mod checker;
 #[cfg(test)]
-mod cuts;
+mod front;
 #[cfg(test)]
-mod defined;
-#[cfg(test)]
-mod faults;
-#[cfg(test)]
-mod others;
+mod schemes;

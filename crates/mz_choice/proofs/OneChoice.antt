@@ -2,6 +2,7 @@
 use Rattle.std.proofs.Common.{◌≡◌, ◌<◌, ◌-◌, ◌⊎◌, inl, inr, ℕ, suc, Bool, true, false, List, [], ◌∷◌, ◌++◌, refl, sym, ap, ◌∙◌, subst, arith, length, Option, Some, None}
 use Rattle.std.specs.Prelude.{slice_get}
 use Rattle.std.specs.List.{list_any}
+use Rattle.mz_std_laws.proofs.Sums.{either_once}
 use Rattle.mz_logic.specs.Sym.{same_sym}
 use Rattle.mz_logic.specs.Term.{Term, Bound}
 use Rattle.mz_core.specs.Hidden.{is_of_any_object}
@@ -27,10 +28,6 @@ use Rattle.mz_choice.specs.Resolution as re
 use Rattle.mz_choice.specs.Resolution.{Resolves}
 use Rattle.mz_choice.specs.Laws.{OneMemberLaw, OneReadingLaw, OneChosenLaw, OneResolutionLaw}
 use Rattle.mz_choice.proofs.ResolveLemmas.{has_symbol, chosen_none}
-
-either : {A B C : Type 0} → A ⊎ B → (A → C) → (B → C) → C
-either (inl a) f g = f a
-either (inr b) f g = g b
 
 -- the first member that matches
 abbrev BehindAs : List Clause → List (Option Constant) → ℕ → Radix → Fixed → List Radix → Option Fixed → Option Fixed → Type 0
@@ -195,8 +192,7 @@ passes_as cs e c w x args o (co.not_read h) = (None, h, refl)
 
 suited_once : (w : Wanted) (q o p : Option Meaning) → SuitedAs w q o → SuitedAs w q p → o ≡ p
 suited_once w None o p h k = h ∙ sym k
-suited_once w (Some m) o p h k =
-    either h (λ a. either k (λ b. a.1 ∙ sym b.1) (λ b. absurd (b.0 a.0))) (λ a. either k (λ b. absurd (a.0 b.0)) (λ b. a.1 ∙ sym b.1))
+suited_once w (Some m) o p h k = either_once h k
 
 passes_once : (cs : List Clause) (e : Environment) (c : Context) (w : Wanted) (x : Notation) (args : List Term) (o p : Option Meaning) → Passes cs e c w x args o → Passes cs e c w x args p → o ≡ p
 passes_once cs e c w x args o p h k =

@@ -5,3 +5,4 @@ pub mod KnownMatches
 pub mod KnownRows
 pub mod KnownChain
 pub mod KnownChoice
+pub mod LociHolds

@@ -1,3 +1,4 @@
+pub mod EarlierLemmas
 pub mod EqualityLemmas
 pub mod CompactLemmas
 pub mod SideLemmas

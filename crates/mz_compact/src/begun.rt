@@ -5,6 +5,7 @@ ghost use Rattle.mz_justified.specs.Answers.{OnMade};
 ghost use Rattle.mz_performing.specs.Begun.{FitsCompact, Begins};
 
 use crate::compact::read_compact;
+use crate::earlier::tell;
 use mz_base::place::Place;
 use mz_context::context::Context;
 use mz_core::outcome::Left;
@@ -18,6 +19,7 @@ use mz_steps::block::{Block, Effect};
 use mz_steps::changes::carry_out;
 use mz_tree_proof::equality_step::EqualityStepTree;
 use mz_tree_proof::propositions::PropositionTree;
+use mz_tree_proof::reasoning::JustTree;
 use mz_walk::compact::Compact;
 use std::alloc::{AllocError, Global};
 use std::mem;
@@ -53,8 +55,8 @@ fn fit_compact(
 /// Reads a compact statement, where it is linked behind a statement just before, and sees that it fits. The context is as
 /// before.
 ///
-/// Refusals: `StepNoFit` at the step where it is linked and there is no statement just before; those of what is read; then
-/// `StepNoFit` and `TooLarge` at the step.
+/// Refusals: `StepNoFit` at the step where it is linked and there is no statement just before; those of what is read, before
+/// which those of the justifications in front of it come; then `StepNoFit` and `TooLarge` at the step.
 #[tactic(auto, using(crate::proofs::BegunLemmas::begin_rules))]
 pub fn begin(
     alloc: Global,
@@ -65,21 +67,24 @@ pub fn begin(
     linked: bool,
     concluded: bool,
     p: &PropositionTree,
+    just: &JustTree,
     sides: &[EqualityStepTree],
+    semicolon: Place,
     left: &mut Left,
 ) -> Result<Begun, ProofFault>
-    ensures begins { OnMade result (Begins env.now ctx.old block.now first linked concluded p.now sides.now left.old left.new) }
+    ensures begins { OnMade result (Begins env.now ctx.old block.now first linked concluded p.now just.now sides.now semicolon left.old left.new) }
     ensures same { ctx.new ≡ ctx.old }
 {
     if !is_linked(linked, ctx) {
         return Err(ProofFault::Refused(ProofRefusal::StepNoFit(first)));
     }
+    let count = left.obligations;
     match read_compact(alloc, env, ctx, first, p, sides, left) {
         Ok(x) => {
             let x = Box::new(alloc, x)?;
             fit_compact(alloc, env, ctx, block, first, concluded, p, x)
         }
-        Err(f) => Err(f),
+        Err(f) => Err(tell(alloc, env, ctx, semicolon, count, just, sides, f)),
     }
 }
 

@@ -5,6 +5,7 @@
 pub mod begun;
 pub mod cases;
 pub mod compact;
+pub mod earlier;
 pub mod equalities;
 pub mod nows;
 pub mod sides;

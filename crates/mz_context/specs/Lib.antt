@@ -1,3 +1,4 @@
 pub mod Context
 pub mod Changes
 pub mod Gather
+pub mod Grown

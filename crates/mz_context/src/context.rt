@@ -5,6 +5,7 @@ ghost use Rattle.mz_context.specs.Changes.{with_constant, without_constant, with
 
 use crate::constants::{Constant, Constants};
 use crate::labelled::LabelledStatements;
+use crate::labelled_schemes::LabelledSchemes;
 use crate::letters::NamedLetters;
 use crate::private::{PrivateFunctors, PrivatePredicates};
 use crate::reserved::ReservedVariables;
@@ -40,7 +41,7 @@ pub struct SymbolCounts {
 
 /// What is known at a place of an article: the number of its name, and how many symbols of each kind it has made; the
 /// constants in force; the reserved variables; the labelled statements, and the statement just before, where there is
-/// one; the private functors and predicates; the letters of the scheme around the place; what `thesis` is read to, where
+/// one; the labelled schemes, whose labels are a name space of their own; the private functors and predicates; the letters of the scheme around the place; what `thesis` is read to, where
 /// it is known; what `it`, `$1` and so on, and the subject of a field's type stand for, each where it is known.
 #[derive(Drop)]
 pub struct Context {
@@ -50,6 +51,7 @@ pub struct Context {
     pub reserved: ReservedVariables,
     pub labelled: LabelledStatements,
     pub previous: Option<Statement>,
+    pub schemes: LabelledSchemes,
     pub functors: PrivateFunctors,
     pub predicates: PrivatePredicates,
     pub letters: NamedLetters,
@@ -68,6 +70,7 @@ impl Context {
         ensures reserved { result.reserved ≡ [] }
         ensures labelled { result.labelled ≡ [] }
         ensures previous { result.previous ≡ None }
+        ensures schemes { result.schemes ≡ [] }
         ensures functors { result.functors ≡ [] }
         ensures predicates { result.predicates ≡ [] }
         ensures letters { result.letters ≡ [] }
@@ -83,6 +86,7 @@ impl Context {
             reserved: ReservedVariables::new(alloc),
             labelled: LabelledStatements::new(alloc),
             previous: None,
+            schemes: LabelledSchemes::new(alloc),
             functors: PrivateFunctors::new(alloc),
             predicates: PrivatePredicates::new(alloc),
             letters: NamedLetters::new(alloc),
@@ -148,7 +152,7 @@ impl Context {
     }
 
     /// Cuts the lists back to the mark. What `thesis`, `it` and the like stand for, and the statement just before,
-    /// stay.
+    /// stay; so do labelled schemes, since a scheme stands in no block.
     pub fn restore(&mut self, m: Mark)
         ensures { self.new ≡ cut_back self.old m }
     {

@@ -5,6 +5,7 @@ pub mod constants;
 pub mod context;
 pub mod gather;
 pub mod labelled;
+pub mod labelled_schemes;
 pub mod letters;
 pub mod private;
 pub mod reserved;

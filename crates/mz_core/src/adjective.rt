@@ -6,11 +6,20 @@ use mz_logic::term::Terms;
 use std::alloc::{AllocError, Global};
 
 /// An attribute with its arguments but for the subject; not positive where it is written with `non`.
-#[derive(Drop)]
 pub struct Adjective {
     pub positive: bool,
     pub sym: Sym,
     pub args: Terms,
+}
+
+impl Drop for Adjective {
+    fn drop(self) {
+        let Adjective {
+            positive: _positive,
+            sym: _sym,
+            args: _args,
+        } = self;
+    }
 }
 
 impl Adjective {

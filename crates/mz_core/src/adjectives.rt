@@ -6,9 +6,14 @@ use std::alloc::{AllocError, Global};
 use std::marker::Model;
 
 /// Adjectives, in the order of the text.
-#[derive(Drop)]
 pub struct Adjectives {
     pub items: Vec<Adjective>,
+}
+
+impl Drop for Adjectives {
+    fn drop(self) {
+        let Adjectives { items: _items } = self;
+    }
 }
 
 impl Model for Adjectives {

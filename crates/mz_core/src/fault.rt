@@ -15,9 +15,14 @@ pub struct Fault {
 }
 
 /// Faults. Those of a checked article are in the order of the text.
-#[derive(Drop)]
 pub struct Faults {
     pub items: Vec<Fault>,
+}
+
+impl Drop for Faults {
+    fn drop(self) {
+        let Faults { items: _items } = self;
+    }
 }
 
 impl Model for Faults {

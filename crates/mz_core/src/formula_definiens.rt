@@ -7,16 +7,29 @@ use std::marker::Model;
 
 /// A case: `definiens if condition`. The definiens stands under one more binder, that of `it`, for
 /// a functor or a mode.
-#[derive(Drop)]
 pub struct FormulaCase {
     pub condition: Statement,
     pub definiens: Statement,
 }
 
+impl Drop for FormulaCase {
+    fn drop(self) {
+        let FormulaCase {
+            condition: _condition,
+            definiens: _definiens,
+        } = self;
+    }
+}
+
 /// Cases of a definiens, in the order of the text.
-#[derive(Drop)]
 pub struct FormulaCases {
     pub items: Vec<FormulaCase>,
+}
+
+impl Drop for FormulaCases {
+    fn drop(self) {
+        let FormulaCases { items: _items } = self;
+    }
 }
 
 impl Model for FormulaCases {
@@ -53,9 +66,18 @@ impl FormulaCases {
 }
 
 /// A definiens: one formula, or cases with or without `otherwise`.
-#[derive(Drop)]
 pub enum FormulaDefiniens {
     Plain(Statement),
     Cases(FormulaCases),
     CasesOtherwise(FormulaCases, Statement),
+}
+
+impl Drop for FormulaDefiniens {
+    fn drop(self) {
+        match self {
+            FormulaDefiniens::Plain(_statement) => {}
+            FormulaDefiniens::Cases(_formula_cases) => {}
+            FormulaDefiniens::CasesOtherwise(_formula_cases, _statement) => {}
+        }
+    }
 }

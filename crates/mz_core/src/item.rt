@@ -13,7 +13,6 @@ use crate::structure::Structure;
 
 /// An item of an article. An item of a checked article has no constant and no loose index. `Axiom`,
 /// `AxiomScheme` and `Primitive` are those of the built-in articles, which owe nothing.
-#[derive(Drop)]
 pub enum Item {
     Axiom(Statement),
     AxiomScheme(Scheme),
@@ -40,4 +39,36 @@ pub enum Item {
     Structure(Structure),
     SetTerm(SetTerm),
     Choice(Choice),
+}
+
+impl Drop for Item {
+    fn drop(self) {
+        match self {
+            Item::Axiom(_statement) => {}
+            Item::AxiomScheme(_scheme) => {}
+            Item::Primitive(_notation) => {}
+            Item::Theorem(_statement) => {}
+            Item::Scheme(_scheme) => {}
+            Item::FunctorMeans(_means_definition) => {}
+            Item::FunctorEquals(_equals_definition) => {}
+            Item::Predicate(_atom_definition) => {}
+            Item::Attribute(_attribute_definition) => {}
+            Item::ModeMeans(_means_definition) => {}
+            Item::Abbreviation(_notation) => {}
+            Item::Notation(_notation) => {}
+            Item::RedefinedFunctor(_functor_redefinition) => {}
+            Item::RedefinedMode(_mode_redefinition) => {}
+            Item::RedefinedPredicate(_atom_redefinition) => {}
+            Item::RedefinedAttribute(_atom_redefinition) => {}
+            Item::Property(_property) => {}
+            Item::Existential(_existential_registration) => {}
+            Item::Conditional(_conditional_registration) => {}
+            Item::Functorial(_functorial_registration) => {}
+            Item::Reduction(_equation_registration) => {}
+            Item::Identification(_equation_registration) => {}
+            Item::Structure(_structure) => {}
+            Item::SetTerm(_set_term) => {}
+            Item::Choice(_choice) => {}
+        }
+    }
 }

@@ -6,9 +6,14 @@ use std::alloc::{AllocError, Global};
 use std::marker::Model;
 
 /// Items, in the order of the text.
-#[derive(Drop)]
 pub struct Items {
     pub items: Vec<Item>,
+}
+
+impl Drop for Items {
+    fn drop(self) {
+        let Items { items: _items } = self;
+    }
 }
 
 impl Model for Items {

@@ -18,10 +18,18 @@ pub enum Meaning {
 }
 
 /// A pattern and what it reads to.
-#[derive(Drop)]
 pub struct Notation {
     pub pattern: Pattern,
     pub meaning: Meaning,
+}
+
+impl Drop for Notation {
+    fn drop(self) {
+        let Notation {
+            pattern: _pattern,
+            meaning: _meaning,
+        } = self;
+    }
 }
 
 impl Meaning {

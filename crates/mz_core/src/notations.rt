@@ -6,9 +6,14 @@ use std::alloc::{AllocError, Global};
 use std::marker::Model;
 
 /// Notations, in the order of the text.
-#[derive(Drop)]
 pub struct Notations {
     pub items: Vec<Notation>,
+}
+
+impl Drop for Notations {
+    fn drop(self) {
+        let Notations { items: _items } = self;
+    }
 }
 
 impl Model for Notations {
@@ -32,6 +37,14 @@ impl Notations {
         Notations {
             items: Vec::new(alloc),
         }
+    }
+
+    /// The notations of a list that is given up.
+    pub fn into_items(self) -> Vec<Notation>
+        ensures { result.items ≡ self }
+    {
+        let Notations { items } = self;
+        items
     }
 
     /// Puts a notation at the end.

@@ -11,7 +11,6 @@ use std::alloc::{AllocError, Global};
 /// elsewhere), what it makes, the types of its loci, each under those before it, and the places of the
 /// visible loci before and after the symbol, from 0. An attribute's pattern has the loci before the symbol on
 /// its left and the subject, alone, on its right; the subject need not be the last locus.
-#[derive(Drop)]
 pub struct Pattern {
     pub symbol: Text,
     pub closing: Text,
@@ -19,6 +18,19 @@ pub struct Pattern {
     pub loci: SoftTypes,
     pub left: Numbers,
     pub right: Numbers,
+}
+
+impl Drop for Pattern {
+    fn drop(self) {
+        let Pattern {
+            symbol: _symbol,
+            closing: _closing,
+            kind: _kind,
+            loci: _loci,
+            left: _left,
+            right: _right,
+        } = self;
+    }
 }
 
 impl Pattern {

@@ -8,14 +8,21 @@ use mz_logic::literal::Literal;
 use mz_logic::term::Term;
 
 /// The new meaning of a functor.
-#[derive(Drop)]
 pub enum FunctorMeaning {
     Means(FormulaDefiniens),
     Equals(TermDefiniens),
 }
 
+impl Drop for FunctorMeaning {
+    fn drop(self) {
+        match self {
+            FunctorMeaning::Means(_formula_definiens) => {}
+            FunctorMeaning::Equals(_term_definiens) => {}
+        }
+    }
+}
+
 /// A functor that is redefined: the type of its definition, the new type and the new meaning.
-#[derive(Drop)]
 pub struct FunctorRedefinition {
     pub pattern: Pattern,
     pub term: Term,
@@ -24,8 +31,19 @@ pub struct FunctorRedefinition {
     pub meaning: Option<FunctorMeaning>,
 }
 
+impl Drop for FunctorRedefinition {
+    fn drop(self) {
+        let FunctorRedefinition {
+            pattern: _pattern,
+            term: _term,
+            old: _old,
+            ty: _ty,
+            meaning: _meaning,
+        } = self;
+    }
+}
+
 /// A mode that is redefined: the type of its definition, the new type and the new meaning.
-#[derive(Drop)]
 pub struct ModeRedefinition {
     pub pattern: Pattern,
     pub mode: SoftType,
@@ -34,10 +52,31 @@ pub struct ModeRedefinition {
     pub meaning: Option<FormulaDefiniens>,
 }
 
+impl Drop for ModeRedefinition {
+    fn drop(self) {
+        let ModeRedefinition {
+            pattern: _pattern,
+            mode: _mode,
+            old: _old,
+            ty: _ty,
+            meaning: _meaning,
+        } = self;
+    }
+}
+
 /// A predicate or an attribute that is redefined, and the new meaning.
-#[derive(Drop)]
 pub struct AtomRedefinition {
     pub pattern: Pattern,
     pub literal: Literal,
     pub meaning: Option<FormulaDefiniens>,
+}
+
+impl Drop for AtomRedefinition {
+    fn drop(self) {
+        let AtomRedefinition {
+            pattern: _pattern,
+            literal: _literal,
+            meaning: _meaning,
+        } = self;
+    }
 }

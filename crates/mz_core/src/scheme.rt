@@ -11,16 +11,29 @@ use std::marker::Model;
 
 /// A letter of a scheme, with the types of its places; a functor letter has a type itself, which
 /// stands under its places.
-#[derive(Drop)]
 pub enum SchemeLetter {
     OfFunctor(Sym, SoftTypes, SoftType),
     OfPredicate(Sym, SoftTypes),
 }
 
+impl Drop for SchemeLetter {
+    fn drop(self) {
+        match self {
+            SchemeLetter::OfFunctor(_sym, _types, _ty) => {}
+            SchemeLetter::OfPredicate(_sym, _types) => {}
+        }
+    }
+}
+
 /// Letters of a scheme, in the order of the text.
-#[derive(Drop)]
 pub struct SchemeLetters {
     pub items: Vec<SchemeLetter>,
+}
+
+impl Drop for SchemeLetters {
+    fn drop(self) {
+        let SchemeLetters { items: _items } = self;
+    }
 }
 
 impl Model for SchemeLetters {
@@ -57,9 +70,18 @@ impl SchemeLetters {
 }
 
 /// A scheme: its letters, premises and conclusion.
-#[derive(Drop)]
 pub struct Scheme {
     pub letters: SchemeLetters,
     pub premises: Statements,
     pub conclusion: Statement,
+}
+
+impl Drop for Scheme {
+    fn drop(self) {
+        let Scheme {
+            letters: _letters,
+            premises: _premises,
+            conclusion: _conclusion,
+        } = self;
+    }
 }

@@ -6,9 +6,14 @@ use std::alloc::{AllocError, Global};
 use std::marker::Model;
 
 /// Types, in the order of the text.
-#[derive(Drop)]
 pub struct SoftTypes {
     pub items: Vec<SoftType>,
+}
+
+impl Drop for SoftTypes {
+    fn drop(self) {
+        let SoftTypes { items: _items } = self;
+    }
 }
 
 impl Model for SoftTypes {

@@ -1,6 +1,7 @@
 //! Statements: formulas whose quantifiers keep their types.
 ghost use Rattle.std.specs.Prelude.{◌≡◌, ◌↔◌, IsTrue, IfOk};
 ghost use Rattle.mz_core.specs.Statement.{Statement, Truth, Eq, Atom, Not, And, For};
+ghost use Rattle.mz_core.specs.StatementView.{statement_of};
 
 use crate::soft_type::SoftType;
 use mz_logic::sym::Sym;
@@ -10,9 +11,14 @@ use std::marker::Model;
 
 /// A statement.
 #[cycle(statement)]
-#[derive(Drop)]
 pub struct Statement {
     pub node: StatementNode,
+}
+
+impl Drop for Statement {
+    fn drop(self) {
+        let Statement { node: _node } = self;
+    }
 }
 
 /// The forms of a statement. The type of a `For` stands outside the quantifier, the rest under it.
@@ -103,6 +109,14 @@ impl Statement {
         Ok(Statement {
             node: StatementNode::For(ty, s),
         })
+    }
+
+    /// The form of a statement that is given up.
+    pub fn into_node(self) -> StatementNode
+        ensures { statement_of result ≡ self }
+    {
+        let Statement { node } = self;
+        node
     }
 
     /// An equal statement.

@@ -11,7 +11,7 @@ use std::alloc::{AllocError, Global};
 pub fn opposite(alloc: Global, s: Statement) -> Result<Statement, AllocError>
     ensures { IfOk result (λ t. t ≡ opposite s) }
 {
-    match s.node {
+    match s.into_node() {
         StatementNode::Not(t) => Ok(Box::into_inner(t)),
         node => Statement::not(alloc, Statement { node }),
     }

@@ -6,9 +6,14 @@ use std::alloc::{AllocError, Global};
 use std::marker::Model;
 
 /// Statements, in the order of the text.
-#[derive(Drop)]
 pub struct Statements {
     pub items: Vec<Statement>,
+}
+
+impl Drop for Statements {
+    fn drop(self) {
+        let Statements { items: _items } = self;
+    }
 }
 
 impl Model for Statements {

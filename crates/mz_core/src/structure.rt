@@ -10,16 +10,29 @@ use std::marker::Model;
 
 /// A field: its selector, whose only argument is the structure's object, and its type, which stands under
 /// the loci, the structure's object, and then one binder for the value of each field in their order.
-#[derive(Drop)]
 pub struct Field {
     pub selector: Sym,
     pub ty: SoftType,
 }
 
+impl Drop for Field {
+    fn drop(self) {
+        let Field {
+            selector: _selector,
+            ty: _ty,
+        } = self;
+    }
+}
+
 /// Fields of a structure, in the order of the text.
-#[derive(Drop)]
 pub struct Fields {
     pub items: Vec<Field>,
+}
+
+impl Drop for Fields {
+    fn drop(self) {
+        let Fields { items: _items } = self;
+    }
 }
 
 impl Model for Fields {
@@ -58,7 +71,6 @@ impl Fields {
 /// A structure: its loci, its symbols, the types of its ancestors, which stand under the loci, and its
 /// fields, those of its ancestors among them. Its notations stand whole, since the loci of the aggregate's
 /// pattern may have another order than its arguments.
-#[derive(Drop)]
 pub struct Structure {
     pub loci: SoftTypes,
     pub sym: Sym,
@@ -67,4 +79,18 @@ pub struct Structure {
     pub ancestors: SoftTypes,
     pub fields: Fields,
     pub notations: Notations,
+}
+
+impl Drop for Structure {
+    fn drop(self) {
+        let Structure {
+            loci: _loci,
+            sym: _sym,
+            strict: _strict,
+            aggregate: _aggregate,
+            ancestors: _ancestors,
+            fields: _fields,
+            notations: _notations,
+        } = self;
+    }
 }

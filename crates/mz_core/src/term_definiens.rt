@@ -7,16 +7,29 @@ use std::alloc::{AllocError, Global};
 use std::marker::Model;
 
 /// A case: `definiens if condition`.
-#[derive(Drop)]
 pub struct TermCase {
     pub condition: Statement,
     pub definiens: Term,
 }
 
+impl Drop for TermCase {
+    fn drop(self) {
+        let TermCase {
+            condition: _condition,
+            definiens: _definiens,
+        } = self;
+    }
+}
+
 /// Cases of a definiens, in the order of the text.
-#[derive(Drop)]
 pub struct TermCases {
     pub items: Vec<TermCase>,
+}
+
+impl Drop for TermCases {
+    fn drop(self) {
+        let TermCases { items: _items } = self;
+    }
 }
 
 impl Model for TermCases {
@@ -53,9 +66,18 @@ impl TermCases {
 }
 
 /// A definiens: one term, or cases with or without `otherwise`.
-#[derive(Drop)]
 pub enum TermDefiniens {
     Plain(Term),
     Cases(TermCases),
     CasesOtherwise(TermCases, Term),
+}
+
+impl Drop for TermDefiniens {
+    fn drop(self) {
+        match self {
+            TermDefiniens::Plain(_term) => {}
+            TermDefiniens::Cases(_term_cases) => {}
+            TermDefiniens::CasesOtherwise(_term_cases, _term) => {}
+        }
+    }
 }

@@ -11,10 +11,18 @@ use mz_logic::sequent::Sequent;
 use std::alloc::{AllocError, Global};
 
 /// The conclusion from the premises.
-#[derive(Drop)]
 pub struct TypedSequent {
     pub premises: Statements,
     pub conclusion: Statement,
+}
+
+impl Drop for TypedSequent {
+    fn drop(self) {
+        let TypedSequent {
+            premises: _premises,
+            conclusion: _conclusion,
+        } = self;
+    }
 }
 
 /// The erasures of statements.

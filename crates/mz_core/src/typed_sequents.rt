@@ -8,9 +8,14 @@ use std::alloc::{AllocError, Global};
 use std::marker::Model;
 
 /// Sequents of statements, in the order of the conditions that they state.
-#[derive(Drop)]
 pub struct TypedSequents {
     pub items: Vec<TypedSequent>,
+}
+
+impl Drop for TypedSequents {
+    fn drop(self) {
+        let TypedSequents { items: _items } = self;
+    }
 }
 
 impl Model for TypedSequents {

@@ -29,7 +29,6 @@ pub struct Counts {
 }
 
 /// An article and what is said of it. There is no verdict while the article isn't settled.
-#[derive(Drop)]
 pub struct Entry {
     pub name: Name,
     pub verdict: Option<Verdict>,
@@ -37,10 +36,26 @@ pub struct Entry {
     pub faults: Faults,
 }
 
+impl Drop for Entry {
+    fn drop(self) {
+        let Entry {
+            name: _name,
+            verdict: _verdict,
+            counts: _counts,
+            faults: _faults,
+        } = self;
+    }
+}
+
 /// Articles and what is said of them.
-#[derive(Drop)]
 pub struct Verdicts {
     pub items: Vec<Entry>,
+}
+
+impl Drop for Verdicts {
+    fn drop(self) {
+        let Verdicts { items: _items } = self;
+    }
 }
 
 impl Model for Verdicts {

@@ -1,2 +1,3 @@
 pub mod KnownDependencies
+pub mod FormulaProofs
 pub mod LibraryRests

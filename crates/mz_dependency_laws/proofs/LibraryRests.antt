@@ -1,9 +1,9 @@
 -- What the items of used exports say derives from what an article may rest on that is added to the library.
-use Rattle.std.proofs.Common.{◌≡◌, ◌<◌, ◌⊎◌, inl, inr, ℕ, Bool, true, false, ◌||◌, List, [], ◌∷◌, ◌++◌, map, flat_map, fold, refl, sym, ap, subst, ◌∙◌, arith, Option, Some, None}
-use Rattle.std.specs.Prelude.{All, Contains, slice_get, if◌then◌else◌}
+use Rattle.std.proofs.Common.{◌≡◌, ◌<◌, ◌⊎◌, inl, inr, ℕ, Bool, true, false, ◌||◌, List, [], ◌∷◌, ◌++◌, map, flat_map, fold, refl, sym, ap, subst, ◌∙◌, arith, Some}
+use Rattle.std.specs.Prelude.{Contains, take, if◌then◌else◌}
 use Rattle.std.specs.List.{list_any}
 use Rattle.std.proofs.lemmas.Bool.{eqb-true}
-use Rattle.std.proofs.lemmas.List.Elements.{Contains-append_left, Contains-append_right, Contains-append_cases, All-contains, All-contains_itself, All-tail}
+use Rattle.std.proofs.lemmas.List.Elements.{Contains-append_left, Contains-append_right, Contains-append_cases, All-contains, All-contains_itself}
 use Rattle.mz_base.specs.declared.name.Name.{Name}
 use Rattle.mz_base.specs.declared.head.Directive.{Directive}
 use Rattle.mz_base.specs.declared.head.DirectiveKind.{DirectiveKind}
@@ -11,28 +11,28 @@ use Rattle.mz_base.specs.declared.head.DirectiveKind.TheVariants.{Vocabularies, 
 use Rattle.mz_base.specs.declared.head.PlacedName.{PlacedName}
 use Rattle.mz_base.proofs.NameEqual.{Name-equal}
 use Rattle.mz_logic.specs.Formula.{Formula}
-use Rattle.mz_logic.specs.Derives.{Derives}
 use Rattle.mz_logic.specs.DerivesFrom.{DerivesFrom, IsNone}
 use Rattle.mz_logic.specs.declared.sequent.Sequent.{Sequent}
 use Rattle.mz_logic.proofs.SetLaws.{axiom_in_set, larger, from_list, other_axioms}
 use Rattle.mz_core.specs.declared.item.Item.{Item}
 use Rattle.mz_core.specs.declared.outcome.Export.{Export}
 use Rattle.mz_items.specs.Items.{owes, grants}
-use Rattle.mz_items.specs.Exports.{without_premises, conclusion_alone, item_statements, statements_of}
 use Rattle.mz_axioms.specs.BuiltIn.{hidden, tarski_0, tarski_a, built_in_exports}
 use Rattle.mz_axioms.specs.Names.{hidden_name}
-use Rattle.mz_axioms.specs.Library.{AreInOrder, HasName, DependsOn, directly, by_others, granted, IsBefore, of_dependency, IsDerivable, OwesDerivable, Sound, AreExportsOf, added}
+use Rattle.mz_axioms.specs.Library.{AreInOrder, DependsOn, directly, by_others, granted, IsBefore, of_dependency, of_earlier, IsDerivable, Sound, AreExportsOf, added}
 use Rattle.mz_axioms.proofs.AddedLemmas.{here, there, first_or_later, has_new, has_old, pairs_first, pairs_later, before_added}
 use Rattle.mz_axioms.proofs.BeforeLemmas.{before_dependency}
 use Rattle.mz_env.specs.declared.directed.Directed.{Directed}
 use Rattle.mz_env.specs.LetIn.{directed, directive_names, directed_names}
 use Rattle.mz_env.specs.Visits.{export_named}
 use Rattle.mz_env_laws.specs.Used as uses
-use Rattle.mz_env_laws.specs.Used.{names_articles, Uses}
-use Rattle.mz_ground.proofs.ListLemmas.{contains_none, get_contained}
+use Rattle.mz_env_laws.specs.Used.{names_articles}
+use Rattle.mz_ground.proofs.ListLemmas.{contains_none, contains_map, get_contained}
 use Rattle.mz_corpus.specs.Names.{is_name_of, with_name}
-use Rattle.mz_corpus.specs.Directives.{names_dependencies, names_of, with_dependencies, dependencies_of}
+use Rattle.mz_corpus.specs.Directives.{names_dependencies, names_of, with_dependencies}
+use Rattle.mz_dependency_laws.specs.Formulas.{sequent_formula, item_formulas, formulas_of}
 use Rattle.mz_dependency_laws.specs.Dependencies.{IsUsedBy, UsedByLaw, RestsLaw}
+use Rattle.mz_dependency_laws.proofs.FormulaProofs.{from_flat, OrOneOf, premises_in_front}
 use Rattle.mz_dependency_laws.proofs.KnownDependencies.{found}
 
 -- exports of one name
@@ -175,60 +175,44 @@ in_granted (y ∷ ys) x f is has = elim (first_or_later y x ys is) [
   | inr later ↦ Contains-append_right (grants y) (granted ys) f (in_granted ys x f later has)
 ]
 
-no_premises : (f : Formula) → Contains [] f → ⊥
-no_premises f is = contains_none f is
+-- so does a sequent that one of its items owes, as a formula
+owed_rests : (library : List Export) (e d : Export) (j k : ℕ) (q : Sequent) → Contains library d → DependsOn (added e library) e.name d.name → IsDerivable library d j q → Rests library e k (sequent_formula q)
+owed_rests library e d j k q within depends h =
+    premises_in_front (IsBefore (added e library) e k) IsNone q.premises q.conclusion
+    (larger (IsBefore library d j) (IsBefore (added e library) e k) (Contains q.premises) (OrOneOf IsNone q.premises) q.conclusion
+    (λ g before. before_dependency (added e library) d e j k g (has_old e d library within) depends (before_added e d library j g before)) (λ g is. inr is) h)
 
-alone_rests : (library : List Export) (e d : Export) (j k : ℕ) (s : Sequent) (f : Formula) → Contains library d → DependsOn (added e library) e.name d.name → IsDerivable library d j s → Contains (conclusion_alone s) f → Rests library e k f
-alone_rests library e d j k s f within depends h is = by_premises s.premises refl is
-  where
-    by_premises : (ps : List Formula) → s.premises ≡ ps → Contains (without_premises ps s.conclusion) f → Rests library e k f
-    by_premises [] none is =
-        let derived = subst (λ ps. DerivesFrom (IsBefore library d j) (Contains ps) s.conclusion) none h in
-        subst (Rests library e k) (elim (first_or_later s.conclusion f [] is) [ inl same ↦ sym same | inr later ↦ absurd (contains_none f later) ])
-        (larger (IsBefore library d j) (IsBefore (added e library) e k) (Contains []) IsNone s.conclusion
-        (λ g before. before_dependency (added e library) d e j k g (has_old e d library within) depends (before_added e d library j g before)) no_premises derived)
-    by_premises (p ∷ ps) some is = absurd (contains_none f is)
-
-alone_all : (library : List Export) (e d : Export) (j k : ℕ) (ss : List Sequent) (f : Formula) → Contains library d → DependsOn (added e library) e.name d.name → All (IsDerivable library d j) ss → Contains (flat_map conclusion_alone ss) f → Rests library e k f
-alone_all library e d j k [] f within depends all is = absurd (contains_none f is)
-alone_all library e d j k (s ∷ ss) f within depends all is = elim (Contains-append_cases (conclusion_alone s) (flat_map conclusion_alone ss) f is) [
-  | inl front ↦ alone_rests library e d j k s f within depends (All-contains (IsDerivable library d j) (s ∷ ss) s all (here s ss)) front
-  | inr back ↦ alone_all library e d j k ss f within depends (All-tail (IsDerivable library d j) s ss all) back
-]
-
-item_rests : (library : List Export) (e d : Export) (k : ℕ) (x : Item) (f : Formula) → Sound library → Contains library d → DependsOn (added e library) e.name d.name → Contains d.items x → Contains (item_statements x) f → Rests library e k f
-item_rests library e d k x f sound within depends member is = elim (Contains-append_cases (grants x) (flat_map conclusion_alone (owes x)) f is) [
+item_rests : (library : List Export) (e d : Export) (k : ℕ) (x : Item) (f : Formula) → Sound library → Contains library d → DependsOn (added e library) e.name d.name → Contains d.items x → Contains (item_formulas x) f → Rests library e k f
+item_rests library e d k x f sound within depends member is = elim (Contains-append_cases (grants x) (map sequent_formula (owes x)) f is) [
   | inl front ↦ axiom_in_set (IsBefore (added e library) e k) IsNone f (of_dependency d (has_old e d library within) depends (in_granted d.items x f member front))
-  | inr back ↦ alone_all library e d member.0 k (owes x) f within depends (sound.derivable d within member.0 x (get_contained d.items x member)) back
+  | inr back ↦
+      let from : (q : Sequent) × Contains (owes x) q × (sequent_formula q ≡ f) = contains_map sequent_formula (owes x) f back in
+      subst (Rests library e k) from.2
+      (owed_rests library e d member.0 k from.0 within depends
+      (All-contains (IsDerivable library d member.0) (owes x) from.0 (sound.derivable d within member.0 x (get_contained d.items x member)) from.1))
 ]
 
-nothing_said : (f : Formula) → Contains (statements_of hidden) f → ⊥
+nothing_said : (f : Formula) → Contains (formulas_of hidden) f → ⊥
 unfolding owes grants
 nothing_said f is = contains_none f is
 
-in_items : (items : List Item) (f : Formula) → Contains (flat_map item_statements items) f → (x : Item) × Contains items x × Contains (item_statements x) f
-in_items [] f is = absurd (contains_none f is)
-in_items (x ∷ xs) f is = elim (Contains-append_cases (item_statements x) (flat_map item_statements xs) f is) [
-  | inl front ↦ (x, here x xs, front)
-  | inr back ↦ let rest = in_items xs f back in (rest.0, there x rest.0 xs rest.1, rest.2)
-]
-
-export_rests : (library : List Export) (e d : Export) (k : ℕ) (f : Formula) → Sound library → IsUsedBy library e d → Contains (statements_of d) f → Rests library e k f
+export_rests : (library : List Export) (e d : Export) (k : ℕ) (f : Formula) → Sound library → IsUsedBy library e d → Contains (formulas_of d) f → Rests library e k f
 export_rests library e d k f sound used is = elim used.1 [
-  | inl same ↦ absurd (nothing_said f (subst (λ x. Contains (statements_of x) f) same is))
-  | inr depends ↦ let x = in_items d.items f is in item_rests library e d k x.0 f sound used.0 depends x.1 x.2
+  | inl same ↦ absurd (nothing_said f (subst (λ x. Contains (formulas_of x) f) same is))
+  | inr depends ↦ let x = from_flat item_formulas d.items f is in item_rests library e d k x.0 f sound used.0 depends x.1 x.2
 ]
 
-all_rest : (library : List Export) (e : Export) (k : ℕ) (ds : List Export) (f : Formula) → Sound library → ((d : Export) → Contains ds d → IsUsedBy library e d) → Contains (flat_map statements_of ds) f → Rests library e k f
-all_rest library e k [] f sound used is = absurd (contains_none f is)
-all_rest library e k (d ∷ ds) f sound used is = elim (Contains-append_cases (statements_of d) (flat_map statements_of ds) f is) [
-  | inl front ↦ export_rests library e d k f sound (used d (here d ds)) front
-  | inr back ↦ all_rest library e k ds f sound (λ c within. used c (there d c ds within)) back
-]
+all_rest : (library : List Export) (e : Export) (k : ℕ) (ds : List Export) (f : Formula) → Sound library → ((d : Export) → Contains ds d → IsUsedBy library e d) → Contains (flat_map formulas_of ds) f → Rests library e k f
+all_rest library e k ds f sound used is = let d = from_flat formulas_of ds f is in export_rests library e d.0 k f sound (used d.0 d.1) d.2
 
--- what derives from what used exports say, an item may rest on
+-- what derives from what used exports say and from the grants of the items before it, an item may owe
 pub rests_on_used : RestsLaw
-rests_on_used library e k ds f sound used derived =
-    let axioms = flat_map statements_of ds in
-    other_axioms (Contains axioms) (IsBefore (added e library) e k) (Contains []) f (λ g is. all_rest library e k ds g sound used is)
-    (from_list (Contains axioms) axioms [] f (All-contains_itself axioms) derived)
+rests_on_used library e k ds q sound used derived =
+    let own : List Formula = granted (take k e.items) in
+    let axioms : List Formula = flat_map formulas_of ds ++ own in
+    other_axioms (Contains axioms) (IsBefore (added e library) e k) (Contains q.premises) q.conclusion
+    (λ f is. elim (Contains-append_cases (flat_map formulas_of ds) own f is) [
+      | inl said ↦ all_rest library e k ds f sound used said
+      | inr earlier ↦ axiom_in_set (IsBefore (added e library) e k) IsNone f (of_earlier earlier)
+    ])
+    (from_list (Contains axioms) axioms q.premises q.conclusion (All-contains_itself axioms) derived)

@@ -1,12 +1,9 @@
-//! The desk over small corpora, with a checker, corpora and letters of verdicts for tests.
+//! Corpora, desks and workers over small corpora, worked out by hand.
 #![tactic(auto)]
 
 #[cfg(test)]
-mod calls;
-pub mod corpora;
+mod corpora;
 #[cfg(test)]
-mod desks;
-pub mod letters;
-pub mod plain;
+mod desk;
 #[cfg(test)]
-mod verdicts;
+mod workers;

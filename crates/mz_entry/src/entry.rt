@@ -15,8 +15,11 @@ use mz_base::vocabularies::Vocabularies;
 use mz_core::fault::Faults;
 use mz_core::outcome::Outcome;
 use mz_core::verdict::{Counts, Entry, Verdict};
+use mz_define::define_items::DefineItems;
 use mz_first::fault_of::plain;
+use mz_register::register_items::RegisterItems;
 use mz_rows::counts::{counts_of, no_counts};
+use mz_structure::struct_items::StructItems;
 use mz_texts::dependency::first_dependency;
 use mz_texts::texts::Texts;
 use std::alloc::{AllocError, Global};
@@ -76,8 +79,8 @@ fn missing_entry(alloc: Global, name: Name) -> Entry
 }
 
 /// The outcome of an article that depends on built-in articles alone.
-fn outcome_alone<R: Threads + Sync>(
-    rt: &R,
+fn outcome_alone<D: DefineItems, T: RegisterItems, S: StructItems>(
+    rt: &(impl Threads + Sync),
     alloc: Global,
     name: Name,
     vocabularies: &Vocabularies,
@@ -86,13 +89,13 @@ fn outcome_alone<R: Threads + Sync>(
     ensures { IfOk result (IsOutcome name vocabularies.now built_in_exports bytes.now) }
 {
     let exports = built_in(alloc)?;
-    check_article(rt, alloc, name, vocabularies, &exports, bytes)
+    check_article::<D, T, S>(rt, alloc, name, vocabularies, &exports, bytes)
 }
 
 /// The outcome of an article with these texts and bytes.
 #[tactic(auto, using(crate::proofs::EntryLemmas::outcome_rules))]
-fn outcome_of<R: Threads + Sync>(
-    rt: &R,
+fn outcome_of<D: DefineItems, T: RegisterItems, S: StructItems>(
+    rt: &(impl Threads + Sync),
     alloc: Global,
     name: Name,
     texts: &Texts,
@@ -102,14 +105,14 @@ fn outcome_of<R: Threads + Sync>(
 {
     match first_dependency(&texts.head) {
         Some(place) => rejected(alloc, plain(place, RuleCode::NotBuilt)),
-        None => outcome_alone(rt, alloc, name, &texts.vocabularies, bytes),
+        None => outcome_alone::<D, T, S>(rt, alloc, name, &texts.vocabularies, bytes),
     }
 }
 
 /// What is said of an article with this text among its texts.
 #[tactic(auto, using(crate::proofs::EntryLemmas::checked_rules))]
-fn text_entry<R: Threads + Sync>(
-    rt: &R,
+fn text_entry<D: DefineItems, T: RegisterItems, S: StructItems>(
+    rt: &(impl Threads + Sync),
     alloc: Global,
     name: Name,
     texts: &Texts,
@@ -118,7 +121,7 @@ fn text_entry<R: Threads + Sync>(
     ensures name { IfOk result (λ e. e.name ≡ name) }
     ensures said { IfOk result (IsSaidBy texts.now (Some bytes.now)) }
 {
-    match outcome_of(rt, alloc, name, texts, bytes) {
+    match outcome_of::<D, T, S>(rt, alloc, name, texts, bytes) {
         Ok(outcome) => checked_entry(alloc, name, outcome),
         Err(fault) => Err(fault),
     }
@@ -131,8 +134,8 @@ fn text_entry<R: Threads + Sync>(
 /// # Errors
 /// `AllocError` where there wasn't enough memory.
 #[tactic(auto, using(crate::proofs::EntryLemmas::said_rules))]
-pub fn entry_of<R: Threads + Sync>(
-    rt: &R,
+pub fn entry_of<D: DefineItems, T: RegisterItems, S: StructItems>(
+    rt: &(impl Threads + Sync),
     alloc: Global,
     name: Name,
     texts: &Texts,
@@ -141,7 +144,7 @@ pub fn entry_of<R: Threads + Sync>(
     ensures said { IfOk result (IsSaid texts.now) }
 {
     match &texts.text {
-        Some(text) => text_entry(rt, alloc, name, texts, text.as_slice()),
+        Some(text) => text_entry::<D, T, S>(rt, alloc, name, texts, text.as_slice()),
         None => Ok(missing_entry(alloc, name)),
     }
 }

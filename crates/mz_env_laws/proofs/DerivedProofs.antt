@@ -27,7 +27,7 @@ use Rattle.mz_env_laws.proofs.ClosedProofs.{member_holds}
 use Rattle.mz_env_laws.proofs.ClauseProofs.{of_typing, of_further, of_equalities}
 
 -- of lists of which each entry derives, or unfolds, each one does
-one_follows : (ax g : List Formula) (cs : List Clause) (c : Clause) → AllFollow ax g (map clause_formula cs) → Contains cs c → Derives ax g (clause_formula c)
+pub one_follows : (ax g : List Formula) (cs : List Clause) (c : Clause) → AllFollow ax g (map clause_formula cs) → Contains cs c → Derives ax g (clause_formula c)
 one_follows ax g [] c all is = absurd (in_none c is)
 one_follows ax g (d ∷ ds) c all is = elim (first_or_later d c ds is) [ inl same ↦ subst (λ k. Derives ax g (clause_formula k)) same all.0 | inr later ↦ one_follows ax g ds c all.1 later ]
 
@@ -36,7 +36,7 @@ one_unfolds ax [] u all is = absurd (in_none u is)
 one_unfolds ax (v ∷ vs) u all is = elim (first_or_later v u vs is) [ inl same ↦ subst (Unfolds ax) same all.0 | inr later ↦ one_unfolds ax vs u all.1 later ]
 
 -- what one of a list gives is among what all of them give
-in_flat : {X Y : Type 0} (f : X → List Y) (xs : List X) (x : X) (y : Y) → Contains xs x → Contains (f x) y → Contains (flat_map f xs) y
+pub in_flat : {X Y : Type 0} (f : X → List Y) (xs : List X) (x : X) (y : Y) → Contains xs x → Contains (f x) y → Contains (flat_map f xs) y
 in_flat f [] x y is has = absurd (in_none x is)
 in_flat f (z ∷ zs) x y is has = elim (first_or_later z x zs is) [
   | inl same ↦ Contains-append_left (f z) (flat_map f zs) y (subst (λ u. Contains (f u) y) (sym same) has)
@@ -44,7 +44,7 @@ in_flat f (z ∷ zs) x y is has = elim (first_or_later z x zs is) [
 ]
 
 -- what the exports say are axioms
-all_axioms : (ax g fs : List Formula) → ((f : Formula) → Contains fs f → Contains ax f) → AllFollow ax g fs
+pub all_axioms : (ax g fs : List Formula) → ((f : Formula) → Contains fs f → Contains ax f) → AllFollow ax g fs
 all_axioms ax g [] among = tt
 all_axioms ax g (f ∷ fs) among = (axiom_derives ax g f (among f (the_first f fs)), all_axioms ax g fs (λ h is. among h (a_later f h fs is)))
 

@@ -4,4 +4,5 @@ pub mod EntryProofs
 pub mod ClauseProofs
 pub mod DerivedProofs
 pub mod StatementProofs
+pub mod SchemeProofs
 pub mod UsedProofs

@@ -119,7 +119,7 @@ cited_derives ax g definition article above None c each is = absurd (in_none c i
 cited_derives ax g definition article above (Some s) c each is =
     subst (λ (k : CitedStatement). Derives ax g (erase k.statement)) (in_one (record { article = article; is_definition = definition; number = above + 1; statement = s }) c is) (each s refl)
 
-item_cited : (ax g : List Formula) (at : Numbering) (x : Item) → AllFollow ax g (item_statements x) → (c : CitedStatement) → Contains (statements_cited at x) c → Derives ax g (erase c.statement)
+pub item_cited : (ax g : List Formula) (at : Numbering) (x : Item) → AllFollow ax g (item_statements x) → (c : CitedStatement) → Contains (statements_cited at x) c → Derives ax g (erase c.statement)
 item_cited ax g at x a c is =
     elim (Contains-append_cases (statement_cited false at.article at.theorems (theorem_of x)) (statement_cited true at.article at.definitions (definitional_theorem x)) c is) [
       | inl front ↦ cited_derives ax g false at.article at.theorems (theorem_of x) c (theorem_derives ax g x a) front

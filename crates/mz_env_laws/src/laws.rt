@@ -2,7 +2,7 @@
 ghost use Rattle.mz_env_laws.specs.LetInLaws.{ClosedLaw, RowClausesLaw, GivenRowsLaw, JoinedRowsLaw, ClauseLaw};
 ghost use Rattle.mz_env_laws.specs.Entries.{EntryLaw, OwnPartLaw, OwnItemLaw};
 ghost use Rattle.mz_env_laws.specs.Used.{UsedLaw};
-ghost use Rattle.mz_env_laws.specs.DerivedLaws.{SaidLaw, ClausesLaw, UnfoldingsLaw, StatementsLaw};
+ghost use Rattle.mz_env_laws.specs.DerivedLaws.{SaidLaw, ClausesLaw, UnfoldingsLaw, StatementsLaw, SchemesLaw};
 
 /// It has no constant and no loose index.
 pub fn closed_law()
@@ -36,10 +36,12 @@ pub fn used_law()
 {}
 
 /// Where what the items of the exports grant and owe without premises derives, as it does with these statements as axioms,
-/// each clause derives, each unfolding is as much as its definiens, and each statement that may be cited derives.
+/// each clause derives, each unfolding is as much as its definiens, and each statement that may be cited derives; and where what they
+/// owe from premises derives too, so does each scheme that may be cited.
 pub fn derived_law()
     ensures said { SaidLaw }
     ensures clauses { ClausesLaw }
     ensures unfoldings { UnfoldingsLaw }
     ensures statements { StatementsLaw }
+    ensures schemes { SchemesLaw }
 {}

@@ -20,17 +20,31 @@ use std::marker::Model;
 use std::sync::Arc;
 
 /// A scheme, with the number of its article's name and its own number there, from 1 in the order of the text.
-#[derive(Drop)]
 pub struct CitedScheme {
     pub article: u64,
     pub number: u64,
     pub scheme: Scheme,
 }
 
+impl Drop for CitedScheme {
+    fn drop(self) {
+        let CitedScheme {
+            article: _article,
+            number: _number,
+            scheme: _scheme,
+        } = self;
+    }
+}
+
 /// Schemes that may be cited, the latest one last, with those of each article apart.
-#[derive(Drop)]
 pub struct CitedSchemes {
     table: Table<u64, CitedScheme, ByArticle>,
+}
+
+impl Drop for CitedSchemes {
+    fn drop(self) {
+        let CitedSchemes { table: _table } = self;
+    }
 }
 
 impl Model for CitedSchemes {
@@ -87,7 +101,6 @@ impl CitedSchemes {
 
 /// A theorem or a definitional theorem, with the number of its article's name and its own number there, from
 /// 1: theorems and definitional theorems are numbered apart, in the order of the text.
-#[derive(Drop)]
 pub struct CitedStatement {
     pub article: u64,
     pub is_definition: bool,
@@ -95,10 +108,26 @@ pub struct CitedStatement {
     pub statement: Statement,
 }
 
+impl Drop for CitedStatement {
+    fn drop(self) {
+        let CitedStatement {
+            article: _article,
+            is_definition: _is_definition,
+            number: _number,
+            statement: _statement,
+        } = self;
+    }
+}
+
 /// Statements that may be cited, the latest one last, with those of each article apart.
-#[derive(Drop)]
 pub struct CitedStatements {
     table: Table<u64, CitedStatement, ByArticle>,
+}
+
+impl Drop for CitedStatements {
+    fn drop(self) {
+        let CitedStatements { table: _table } = self;
+    }
 }
 
 impl Model for CitedStatements {

@@ -20,7 +20,6 @@ use std::alloc::{AllocError, Global};
 /// What a reading and a step may use. Each list is in its order, the latest one last: what other articles
 /// gave, and behind it what the article itself has stated. What a symbol has is found without a look at the others
 /// (`of`).
-#[derive(Drop)]
 pub struct Environment {
     /// The types of functors' applications.
     pub functors: Rows,
@@ -46,6 +45,26 @@ pub struct Environment {
     pub theorems: CitedStatements,
     /// The schemes that may be cited.
     pub schemes: CitedSchemes,
+}
+
+impl Drop for Environment {
+    fn drop(self) {
+        let Environment {
+            functors: _functors,
+            modes: _modes,
+            structures: _structures,
+            sethoods: _sethoods,
+            notations: _notations,
+            typing: _typing,
+            further: _further,
+            equalities: _equalities,
+            steps: _steps,
+            expansions: _expansions,
+            registrations: _registrations,
+            theorems: _theorems,
+            schemes: _schemes,
+        } = self;
+    }
 }
 
 impl Environment {

@@ -13,9 +13,14 @@ use std::marker::Model;
 use std::sync::Arc;
 
 /// Existential registrations, the latest one last, with those of each radix apart.
-#[derive(Drop)]
 pub struct Existentials {
     table: Table<SymKey, ExistentialRegistration, BySymbol>,
+}
+
+impl Drop for Existentials {
+    fn drop(self) {
+        let Existentials { table: _table } = self;
+    }
 }
 
 impl Model for Existentials {

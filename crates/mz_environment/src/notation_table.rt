@@ -14,9 +14,14 @@ use std::marker::Model;
 use std::sync::Arc;
 
 /// Notations, the latest one last, with those of each symbol apart.
-#[derive(Drop)]
 pub struct NotationTable {
     table: Table<Vec<u8>, Notation, BySymbol>,
+}
+
+impl Drop for NotationTable {
+    fn drop(self) {
+        let NotationTable { table: _table } = self;
+    }
 }
 
 impl Model for NotationTable {
@@ -76,7 +81,7 @@ pub fn notation_table(alloc: Global, xs: Notations) -> Result<NotationTable, All
     ensures { IfOk result (λ t. t ≡ xs) }
 {
     let mut out = NotationTable::new(alloc);
-    for x in xs.items {
+    for x in xs.into_items() {
         out.push(x)?;
     }
     Ok(out)

@@ -16,7 +16,6 @@ use std::sync::Arc;
 
 /// Under the loci, the symbol at the arguments has the type: a functor's application is of it, or it is a parent
 /// of the mode.
-#[derive(Drop)]
 pub struct Row {
     pub loci: SoftTypes,
     pub sym: Sym,
@@ -24,10 +23,26 @@ pub struct Row {
     pub ty: SoftType,
 }
 
+impl Drop for Row {
+    fn drop(self) {
+        let Row {
+            loci: _loci,
+            sym: _sym,
+            args: _args,
+            ty: _ty,
+        } = self;
+    }
+}
+
 /// Rows, the latest one last, with those of each symbol apart.
-#[derive(Drop)]
 pub struct Rows {
     table: Table<SymKey, Row, BySymbol>,
+}
+
+impl Drop for Rows {
+    fn drop(self) {
+        let Rows { table: _table } = self;
+    }
 }
 
 impl Model for Rows {

@@ -13,9 +13,14 @@ use std::marker::Model;
 use std::sync::Arc;
 
 /// Structures, the latest one last, with those of each symbol apart.
-#[derive(Drop)]
 pub struct Structures {
     table: Table<SymKey, Structure, BySymbol>,
+}
+
+impl Drop for Structures {
+    fn drop(self) {
+        let Structures { table: _table } = self;
+    }
 }
 
 impl Model for Structures {

@@ -6,9 +6,14 @@ use std::alloc::{AllocError, Global};
 use std::marker::Model;
 
 /// Symbols, the latest one last.
-#[derive(Drop)]
 pub struct Syms {
     pub items: Vec<Sym>,
+}
+
+impl Drop for Syms {
+    fn drop(self) {
+        let Syms { items: _items } = self;
+    }
 }
 
 impl Model for Syms {

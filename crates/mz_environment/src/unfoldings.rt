@@ -16,17 +16,31 @@ use std::sync::Arc;
 
 /// Under the loci, what the head says is as much as the definiens: an atom, or for a term the equation of the
 /// last locus with it. A mode's atom has its subject as the last locus, too.
-#[derive(Drop)]
 pub struct Unfolding {
     pub loci: SoftTypes,
     pub head: Trigger,
     pub definiens: Statement,
 }
 
+impl Drop for Unfolding {
+    fn drop(self) {
+        let Unfolding {
+            loci: _loci,
+            head: _head,
+            definiens: _definiens,
+        } = self;
+    }
+}
+
 /// Unfoldings, the latest one last, with those of each symbol apart.
-#[derive(Drop)]
 pub struct Unfoldings {
     table: Table<Option<SymKey>, Unfolding, BySymbol>,
+}
+
+impl Drop for Unfoldings {
+    fn drop(self) {
+        let Unfoldings { table: _table } = self;
+    }
 }
 
 impl Model for Unfoldings {

@@ -3,6 +3,8 @@ use Rattle.std.proofs.Common.{◌≡◌, ℕ, zero, suc, List, [], ◌∷◌, re
 use Rattle.std.specs.Prelude.{◌↔◌, IsTrue, nat_eq, Contains, Option}
 use Rattle.mz_logic.specs.Term.{Term}
 use Rattle.std.proofs.lemmas.Bool.{eqb-true}
+use Rattle.std.proofs.lemmas.Bool.{false≢true}
+pub use Rattle.mz_std_laws.proofs.Truth.{not_both}
 use Rattle.mz_logic.specs.declared.literal.Literal.{Literal}
 use Rattle.mz_logic.specs.declared.literal.Literal.TheVariants.{Eq}
 use Rattle.mz_core.specs.Guard.{guard_literals}
@@ -14,13 +16,6 @@ use Rattle.mz_fits.specs.Fits.{type_at, LiteralFits, AllFit, none_left, and_fits
 pub empty : {A : Type 0} (xs : List A) → length xs ≡ 0 → xs ≡ []
 empty [] h = refl
 empty (x ∷ xs) h = absurd (omega (arith, h))
-
-not_false : false ≡ true → ⊥
-not_false e = cc
-
-pub not_both : (b : Bool) → b ≡ false → b ≡ true → ⊥
-not_both true e h = cc
-not_both false e h = cc
 
 pub told_same : (cs : List Clause) (ks : List (Option Constant)) (t u : Term) (b : Bool) → IsTrue b ↔ (t ≡ u) → b ≡ true → AreEqualBy cs ks t u
 told_same cs ks t u b i h = the_same (i.0 h)
@@ -46,7 +41,7 @@ told_value cs ks before ty at t b same i = subst (λ x. IsTrue b ↔ TypeFits cs
 -- the loci that are left fit just where all do
 pub told_unfit : (cs : List Clause) (ks : List (Option Constant)) (before : List Term) (ty : SoftType) (loci tys more : List SoftType) (t : Term) (values ts us : List Term) (b : Bool) → tys ≡ ty ∷ more → ts ≡ t ∷ us → IsTrue b ↔ TypeFits cs ks t (type_at before ty) → b ≡ false → LociFit cs ks before tys ts ↔ LociFit cs ks [] loci values → IsTrue false ↔ LociFit cs ks [] loci values
 told_unfit cs ks before ty loci tys more t values ts us b el ev i h w =
-    (λ x. absurd (not_false x), λ f. absurd (not_both b h (i.1 (first_fits cs ks before ty more t us (subst (λ xs. LociFit cs ks before (ty ∷ more) xs) ev (subst (λ xs. LociFit cs ks before xs ts) el (w.1 f)))))))
+    (λ x. absurd (false≢true x), λ f. absurd (not_both b h (i.1 (first_fits cs ks before ty more t us (subst (λ xs. LociFit cs ks before (ty ∷ more) xs) ev (subst (λ xs. LociFit cs ks before xs ts) el (w.1 f)))))))
 
 pub told_next : (cs : List Clause) (ks : List (Option Constant)) (before after : List Term) (ty : SoftType) (loci tys more : List SoftType) (t : Term) (values ts us : List Term) (b : Bool) → tys ≡ ty ∷ more → ts ≡ t ∷ us → IsTrue b ↔ TypeFits cs ks t (type_at before ty) → b ≡ true → after ≡ t ∷ before → LociFit cs ks before tys ts ↔ LociFit cs ks [] loci values → LociFit cs ks after more us ↔ LociFit cs ks [] loci values
 told_next cs ks before after ty loci tys more t values ts us b el ev i h same w = (forward, back)
@@ -74,7 +69,7 @@ told_end cs ks before values ts loci tys el w =
 
 pub told_fewer : (cs : List Clause) (ks : List (Option Constant)) (before values ts : List Term) (loci tys more : List SoftType) (ty : SoftType) → tys ≡ ty ∷ more → length ts ≡ 0 → LociFit cs ks before tys ts ↔ LociFit cs ks [] loci values → IsTrue false ↔ LociFit cs ks [] loci values
 told_fewer cs ks before values ts loci tys more ty el ev w =
-    (λ x. absurd (not_false x), λ f. absurd (no_fewer cs ks before ty more (subst (λ xs. LociFit cs ks before (ty ∷ more) xs) (empty _ ev) (subst (λ xs. LociFit cs ks before xs ts) el (w.1 f)))))
+    (λ x. absurd (false≢true x), λ f. absurd (no_fewer cs ks before ty more (subst (λ xs. LociFit cs ks before (ty ∷ more) xs) (empty _ ev) (subst (λ xs. LociFit cs ks before xs ts) el (w.1 f)))))
 
 pub told_first : (cs : List Clause) (ks : List (Option Constant)) (before values : List Term) (loci : List SoftType) → before ≡ [] → LociFit cs ks before loci values ↔ LociFit cs ks [] loci values
 told_first cs ks before values loci e = subst (λ xs. LociFit cs ks before loci values ↔ LociFit cs ks xs loci values) e ((λ f. f, λ f. f))
@@ -92,7 +87,7 @@ pub told_all_fit : (cs : List Clause) (ks : List (Option Constant)) (ls rest : L
 told_all_fit cs ks ls rest er w = (λ x. w.0 (subst (AllFit cs ks) (sym (empty _ er)) none_left), λ h. refl)
 
 pub told_one_unfit : (cs : List Clause) (ks : List (Option Constant)) (l : Literal) (ls rest others : List Literal) (b : Bool) → rest ≡ l ∷ others → IsTrue b ↔ LiteralFits cs ks l → b ≡ false → AllFit cs ks rest ↔ AllFit cs ks ls → IsTrue false ↔ AllFit cs ks ls
-told_one_unfit cs ks l ls rest others b er i h w = (λ x. absurd (not_false x), λ k. absurd (not_both b h (i.1 (first_of cs ks l others (subst (AllFit cs ks) er (w.1 k))))))
+told_one_unfit cs ks l ls rest others b er i h w = (λ x. absurd (false≢true x), λ k. absurd (not_both b h (i.1 (first_of cs ks l others (subst (AllFit cs ks) er (w.1 k))))))
 
 pub told_one_fits : (cs : List Clause) (ks : List (Option Constant)) (l : Literal) (ls rest others : List Literal) (b : Bool) → rest ≡ l ∷ others → IsTrue b ↔ LiteralFits cs ks l → b ≡ true → AllFit cs ks rest ↔ AllFit cs ks ls → AllFit cs ks others ↔ AllFit cs ks ls
 told_one_fits cs ks l ls rest others b er i h w =

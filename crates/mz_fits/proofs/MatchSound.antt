@@ -4,6 +4,7 @@ use Rattle.std.specs.Prelude.{slice_get, slice_set}
 use Rattle.std.specs.List.{list_all}
 use Rattle.std.proofs.lemmas.List.{get_or-reverse, length-reverse}
 use Rattle.std.proofs.lemmas.Bool.{and_parts, and_from}
+use Rattle.mz_std_laws.proofs.Sums.{either}
 use Rattle.mz_logic.specs.declared.sym.Sym.{Sym}
 use Rattle.mz_logic.specs.Term.{Term, Bound, Const, App, terms_of, list_of}
 use Rattle.mz_logic.specs.Formula.{Formula, Eq}
@@ -60,10 +61,6 @@ set_from (x ∷ xs) zero zero t u h k = inl (some-inj t u (some-inj (Some t) (So
 set_from (x ∷ xs) zero (suc q) t u h k = inr k
 set_from (x ∷ xs) (suc p) zero t u h k = inr k
 set_from (x ∷ xs) (suc p) (suc q) t u h k = set_from xs p q t u h k
-
-either : {A B C : Type 0} → A ⊎ B → (A → C) → (B → C) → C
-either (inl a) f g = f a
-either (inr b) f g = g b
 
 placed_extends : (cs : List Clause) (ks : List (Option Constant)) (fs : Fixed) (p : ℕ) (t : Term) (o : Option Fixed) → Placed cs ks fs p t o → (gs : Fixed) → o ≡ Some gs → Extends fs gs
 placed_extends cs ks fs p t o (fixes h) gs e q u k = subst (λ (xs : Fixed). IsFixed xs q u) (some-inj (slice_set fs p (Some t)) gs e) (set_keeps fs p q t u h k)

@@ -2,6 +2,8 @@
 use Rattle.std.proofs.Common.{◌≡◌, ◌≤◌, ◌<◌, ◌-◌, ℕ, suc, Bool, true, false, List, [], ◌∷◌, refl, sym, ap, ◌∙◌, subst, arith, length, inl, inr, ◌⊎◌, Option, Some, None}
 use Rattle.std.specs.Prelude.{nat_eq, slice_get, slice_set, ◌&&◌}
 use Rattle.std.proofs.lemmas.Bool.{eq-eqb}
+pub use Rattle.mz_std_laws.proofs.Options.{some-inj, none_some}
+use Rattle.mz_std_laws.proofs.Sums.{either, either_once}
 use Rattle.mz_logic.specs.Sym.{same_sym, kind_number}
 use Rattle.mz_logic.specs.declared.sym.Sym.{Sym}
 use Rattle.mz_logic.specs.Term.{Term, Bound, Const, App, terms_of, list_of}
@@ -13,20 +15,6 @@ use Rattle.mz_fits.specs.Fits.{AreEqualBy, LociFit}
 use Rattle.mz_fits.specs.Matching.{Fixed, heads_agree, Placed, fixes, equal, unequal, no_place, Matched, locus, no_locus, constant, other_constant, symbol, other_symbol, AllMatched, all_matched, one_more, one_fails, too_few, too_many, values_of, Accepted, not_fixed, fitting, unfit}
 use Rattle.mz_fits.specs.Laws.{OneMatchLaw, OneAcceptedLaw}
 use Rattle.mz_fits.proofs.FitLemmas.{not_both}
-
-either : {A B C : Type 0} → A ⊎ B → (A → C) → (B → C) → C
-either (inl a) f g = f a
-either (inr b) f g = g b
-
-pub some-inj : {A : Type 0} (x y : A) → Some x ≡ Some y → x ≡ y
-some-inj x y e = ap (λ o. or_else o x) e
-  where
-    or_else : {A : Type 0} → Option A → A → A
-    or_else None d = d
-    or_else (Some z) d = z
-
-pub none_some : {A : Type 0} (x : A) → None ≡ Some x → ⊥
-none_some x e = cc
 
 -- what a term for a locus gives, by what the locus is fixed to
 abbrev PlacedAs : List Clause → List (Option Constant) → Fixed → ℕ → Term → Option (Option Term) → Option Fixed → Type 0
@@ -43,8 +31,7 @@ placed_as cs ks fs place t o (no_place h) = subst (λ x. PlacedAs cs ks fs place
 one_as : (cs : List Clause) (ks : List (Option Constant)) (fs : Fixed) (place : ℕ) (t : Term) (x : Option (Option Term)) (o p : Option Fixed) → PlacedAs cs ks fs place t x o → PlacedAs cs ks fs place t x p → o ≡ p
 one_as cs ks fs place t None o p h k = h ∙ sym k
 one_as cs ks fs place t (Some None) o p h k = h ∙ sym k
-one_as cs ks fs place t (Some (Some u)) o p h k =
-    either h (λ a. either k (λ b. a.1 ∙ sym b.1) (λ b. absurd (b.0 a.0))) (λ a. either k (λ b. absurd (a.0 b.0)) (λ b. a.1 ∙ sym b.1))
+one_as cs ks fs place t (Some (Some u)) o p h k = either_once h k
 
 one_place : (cs : List Clause) (ks : List (Option Constant)) (fs : Fixed) (place : ℕ) (t : Term) (o p : Option Fixed) → Placed cs ks fs place t o → Placed cs ks fs place t p → o ≡ p
 one_place cs ks fs place t o p h k = one_as cs ks fs place t (slice_get fs place) o p (placed_as cs ks fs place t o h) (placed_as cs ks fs place t p k)
@@ -144,8 +131,7 @@ accepted_as cs ks loci fs o (unfit ts h f) = subst (λ x. AcceptedAs cs ks loci 
 
 one_acceptance : (cs : List Clause) (ks : List (Option Constant)) (loci : List SoftType) (x : Option (List Term)) (o p : Option (List Term)) → AcceptedAs cs ks loci x o → AcceptedAs cs ks loci x p → o ≡ p
 one_acceptance cs ks loci None o p h k = h ∙ sym k
-one_acceptance cs ks loci (Some ts) o p h k =
-    either h (λ a. either k (λ b. a.1 ∙ sym b.1) (λ b. absurd (b.0 a.0))) (λ a. either k (λ b. absurd (a.0 b.0)) (λ b. a.1 ∙ sym b.1))
+one_acceptance cs ks loci (Some ts) o p h k = either_once h k
 
 pub one_accepted_law : OneAcceptedLaw
 one_accepted_law cs ks loci fs o p h k = one_acceptance cs ks loci (values_of fs) o p (accepted_as cs ks loci fs o h) (accepted_as cs ks loci fs p k)

@@ -1,7 +1,8 @@
 -- What fits derives.
-use Rattle.std.proofs.Common.{◌≡◌, ℕ, zero, suc, List, [], ◌∷◌, ◌++◌, refl, subst, true, arith, length, inl, inr, ◌⊎◌, map, get_or, Option}
+use Rattle.std.proofs.Common.{◌≡◌, ℕ, zero, suc, List, [], ◌∷◌, ◌++◌, refl, subst, true, arith, length, map, get_or, Option}
 use Rattle.std.specs.Prelude.{Contains, flat_map}
 use Rattle.std.proofs.lemmas.List.Elements.{Contains-append_cases}
+use Rattle.mz_std_laws.proofs.Sums.{either}
 use Rattle.mz_logic.specs.Term.{Term}
 use Rattle.mz_logic.specs.Formula as formula
 use Rattle.mz_logic.specs.Formula.{Formula}
@@ -22,10 +23,6 @@ use Rattle.mz_fits.proofs.FitLemmas.{one_of}
 
 none_there : {A : Type 0} (x : A) → Contains [] x → ⊥
 none_there x c = omega (arith, c.1)
-
-either : {A B C : Type 0} → A ⊎ B → (A → C) → (B → C) → C
-either (inl a) f g = f a
-either (inr b) f g = g b
 
 -- a literal that is known of one of the constants
 of_some : (ks : List (Option Constant)) (ns : List ℕ) (l : Literal) → Contains (flat_map (known ks) ns) l → (n : ℕ) × Contains (known ks n) l

@@ -25,9 +25,8 @@ use Rattle.mz_terms.specs.Adjectives.{is_denied, attribute_in, ReadsOwn}
 use Rattle.mz_terms.specs.Terms.{ReadsTerm, ReadsAll}
 use Rattle.mz_terms.specs.Types.{ReadsType}
 use Rattle.mz_joined.specs.Bound.{of_type_within}
-use Rattle.mz_joined.specs.Joined.{conjoined}
 use Rattle.mz_formulas.specs.Atoms as at
-use Rattle.mz_formulas.specs.Atoms.{ReadsSide, first_of, ReadsPredicate, ReadsPrivate, ReadsIsType, ReadsAttributed, ReadsFurther, ReadsIsAdjectives}
+use Rattle.mz_formulas.specs.Atoms.{ReadsSide, first_of, ReadsPredicate, ReadsPrivate, ReadsIsType, ReadsAttributed, said, said_behind, said_within, ReadsFurther, ReadsIsAdjectives}
 use Rattle.mz_formulas.specs.Declarations as dc
 use Rattle.mz_formulas.specs.Declarations.{Declaring, Declares, DeclaresAll, behind, reserved_each, undeclared, ReadsDeclared, with_typed}
 
@@ -103,12 +102,12 @@ one_attributed l e c least u a o p (at.own_read ts f x h i j) (at.own_read us g 
     (subst (λ v. ReadsAs e c Anything (attribute_in a).place (as_attributed (is_denied a) (attribute_in a).place v) (attribute_of (attribute_in a).spelling ts u) y) z
     (subst (λ v. ReadsAs e c Anything (attribute_in a).place (as_attributed (is_denied a) (attribute_in a).place g) (attribute_of (attribute_in a).spelling v u) y) t n))
 
-pub one_further : (l : Determined) (e : Environment) (c : Context) (least : ℕ) (first : Place) (u : Term) (xs : List AdjectiveData) (s : Result Statement Refusal) (o : Result Statement Refusal) → ReadsFurther e c least first u xs s o → (p : Result Statement Refusal) → ReadsFurther e c least first u xs s p → o ≡ p
-one_further l e c least first u _ _ _ (at.refused xs r) p (at.refused _ _) = refl
-one_further l e c least first u _ _ _ (at.no_further s) p (at.no_further _) = refl
-one_further l e c least first u _ _ o (at.further a xs s x _ h k) p (at.further _ _ _ y _ m n) =
+pub one_further : (l : Determined) (e : Environment) (c : Context) (least : ℕ) (u : Term) (xs : List AdjectiveData) (s : Result (Option Statement) Refusal) (o : Result (Option Statement) Refusal) → ReadsFurther e c least u xs s o → (p : Result (Option Statement) Refusal) → ReadsFurther e c least u xs s p → o ≡ p
+one_further l e c least u _ _ _ (at.refused xs r) p (at.refused _ _) = refl
+one_further l e c least u _ _ _ (at.no_further s) p (at.no_further _) = refl
+one_further l e c least u _ _ o (at.further a xs s x _ h k) p (at.further _ _ _ y _ m n) =
     let q : y ≡ x = one_attributed l e c least u a y x m h in
-    one_further l e c least first u xs (conjoined first s x) o k p (subst (λ z. ReadsFurther e c least first u xs (conjoined first s z) p) q n)
+    one_further l e c least u xs (said_behind s x) o k p (subst (λ z. ReadsFurther e c least u xs (said_behind s z) p) q n)
 
 pub one_is_adjectives : (l : Determined) (e : Environment) (c : Context) (least : ℕ) (t : TermData) (a : AdjectiveData) (xs : List AdjectiveData) (o p : Result Statement Refusal) → ReadsIsAdjectives e c least t a xs o → ReadsIsAdjectives e c least t a xs p → o ≡ p
 one_is_adjectives l e c least t a xs o p (at.subject_refused r h) (at.subject_refused s k) = let q = l.term e c least t (Err r) (Err s) h k in cc
@@ -118,7 +117,7 @@ one_is_adjectives l e c least t a xs o p (at.subject_read u f x y h i j w) (at.s
     let q : v ≡ u = ok-inj v u (l.term e c least t (Ok v) (Ok u) k h) in
     let s : g ≡ f = one_place (first_place (spell_term t)) g f m i in
     let r : x' ≡ x = one_attributed l e c least u a x' x (subst (λ b. ReadsAttributed e c least b a x') q n) j in
-    one_further l e c least f u xs x y w y' (subst (λ b. ReadsFurther e c least f u xs b y') r (subst (λ b. ReadsFurther e c least b u xs x' y') s (subst (λ b. ReadsFurther e c least g b xs x' y') q z)))
+    ap (said_within f) (one_further l e c least u xs (said x) y w y' (subst (λ b. ReadsFurther e c least u xs (said b) y') r (subst (λ b. ReadsFurther e c least b xs (said x') y') q z))) ∙ ap (λ b. said_within b y') (sym s)
 
 -- declarations
 one_declares : (l : Determined) (e : Environment) (least : ℕ) (s : Declaring) (d : DeclaredData) (o p : Result Declaring Refusal) → Declares e least s d o → Declares e least s d p → o ≡ p

@@ -26,9 +26,8 @@ use Rattle.mz_terms.specs.Adjectives.{is_denied, attribute_in, ReadsOwn}
 use Rattle.mz_terms.specs.Terms.{ReadsTerm, ReadsAll}
 use Rattle.mz_terms.specs.Types.{ReadsType}
 use Rattle.mz_joined.specs.Bound.{of_type_within}
-use Rattle.mz_joined.specs.Joined.{conjoined}
 use Rattle.mz_formulas.specs.Atoms as at
-use Rattle.mz_formulas.specs.Atoms.{ReadsSide, first_of, ReadsPredicate, ReadsPrivate, ReadsIsType, ReadsAttributed, ReadsFurther, listed_adjectives, ReadsIsAdjectives}
+use Rattle.mz_formulas.specs.Atoms.{ReadsSide, first_of, ReadsPredicate, ReadsPrivate, ReadsIsType, ReadsAttributed, said, said_behind, said_within, ReadsFurther, listed_adjectives, ReadsIsAdjectives}
 
 -- lists of adjectives
 pub listed_adjectives-is : (xs : List AdjectiveData) → listed_adjectives (adjectives_of xs) ≡ xs
@@ -112,34 +111,36 @@ told_own_read e c least u a o ts first non w b q h eo ef en ew eb k =
 pub ruleset attributed_rules = (told_own_refused, told_own_read)
 
 -- further adjectives: what the rest gives, all give
-abbrev pub Gives : Environment → Context → ℕ → Place → Term → List AdjectiveNode → Result Statement Refusal → List AdjectiveNode → Result Statement Refusal → Type 0
-Gives e c least first u rest so_far all p = (o : Result Statement Refusal) → ReadsFurther e c least first u (map adjective_of rest) so_far o → ReadsFurther e c least first u (map adjective_of all) p o
+abbrev pub Gives : Environment → Context → ℕ → Term → List AdjectiveNode → Result (Option Statement) Refusal → List AdjectiveNode → Result (Option Statement) Refusal → Type 0
+Gives e c least u rest so_far all p = (o : Result (Option Statement) Refusal) → ReadsFurther e c least u (map adjective_of rest) so_far o → ReadsFurther e c least u (map adjective_of all) p o
 
-nothing_further : (e : Environment) (c : Context) (least : ℕ) (first : Place) (u : Term) (p : Result Statement Refusal) → ReadsFurther e c least first u [] p p
-nothing_further e c least first u (Err r) = at.refused [] r
-nothing_further e c least first u (Ok s) = at.no_further s
+nothing_further : (e : Environment) (c : Context) (least : ℕ) (u : Term) (p : Result (Option Statement) Refusal) → ReadsFurther e c least u [] p p
+nothing_further e c least u (Err r) = at.refused [] r
+nothing_further e c least u (Ok s) = at.no_further s
 
-pub told_end : (e : Environment) (c : Context) (least : ℕ) (first : Place) (u : Term) (rest all : List AdjectiveNode) (so_far p : Result Statement Refusal) → length rest ≡ 0 → Gives e c least first u rest so_far all p → ReadsFurther e c least first u (map adjective_of all) p so_far
-told_end e c least first u rest all so_far p er g = g so_far (subst (λ xs. ReadsFurther e c least first u (map adjective_of xs) so_far so_far) (sym (empty rest er)) (nothing_further e c least first u so_far))
+pub told_end : (e : Environment) (c : Context) (least : ℕ) (u : Term) (rest all : List AdjectiveNode) (so_far p : Result (Option Statement) Refusal) → length rest ≡ 0 → Gives e c least u rest so_far all p → ReadsFurther e c least u (map adjective_of all) p so_far
+told_end e c least u rest all so_far p er g = g so_far (subst (λ xs. ReadsFurther e c least u (map adjective_of xs) so_far so_far) (sym (empty rest er)) (nothing_further e c least u so_far))
 
-pub told_stop : (e : Environment) (c : Context) (least : ℕ) (first : Place) (u : Term) (rest all : List AdjectiveNode) (so_far p : Result Statement Refusal) (r : Refusal) → so_far ≡ Err r → Gives e c least first u rest so_far all p → ReadsFurther e c least first u (map adjective_of all) p (Err r)
-told_stop e c least first u rest all so_far p r eo g = g (Err r) (subst (λ x. ReadsFurther e c least first u (map adjective_of rest) x (Err r)) (sym eo) (at.refused (map adjective_of rest) r))
+pub told_stop : (e : Environment) (c : Context) (least : ℕ) (u : Term) (rest all : List AdjectiveNode) (so_far p : Result (Option Statement) Refusal) (r : Refusal) → so_far ≡ Err r → Gives e c least u rest so_far all p → ReadsFurther e c least u (map adjective_of all) p (Err r)
+told_stop e c least u rest all so_far p r eo g = g (Err r) (subst (λ x. ReadsFurther e c least u (map adjective_of rest) x (Err r)) (sym eo) (at.refused (map adjective_of rest) r))
 
-pub told_turn : (e : Environment) (c : Context) (least : ℕ) (first : Place) (u : Term) (rest others all : List AdjectiveNode) (a : AdjectiveNode) (so_far p q : Result Statement Refusal) (s : Statement) → rest ≡ a ∷ others → so_far ≡ Ok s →
-    ((xs : List AdjectiveData) (o : Result Statement Refusal) → ReadsFurther e c least first u xs q o → ReadsFurther e c least first u (adjective_of a ∷ xs) (Ok s) o) → Gives e c least first u rest so_far all p → Gives e c least first u others q all p
-told_turn e c least first u rest others all a so_far p q s er eo h g o k =
-    let P : Result Statement Refusal → Type 0 = λ x. ReadsFurther e c least first u (map adjective_of rest) x o in
-    g o (subst P (sym eo) (subst (λ xs. ReadsFurther e c least first u (map adjective_of xs) (Ok s) o) (sym er) (h (map adjective_of others) o k)))
+pub told_turn : (e : Environment) (c : Context) (least : ℕ) (u : Term) (rest others all : List AdjectiveNode) (a : AdjectiveNode) (so_far p q : Result (Option Statement) Refusal) (s : Option Statement) → rest ≡ a ∷ others → so_far ≡ Ok s →
+    ((xs : List AdjectiveData) (o : Result (Option Statement) Refusal) → ReadsFurther e c least u xs q o → ReadsFurther e c least u (adjective_of a ∷ xs) (Ok s) o) → Gives e c least u rest so_far all p → Gives e c least u others q all p
+told_turn e c least u rest others all a so_far p q s er eo h g o k =
+    let P : Result (Option Statement) Refusal → Type 0 = λ x. ReadsFurther e c least u (map adjective_of rest) x o in
+    g o (subst P (sym eo) (subst (λ xs. ReadsFurther e c least u (map adjective_of xs) (Ok s) o) (sym er) (h (map adjective_of others) o k)))
 
-pub told_and : (e : Environment) (c : Context) (least : ℕ) (first : Place) (u : Term) (a : AdjectiveData) (s : Statement) (p q : Result Statement Refusal) → ReadsAttributed e c least u a p → q ≡ conjoined first s p → (xs : List AdjectiveData) (o : Result Statement Refusal) → ReadsFurther e c least first u xs q o → ReadsFurther e c least first u (a ∷ xs) (Ok s) o
-told_and e c least first u a s p q h eq xs o k = at.further a xs s p o h (subst (λ x. ReadsFurther e c least first u xs x o) eq k)
+pub told_and : (e : Environment) (c : Context) (least : ℕ) (u : Term) (a : AdjectiveData) (s : Option Statement) (p : Result Statement Refusal) (q : Result (Option Statement) Refusal) → ReadsAttributed e c least u a p → q ≡ said_behind s p → (xs : List AdjectiveData) (o : Result (Option Statement) Refusal) → ReadsFurther e c least u xs q o → ReadsFurther e c least u (a ∷ xs) (Ok s) o
+told_and e c least u a s p q h eq xs o k = at.further a xs s p o h (subst (λ x. ReadsFurther e c least u xs x o) eq k)
 
 pub ruleset further_rules = (told_end, told_stop, told_turn, told_and)
 
 pub told_subject_refused : (e : Environment) (c : Context) (least : ℕ) (t : TermData) (a : AdjectiveData) (xs : List AdjectiveData) (o : Result Term Refusal) (r : Refusal) → ReadsTerm e c least t o → o ≡ Err r → ReadsIsAdjectives e c least t a xs (Err r)
 told_subject_refused e c least t a xs o r h eo = at.subject_refused r (term_is e c least t o (Err r) eo h)
 
-pub told_subject_read : (e : Environment) (c : Context) (least : ℕ) (t : TermData) (a : AdjectiveData) (xs : List AdjectiveData) (o : Result Term Refusal) (u : Term) (first : Place) (p q : Result Statement Refusal) → ReadsTerm e c least t o → o ≡ Ok u → first_place (spell_term t) ≡ Some first → ReadsAttributed e c least u a p → ReadsFurther e c least first u xs p q → ReadsIsAdjectives e c least t a xs q
-told_subject_read e c least t a xs o u first p q h eo ef k m = at.subject_read u first p q (term_is e c least t o (Ok u) eo h) ef k m
+pub told_subject_read : (e : Environment) (c : Context) (least : ℕ) (t : TermData) (a : AdjectiveData) (xs : List AdjectiveData) (o : Result Term Refusal) (u : Term) (first : Place) (p : Result Statement Refusal) (x q : Result (Option Statement) Refusal) (z : Result Statement Refusal) → ReadsTerm e c least t o → o ≡ Ok u → first_place (spell_term t) ≡ Some first → ReadsAttributed e c least u a p → x ≡ said p → ReadsFurther e c least u xs x q → z ≡ said_within first q → ReadsIsAdjectives e c least t a xs z
+told_subject_read e c least t a xs o u first p x q z h eo ef k ex m ez =
+    let P : Result Statement Refusal → Type 0 = λ y. ReadsIsAdjectives e c least t a xs y in
+    subst P (sym ez) (at.subject_read u first p q (term_is e c least t o (Ok u) eo h) ef k (subst (λ y. ReadsFurther e c least u xs y q) ex m))
 
 pub ruleset is_adjectives_rules = (told_subject_refused, told_subject_read)

@@ -1,11 +1,11 @@
 //! What formulas without parts that are formulas are read to.
-ghost use Rattle.std.specs.Prelude.{◌≡◌, List, ◌∷◌, map, Result, Ok, IfOk, Some};
+ghost use Rattle.std.specs.Prelude.{◌≡◌, List, ◌∷◌, map, Option, Result, Ok, IfOk, Some};
 ghost use Rattle.mz_core.specs.Statement.{Statement};
 ghost use Rattle.mz_names.specs.declared.refusal.Refusal.{Refusal};
 ghost use Rattle.mz_tree.specs.Trees.{AdjectiveData};
 ghost use Rattle.std.specs.Option.{option_map, option_copied};
 ghost use Rattle.mz_tree.specs.Views.{term_of, terms_of, type_of, adjective_of};
-ghost use Rattle.mz_formulas.specs.Atoms.{first_of, ReadsSide, ReadsPredicate, ReadsPrivate, ReadsIsType, ReadsAttributed, ReadsFurther, ReadsIsAdjectives};
+ghost use Rattle.mz_formulas.specs.Atoms.{first_of, ReadsSide, ReadsPredicate, ReadsPrivate, ReadsIsType, ReadsAttributed, kept, kept_with, said, said_behind, said_within, ReadsFurther, ReadsIsAdjectives};
 
 use mz_applied::application::{application, attribute_of};
 use mz_applied::applied::{applied_attribute, applied_statement};
@@ -14,11 +14,11 @@ use mz_base::place::Place;
 use mz_context::context::Context;
 use mz_core::statement::Statement;
 use mz_environment::environment::Environment;
-use mz_joined::joined::conjoined;
 use mz_joined::said::of_type_within;
 use mz_logic::kind::Kind;
 use mz_logic::term::{Term, Terms};
 use mz_names::refusal::Refusal;
+use mz_sizes::keeps::statement_keeps;
 use mz_terms::adjectives::{attribute_in, is_denied, read_own};
 use mz_terms::terms::{read_term, read_terms};
 use mz_terms::types::read_type;
@@ -137,7 +137,7 @@ pub fn read_is_type(
     }
 }
 
-/// An adjective said of a term.
+/// An adjective said of a term. What it says may be beyond the limits.
 #[tactic(auto, using(crate::proofs::AtomLemmas::attributed_rules))]
 fn read_attributed(
     alloc: Global,
@@ -162,39 +162,96 @@ fn read_attributed(
     }
 }
 
-/// One adjective more, joined to what was read so far.
+/// What is said so far; none where it is beyond the limits.
+fn kept(s: Statement) -> Option<Statement>
+    ensures { result ≡ kept s }
+{
+    if statement_keeps(&s) { Some(s) } else { None }
+}
+
+fn kept_with(
+    alloc: Global,
+    s: Option<Statement>,
+    t: Statement,
+) -> Result<Option<Statement>, AllocError>
+    ensures { IfOk result (λ o. o ≡ kept_with s t) }
+{
+    match s {
+        None => Ok(None),
+        Some(s) => {
+            let u = Statement::and(alloc, s, t)?;
+            Ok(kept(u))
+        }
+    }
+}
+
+fn said(o: Result<Statement, Refusal>) -> Result<Option<Statement>, Refusal>
+    ensures { result ≡ said o }
+{
+    match o {
+        Err(r) => Err(r),
+        Ok(s) => Ok(kept(s)),
+    }
+}
+
+fn said_behind(
+    alloc: Global,
+    s: Option<Statement>,
+    o: Result<Statement, Refusal>,
+) -> Result<Result<Option<Statement>, Refusal>, AllocError>
+    ensures { IfOk result (λ q. q ≡ said_behind s o) }
+{
+    match o {
+        Err(r) => Ok(Err(r)),
+        Ok(t) => {
+            let u = kept_with(alloc, s, t)?;
+            Ok(Ok(u))
+        }
+    }
+}
+
+/// All that was said; `TooLarge` at the place.
+fn said_within(first: Place, o: Result<Option<Statement>, Refusal>) -> Result<Statement, Refusal>
+    ensures { result ≡ said_within first o }
+{
+    match o {
+        Err(r) => Err(r),
+        Ok(None) => Err(Refusal::TooLarge(first)),
+        Ok(Some(s)) => Ok(s),
+    }
+}
+
+/// One adjective more, joined to what was said so far.
 #[tactic(auto, using(crate::proofs::AtomLemmas::further_rules))]
 fn and_attributed(
     alloc: Global,
     env: &Environment,
     ctx: &Context,
     least: u32,
-    first: Place,
     u: &Term,
     node: &AdjectiveNode,
-    s: Statement,
-) -> Result<Result<Statement, Refusal>, AllocError>
-    ensures { IfOk result (λ q. (xs : List AdjectiveData) (o : Result Statement Refusal) → ReadsFurther env.now ctx.now least first u.now xs q o → ReadsFurther env.now ctx.now least first u.now (adjective_of node.now ∷ xs) (Ok s) o) }
+    s: Option<Statement>,
+) -> Result<Result<Option<Statement>, Refusal>, AllocError>
+    ensures { IfOk result (λ q. (xs : List AdjectiveData) (o : Result (Option Statement) Refusal) → ReadsFurther env.now ctx.now least u.now xs q o → ReadsFurther env.now ctx.now least u.now (adjective_of node.now ∷ xs) (Ok s) o) }
 {
     let so_far = Box::new(alloc, s)?;
     let p = read_attributed(alloc, env, ctx, least, u, node)?;
-    let o = conjoined(alloc, first, Box::into_inner(so_far), p)?;
+    let o = said_behind(alloc, Box::into_inner(so_far), p)?;
     Ok(o)
 }
 
-/// Further adjectives, each joined to what was read so far.
+/// Further adjectives, each joined to what was said so far.
 #[tactic(auto, using(crate::proofs::AtomLemmas::further_rules))]
 fn read_further(
     alloc: Global,
     env: &Environment,
     ctx: &Context,
     least: u32,
-    first: Place,
     u: &Term,
     nodes: &[AdjectiveNode],
-    p: Result<Statement, Refusal>,
-) -> Result<Result<Statement, Refusal>, AllocError>
-    ensures { IfOk result (λ o. ReadsFurther env.now ctx.now least first u.now (map adjective_of nodes.now) p o) }
+    p: Result<Option<Statement>, Refusal>,
+) -> Result<Result<Option<Statement>, Refusal>, AllocError>
+    ensures { IfOk result (λ o. ReadsFurther env.now ctx.now least u.now (map adjective_of nodes.now) p o) }
 {
     let mut so_far = p;
     let mut rest = nodes;
@@ -202,7 +259,7 @@ fn read_further(
         match so_far {
             Err(r) => return Ok(Err(r)),
             Ok(s) => {
-                so_far = and_attributed(alloc, env, ctx, least, first, u, node, s)?;
+                so_far = and_attributed(alloc, env, ctx, least, u, node, s)?;
                 rest = others;
             }
         }
@@ -212,8 +269,8 @@ fn read_further(
 
 /// `t is A B ..`.
 ///
-/// Refusals: those of the term, then those of the adjectives from left to right; `TooLarge` at an adjective's first token,
-/// and at the first token of all.
+/// Refusals: those of the term, then those of the adjectives from left to right, each of which is `TooLarge` at its own first
+/// token; at last `TooLarge` at the first token of all.
 #[tactic(auto, using(crate::proofs::AtomLemmas::is_adjectives_rules))]
 pub fn read_is_adjectives(
     alloc: Global,
@@ -231,8 +288,8 @@ pub fn read_is_adjectives(
         Ok(u) => {
             let first = t.first_place();
             let p = read_attributed(alloc, env, ctx, least, &u, a)?;
-            let o = read_further(alloc, env, ctx, least, first, &u, more, p)?;
-            Ok(o)
+            let o = read_further(alloc, env, ctx, least, &u, more, said(p))?;
+            Ok(said_within(first, o))
         }
     }
 }

@@ -1,6 +1,8 @@
 -- Clauses as formulas.
-use Rattle.std.specs.Prelude.{not, List, [], ◌∷◌, ◌++◌, map}
+use Rattle.std.specs.Prelude.{◌≡◌, ℕ, false, not, List, [], ◌∷◌, ◌++◌, map}
+use Rattle.std.specs.List.{list_any}
 use Rattle.mz_logic.specs.Connectives.{quantified, joined_to}
+use Rattle.mz_logic.specs.Constants.{occurs_in_formula}
 use Rattle.mz_logic.specs.Formula.{Formula, Not}
 use Rattle.mz_logic.specs.Literal.{literal_formula}
 use Rattle.mz_logic.specs.declared.literal.Literal.{Literal}
@@ -20,3 +22,7 @@ implication (l ∷ ls) conclusion = Not (joined_to (literal_formula l) (map lite
 -- the clause holds for all terms in place of its variables
 abbrev pub clause_formula : Clause → Formula
 clause_formula c = quantified c.variables (implication c.premises c.conclusion)
+
+-- no clause, read as a formula, has a constant
+abbrev pub HaveNoConstants : List Clause → Type 0
+HaveNoConstants cs = (c : ℕ) → list_any (occurs_in_formula c) (map clause_formula cs) ≡ false

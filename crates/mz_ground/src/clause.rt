@@ -9,13 +9,23 @@ use std::alloc::{AllocError, Global};
 
 /// A rule by which the conclusion holds wherever the premises do, for all terms in place of its variables.
 /// The variables are the indices below `variables`; the trigger has each of them.
-#[derive(Drop)]
 pub struct Clause {
     pub variables: u32,
     pub trigger: Trigger,
     pub premises: Literals,
     pub conclusion: Literal,
     pub ghost triggered: { IsTrue (has_all_below variables trigger) },
+}
+
+impl Drop for Clause {
+    fn drop(self) {
+        let Clause {
+            variables: _variables,
+            trigger: _trigger,
+            premises: _premises,
+            conclusion: _conclusion,
+        } = self;
+    }
 }
 
 impl Clause {

@@ -6,9 +6,14 @@ use std::alloc::{AllocError, Global};
 use std::marker::Model;
 
 /// A list of clauses.
-#[derive(Drop)]
 pub struct Clauses {
     pub items: Vec<Clause>,
+}
+
+impl Drop for Clauses {
+    fn drop(self) {
+        let Clauses { items: _items } = self;
+    }
 }
 
 impl Model for Clauses {

@@ -8,10 +8,18 @@ use mz_logic::sym::Sym;
 use std::alloc::{AllocError, Global};
 
 /// A ground atom: a symbol with arguments, each by its place in the list of ground terms.
-#[derive(Drop)]
 pub struct GroundAtom {
     pub sym: Sym,
     pub args: Places,
+}
+
+impl Drop for GroundAtom {
+    fn drop(self) {
+        let GroundAtom {
+            sym: _sym,
+            args: _args,
+        } = self;
+    }
 }
 
 impl GroundAtom {

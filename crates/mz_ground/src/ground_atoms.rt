@@ -10,11 +10,19 @@ use std::alloc::{AllocError, Global};
 use std::marker::Model;
 
 /// A list of ground atoms.
-#[derive(Drop)]
 pub struct GroundAtoms {
     pub items: Vec<GroundAtom>,
     /// Where items stand, by their hashes.
     places: HashPlaces,
+}
+
+impl Drop for GroundAtoms {
+    fn drop(self) {
+        let GroundAtoms {
+            items: _items,
+            places: _places,
+        } = self;
+    }
 }
 
 impl Model for GroundAtoms {

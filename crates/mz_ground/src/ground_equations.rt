@@ -8,11 +8,19 @@ use std::alloc::{AllocError, Global};
 use std::marker::Model;
 
 /// A list of ground equations.
-#[derive(Drop)]
 pub struct GroundEquations {
     pub items: Vec<GroundEquation>,
     /// Where items stand, by their hashes.
     places: HashPlaces,
+}
+
+impl Drop for GroundEquations {
+    fn drop(self) {
+        let GroundEquations {
+            items: _items,
+            places: _places,
+        } = self;
+    }
 }
 
 impl Model for GroundEquations {

@@ -10,12 +10,22 @@ use std::alloc::{AllocError, Global};
 /// The ground part of a disjunct under clauses: its terms, atoms and equations, each once, in the order of the
 /// layers. An argument of a term stands before it. `ends` has the numbers of terms, atoms and equations after
 /// each layer.
-#[derive(Drop)]
 pub struct Ground {
     pub terms: GroundTerms,
     pub atoms: GroundAtoms,
     pub equations: GroundEquations,
     pub ends: LayerEnds,
+}
+
+impl Drop for Ground {
+    fn drop(self) {
+        let Ground {
+            terms: _terms,
+            atoms: _atoms,
+            equations: _equations,
+            ends: _ends,
+        } = self;
+    }
 }
 
 impl Ground {

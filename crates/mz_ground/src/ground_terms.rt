@@ -10,11 +10,19 @@ use std::alloc::{AllocError, Global};
 use std::marker::Model;
 
 /// A list of ground terms.
-#[derive(Drop)]
 pub struct GroundTerms {
     pub items: Vec<GroundTerm>,
     /// Where items stand, by their hashes.
     places: HashPlaces,
+}
+
+impl Drop for GroundTerms {
+    fn drop(self) {
+        let GroundTerms {
+            items: _items,
+            places: _places,
+        } = self;
+    }
 }
 
 impl Model for GroundTerms {

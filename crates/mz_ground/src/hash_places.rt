@@ -9,9 +9,14 @@ use std::alloc::{AllocError, Global};
 use std::collections::HashMap;
 
 /// A place for each hash that was met.
-#[derive(Drop)]
 pub struct HashPlaces {
     places: HashMap<u64, usize>,
+}
+
+impl Drop for HashPlaces {
+    fn drop(self) {
+        let HashPlaces { places: _places } = self;
+    }
 }
 
 impl HashPlaces {

@@ -7,9 +7,14 @@ use std::alloc::{AllocError, Global};
 use std::marker::Model;
 
 /// Lists of places: a place stands in the list that the hash of its head has.
-#[derive(Drop)]
 pub struct HeadPlaces {
     lists: Vec<Places>,
+}
+
+impl Drop for HeadPlaces {
+    fn drop(self) {
+        let HeadPlaces { lists: _lists } = self;
+    }
 }
 
 impl Model for HeadPlaces {

@@ -13,9 +13,14 @@ pub struct LayerEnd {
 }
 
 /// A list of ends of layers.
-#[derive(Drop)]
 pub struct LayerEnds {
     pub items: Vec<LayerEnd>,
+}
+
+impl Drop for LayerEnds {
+    fn drop(self) {
+        let LayerEnds { items: _items } = self;
+    }
 }
 
 impl Model for LayerEnds {

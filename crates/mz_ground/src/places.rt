@@ -5,9 +5,14 @@ use std::alloc::{AllocError, Global};
 use std::marker::Model;
 
 /// A list of places in the list of ground terms, from 0.
-#[derive(Drop)]
 pub struct Places {
     pub items: Vec<usize>,
+}
+
+impl Drop for Places {
+    fn drop(self) {
+        let Places { items: _items } = self;
+    }
 }
 
 impl Model for Places {

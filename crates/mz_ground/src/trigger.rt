@@ -9,10 +9,18 @@ use std::alloc::{AllocError, Global};
 
 /// What has to stand in the ground part before an instance of a clause is made: a term or an atom, in which
 /// `Bound(i)` below the number of the clause's variables is a variable.
-#[derive(Drop)]
 pub enum Trigger {
     Term(Term),
     Atom(Sym, Terms),
+}
+
+impl Drop for Trigger {
+    fn drop(self) {
+        match self {
+            Trigger::Term(_term) => {}
+            Trigger::Atom(_sym, _terms) => {}
+        }
+    }
 }
 
 impl Trigger {

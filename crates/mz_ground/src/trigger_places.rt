@@ -17,13 +17,24 @@ use std::alloc::{AllocError, Global};
 
 /// The places of the terms and atoms behind one end of layers and before another, by their heads, and those of all of
 /// these terms.
-#[derive(Drop)]
 pub struct TriggerPlaces {
     pub start: LayerEnd,
     pub end: LayerEnd,
     pub all: Places,
     pub terms: HeadPlaces,
     pub atoms: HeadPlaces,
+}
+
+impl Drop for TriggerPlaces {
+    fn drop(self) {
+        let TriggerPlaces {
+            start: _start,
+            end: _end,
+            all: _all,
+            terms: _terms,
+            atoms: _atoms,
+        } = self;
+    }
 }
 
 impl TriggerPlaces {

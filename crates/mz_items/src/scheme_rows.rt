@@ -44,7 +44,7 @@ fn push_letter_types(
             out.push(letter_type(alloc, *s, places, ty)?)?;
             push_letter_types(alloc, out, others)
         }
-        [SchemeLetter::OfPredicate(_, _), others @ ..] => push_letter_types(alloc, out, others),
+        [SchemeLetter::OfPredicate(..), others @ ..] => push_letter_types(alloc, out, others),
     }
 }
 

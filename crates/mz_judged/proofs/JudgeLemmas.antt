@@ -8,16 +8,21 @@ use Rattle.mz_nf.specs.declared.problem.Problem.{Problem}
 use Rattle.mz_ground.specs.declared.clause.Clause.{Clause}
 use Rattle.mz_by.specs.Verdict.{IsVerdict}
 use Rattle.mz_by.specs.declared.by.ByVerdict.{ByVerdict}
+use Rattle.mz_obligations.specs.declared.obligation.Duty.TheVariants.{By, From}
 use Rattle.mz_obligations.specs.declared.obligation.Obligation.{Obligation}
-use Rattle.mz_judged.specs.Judged.{clauses_for, Decides, told, IsJudged, judged, AreJudged, no_obligations, met, unmet}
+use Rattle.mz_obligations.specs.declared.obligation.SchemeVerdict.{SchemeVerdict}
+use Rattle.mz_judged.specs.Judged.{told, scheme_told, IsJudged, decided, followed, AreJudged, no_obligations, met, unmet}
 use Rattle.mz_judged.specs.Found.{Found, is_found, fault_in, AreFound}
 
 pub without_others : (p : Problem) (cs others : List Clause) (n : ℕ) (r : Result ByVerdict AllocError) → others ≡ [] → IfOk r (IsVerdict p (take n cs)) → IfOk r (IsVerdict p (take n cs ++ others))
 without_others p cs others n (Ok v) e h = subst (λ xs. IsVerdict p xs v) (sym (append-nil (take n cs)) ∙ ap (λ ys. take n cs ++ ys) (sym e)) h
 without_others p cs others n (Err x) e h = tt
 
-pub judged_so : (cs : List Clause) (o : Obligation) (v : ByVerdict) (f : Option Fault) → Decides (clauses_for cs o) o.duty v → f ≡ told o.place v → IsJudged cs o f
-judged_so cs o v f h e = subst (IsJudged cs o) (sym e) (judged v h)
+pub decided_so : (cs : List Clause) (o : Obligation) (p : Problem) (v : ByVerdict) (f : Option Fault) → o.duty ≡ By p → IsVerdict p (take o.extent.clauses cs ++ o.letters) v → f ≡ told o.place v → IsJudged cs o f
+decided_so cs o p v f d h e = subst (IsJudged cs o) (sym e) (decided p v d h)
+
+pub followed_so : (cs : List Clause) (o : Obligation) (v : SchemeVerdict) (f : Option Fault) → o.duty ≡ From v → f ≡ scheme_told o.place v → IsJudged cs o f
+followed_so cs o v f d e = subst (IsJudged cs o) (sym e) (followed v d)
 
 false_true : false ≡ true → ⊥
 false_true e = cc

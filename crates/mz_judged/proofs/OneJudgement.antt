@@ -1,20 +1,35 @@
 -- Obligations have one list of faults at most.
-use Rattle.std.proofs.Common.{◌≡◌, List, ◌∷◌, refl, ap, Option, Some, None}
+use Rattle.std.proofs.Common.{◌≡◌, List, ◌∷◌, refl, sym, ap, ◌∙◌, subst, Option, Some, None}
 use Rattle.mz_core.specs.declared.fault.Fault.{Fault}
 use Rattle.mz_ground.specs.declared.clause.Clause.{Clause}
+use Rattle.mz_nf.specs.declared.problem.Problem.{Problem}
+use Rattle.mz_by.specs.Verdict.{IsVerdict}
 use Rattle.mz_by.specs.declared.by.ByVerdict.{ByVerdict}
 use Rattle.mz_by.proofs.OneVerdict.{one_verdict}
-use Rattle.mz_obligations.specs.declared.obligation.Duty.{Duty}
-use Rattle.mz_obligations.specs.declared.obligation.Duty.TheVariants.{By}
+use Rattle.mz_obligations.specs.Done.{clauses_for}
+use Rattle.mz_obligations.specs.declared.obligation.Duty.TheVariants.{By, From}
 use Rattle.mz_obligations.specs.declared.obligation.Obligation.{Obligation}
-use Rattle.mz_judged.specs.Judged.{clauses_for, Decides, told, IsJudged, judged, AreJudged, no_obligations, met, unmet}
+use Rattle.mz_obligations.specs.declared.obligation.SchemeVerdict.{SchemeVerdict}
+use Rattle.mz_judged.specs.Judged.{told, scheme_told, IsJudged, decided, followed, AreJudged, no_obligations, met, unmet}
 use Rattle.mz_judged.specs.Laws.{OneJudgementLaw}
 
-one_decision : (cs : List Clause) (d : Duty) (v w : ByVerdict) → Decides cs d v → Decides cs d w → v ≡ w
-one_decision cs (By p) v w h k = one_verdict p cs v w h k
+by_or_from : (p : Problem) (v : SchemeVerdict) → By p ≡ From v → ⊥
+by_or_from p v e = cc
+
+same_problem : (p q : Problem) → By p ≡ By q → p ≡ q
+same_problem p q e = cc
+
+same_verdict : (v w : SchemeVerdict) → From v ≡ From w → v ≡ w
+same_verdict v w e = cc
+
+one_decision : (cs : List Clause) (p q : Problem) (v w : ByVerdict) → p ≡ q → IsVerdict p cs v → IsVerdict q cs w → v ≡ w
+one_decision cs p q v w e h k = one_verdict q cs v w (subst (λ x. IsVerdict x cs v) e h) k
 
 one_fault : {cs : List Clause} {o : Obligation} {f g : Option Fault} → IsJudged cs o f → IsJudged cs o g → f ≡ g
-one_fault {cs} {o} (judged v h) (judged w k) = ap (told o.place) (one_decision (clauses_for cs o) o.duty v w h k)
+one_fault {cs} {o} (decided p v d h) (decided q w e k) = ap (told o.place) (one_decision (clauses_for cs o) p q v w (same_problem p q (sym d ∙ e)) h k)
+one_fault {cs} {o} (decided p v d h) (followed w e) = absurd (by_or_from p w (sym d ∙ e))
+one_fault {cs} {o} (followed v d) (decided q w e k) = absurd (by_or_from q v (sym e ∙ d))
+one_fault {cs} {o} (followed v d) (followed w e) = ap (scheme_told o.place) (same_verdict v w (sym d ∙ e))
 
 none_or_some : (f : Fault) → None ≡ Some f → ⊥
 none_or_some f e = cc

@@ -1,9 +1,10 @@
 //! One obligation judged.
 ghost use Rattle.std.specs.Prelude.{◌≡◌, ◌++◌, IfOk, OnOk, take};
 ghost use Rattle.mz_by.specs.Verdict.{IsVerdict};
-ghost use Rattle.mz_judged.specs.Judged.{clauses_for, Decides, IsJudged};
+ghost use Rattle.mz_obligations.specs.declared.obligation.Duty.TheVariants.{By};
+ghost use Rattle.mz_judged.specs.Judged.{IsJudged};
 
-use crate::told::told;
+use crate::told::{scheme_told, told};
 use mz_by::by::{ByVerdict, by, by_first};
 use mz_core::fault::Fault;
 use mz_ground::clause::Clause;
@@ -55,28 +56,29 @@ fn decide_by(
     by(alloc, problem, &all)
 }
 
-/// The verdict on what the obligation has to decide.
-fn decide(
+/// The fault where the obligation's problem isn't closed, by the clauses for it.
+#[tactic(auto, using(crate::proofs::JudgeLemmas::decided_so))]
+fn judge_problem(
     alloc: Global,
     clauses: &Clauses,
     obligation: &Obligation,
-) -> Result<ByVerdict, AllocError>
-    ensures { IfOk result (Decides (clauses_for clauses.now obligation.now) obligation.now.duty) }
+    problem: &Problem,
+) -> Result<Option<Fault>, AllocError>
+    ensures { IfOk result (λ f. obligation.now.duty ≡ By problem.now → IsJudged clauses.now obligation.now f) }
 {
-    match &obligation.duty {
-        Duty::By(problem) => decide_by(
-            alloc,
-            problem,
-            clauses,
-            obligation.extent.clauses,
-            &obligation.letters,
-        ),
-    }
+    let verdict = decide_by(
+        alloc,
+        problem,
+        clauses,
+        obligation.extent.clauses,
+        &obligation.letters,
+    )?;
+    Ok(told(obligation.place, verdict))
 }
 
 /// The fault of an obligation, by the clauses of its article, of which those that stood above its place count; none where
 /// it is met.
-#[tactic(auto, using(crate::proofs::JudgeLemmas::judged_so))]
+#[tactic(auto, using(crate::proofs::JudgeLemmas::followed_so))]
 pub fn judge(
     alloc: Global,
     clauses: &Clauses,
@@ -84,6 +86,8 @@ pub fn judge(
 ) -> Result<Option<Fault>, AllocError>
     ensures { IfOk result (IsJudged clauses.now obligation.now) }
 {
-    let verdict = decide(alloc, clauses, obligation)?;
-    Ok(told(obligation.place, verdict))
+    match &obligation.duty {
+        Duty::By(problem) => judge_problem(alloc, clauses, obligation, problem),
+        Duty::From(verdict) => Ok(scheme_told(obligation.place, *verdict)),
+    }
 }

@@ -32,7 +32,7 @@ pub fn place_of(behind: Place, tree: &SimpleTree) -> Place
 }
 
 /// The word `from`, where the justification is by a scheme.
-fn from_of(tree: &SimpleTree) -> Option<Place>
+pub fn from_of(tree: &SimpleTree) -> Option<Place>
     ensures { result ≡ from_of tree.now }
 {
     match tree {
@@ -43,7 +43,7 @@ fn from_of(tree: &SimpleTree) -> Option<Place>
 }
 
 /// What the justification cites, or the place of the first reference that cites nothing.
-fn cited(
+pub fn cited(
     alloc: Global,
     env: &Environment,
     ctx: &Context,

@@ -14,7 +14,7 @@ use Rattle.mz_cited.specs.Cited.{cites}
 use Rattle.mz_steps.specs.Premises.{in_front, given}
 use Rattle.mz_obligations.specs.Obligations.{IsDuty, obligation_spent}
 use Rattle.mz_obligations.specs.declared.obligation.Duty.{Duty}
-use Rattle.mz_obligations.specs.declared.obligation.Duty.TheVariants.{By}
+use Rattle.mz_obligations.specs.declared.obligation.Duty.TheVariants.{By, From}
 use Rattle.mz_obligations.specs.declared.obligation.Extent.{Extent}
 use Rattle.mz_obligations.specs.declared.obligation.Obligation.{Obligation}
 use Rattle.mz_problem_laws.proofs.OneProblemProofs.{one_problem_law}
@@ -97,6 +97,8 @@ one_ground e c first linked behind t left o p a b h k =
 -- an obligation
 one_duty : (cs : List Clause) (us : List Unfolding) (ks : List (Option Constant)) (ss : List Statement) (s : Statement) (d f : Duty) → IsDuty cs us ks ss s d → IsDuty cs us ks ss s f → d ≡ f
 one_duty cs us ks ss s (By p) (By q) h k = ap By (one_problem_law cs ks us ss s p q h k)
+one_duty cs us ks ss s (By p) (From w) h k = absurd k
+one_duty cs us ks ss s (From v) d h k = absurd h
 
 same_obligation : (o p : Obligation) → o.place ≡ p.place → o.extent ≡ p.extent → o.letters ≡ p.letters → o.duty ≡ p.duty → o ≡ p
 same_obligation o p a b c d = λ i. record { place = a i; extent = b i; letters = c i; duty = d i }

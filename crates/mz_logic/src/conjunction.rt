@@ -12,7 +12,7 @@ pub fn negation(alloc: Global, f: Formula) -> Result<Formula, AllocError>
     ensures { IfOk result (λ g. g ≡ negated f) }
 {
     let binders = f.binders;
-    match f.node {
+    match f.into_node() {
         FormulaNode::Not(g) => Ok(Box::into_inner(g)),
         node => Formula::not(alloc, Formula { node, binders }),
     }

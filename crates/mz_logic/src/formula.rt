@@ -2,6 +2,7 @@
 ghost use Rattle.std.specs.Prelude.{◌≡◌, ◌↔◌, IfOk, IsTrue};
 ghost use Rattle.mz_logic.specs.Formula.{Formula, Truth, Eq, Atom, Not, And, All};
 ghost use Rattle.mz_logic.specs.FormulaStorage.{binders_of};
+ghost use Rattle.mz_logic.specs.FormulaView.{formula_of};
 
 use crate::sym::Sym;
 use crate::term::{Term, Terms};
@@ -11,10 +12,18 @@ use std::marker::Model;
 /// A formula of first-order logic. `binders` is how deep its quantifiers nest, so that a call which
 /// takes no memory may count those it goes through.
 #[cycle(formula)]
-#[derive(Drop)]
 pub struct Formula {
     pub node: FormulaNode,
     pub binders: u32,
+}
+
+impl Drop for Formula {
+    fn drop(self) {
+        let Formula {
+            node: _node,
+            binders: _binders,
+        } = self;
+    }
 }
 
 /// The forms of a formula: truth, an equation, a symbol with its arguments, a negation, a
@@ -118,6 +127,17 @@ impl Formula {
             node: FormulaNode::All(f),
             binders,
         })
+    }
+
+    /// The form of a formula that is given up.
+    pub fn into_node(self) -> FormulaNode
+        ensures { formula_of result ≡ self }
+    {
+        let Formula {
+            node,
+            binders: _binders,
+        } = self;
+        node
     }
 
     /// An equal formula.

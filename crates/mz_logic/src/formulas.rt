@@ -10,9 +10,14 @@ use std::alloc::{AllocError, Global};
 use std::marker::Model;
 
 /// A list of formulas.
-#[derive(Drop)]
 pub struct Formulas {
     pub items: Vec<Formula>,
+}
+
+impl Drop for Formulas {
+    fn drop(self) {
+        let Formulas { items: _items } = self;
+    }
 }
 
 impl Model for Formulas {
@@ -36,6 +41,14 @@ impl Formulas {
         Formulas {
             items: Vec::new(alloc),
         }
+    }
+
+    /// The formulas of a list that is given up.
+    pub fn into_items(self) -> Vec<Formula>
+        ensures { result.items ≡ self }
+    {
+        let Formulas { items } = self;
+        items
     }
 
     /// How many there are.

@@ -17,17 +17,30 @@ pub enum Body {
 }
 
 /// A letter and its body.
-#[derive(Drop)]
 pub struct Letter {
     pub letter: Sym,
     pub body: Body,
 }
 
+impl Drop for Letter {
+    fn drop(self) {
+        let Letter {
+            letter: _letter,
+            body: _body,
+        } = self;
+    }
+}
+
 /// Letters and their bodies. The first entry of a letter counts, and an entry of a symbol that is no
 /// letter stands for nothing.
-#[derive(Drop)]
 pub struct Letters {
     pub items: Vec<Letter>,
+}
+
+impl Drop for Letters {
+    fn drop(self) {
+        let Letters { items: _items } = self;
+    }
 }
 
 impl Model for Letters {

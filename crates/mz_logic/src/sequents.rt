@@ -6,9 +6,14 @@ use std::alloc::{AllocError, Global};
 use std::marker::Model;
 
 /// A list of sequents.
-#[derive(Drop)]
 pub struct Sequents {
     pub items: Vec<Sequent>,
+}
+
+impl Drop for Sequents {
+    fn drop(self) {
+        let Sequents { items: _items } = self;
+    }
 }
 
 impl Model for Sequents {

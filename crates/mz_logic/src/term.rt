@@ -8,9 +8,15 @@ use std::marker::Model;
 
 /// A term of first-order logic.
 #[cycle(term)]
-#[derive(Drop)]
 pub struct Term {
     pub node: TermNode,
+}
+
+impl Drop for Term {
+    #[cycle(let_go)]
+    fn drop(self) {
+        let Term { node: _node } = self;
+    }
 }
 
 /// The forms of a term: the index of a binder, from 0 for the innermost; a constant, by its number;
@@ -25,9 +31,15 @@ pub enum TermNode {
 
 /// A list of terms, as the arguments of a symbol.
 #[cycle(term)]
-#[derive(Drop)]
 pub struct Terms {
     pub items: Vec<Term>,
+}
+
+impl Drop for Terms {
+    #[cycle(let_go)]
+    fn drop(self) {
+        let Terms { items: _items } = self;
+    }
 }
 
 impl Model for Term {
@@ -154,6 +166,14 @@ impl Terms {
         Terms {
             items: Vec::new(alloc),
         }
+    }
+
+    /// The terms of a list that is given up.
+    pub fn into_items(self) -> Vec<Term>
+        ensures { result.items ≡ self }
+    {
+        let Terms { items } = self;
+        items
     }
 
     /// How many there are.

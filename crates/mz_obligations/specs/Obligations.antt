@@ -8,13 +8,14 @@ use Rattle.mz_ground.specs.declared.clause.Clause.{Clause}
 use Rattle.mz_environment.specs.declared.unfoldings.Unfolding.{Unfolding}
 use Rattle.mz_problem.specs.Asked.{Asks}
 use Rattle.mz_obligations.specs.declared.obligation.Duty.{Duty}
-use Rattle.mz_obligations.specs.declared.obligation.Duty.TheVariants.{By}
+use Rattle.mz_obligations.specs.declared.obligation.Duty.TheVariants.{By, From}
 use Rattle.mz_obligations.specs.declared.obligation.Obligation.{Obligation}
 use Rattle.mz_obligations.specs.declared.obligation.Extent.{Extent}
 
--- the duty is the problem of the statement by what is given
+-- the duty is the problem of the statement by what is given, and no `from`
 abbrev pub IsDuty : List Clause → List Unfolding → List (Option Constant) → List Statement → Statement → Duty → Type 0
 IsDuty cs us ks ss s (By p) = Asks cs ks us ss s p
+IsDuty cs us ks ss s (From v) = ⊥
 
 -- the obligation of a statement at the place, where so much can be used and these are the clauses of the letters in force
 pub record IsObligation (cs : List Clause) (us : List Unfolding) (ks : List (Option Constant)) (ss : List Statement) (s : Statement) (place : Place) (extent : Extent) (letters : List Clause) (o : Obligation) : Type 0 where

@@ -18,10 +18,21 @@ pub struct Extent {
     pub schemes: usize,
 }
 
-/// What is to be decided: a problem, by `by`.
+/// What following a scheme found at a `from`: it fits; it doesn't fit; it has so many premises, and other than that many statements are
+/// cited; or its premise of the number, from 1, isn't what is cited for it.
+#[derive(Clone, Copy, Debug, PartialEq, Eq)]
+pub enum SchemeVerdict {
+    Fits,
+    NoFit,
+    PremiseCount(u64),
+    PremiseNoFit(u64),
+}
+
+/// What is to be decided: a problem, by `by`; or a `from`, whose verdict was found at its place.
 #[derive(Drop)]
 pub enum Duty {
     By(Problem),
+    From(SchemeVerdict),
 }
 
 /// What has to be decided for a justification, by what stood above its place and the clauses of the scheme letters that

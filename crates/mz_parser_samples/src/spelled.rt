@@ -4,7 +4,7 @@ use crate::marked::{BEFORE, Marked};
 use mz_base::token::MarkedToken;
 use mz_forms::refusal::Refusal;
 use mz_pterm::parse::{ParseFault, fault};
-use mz_tree::tree::Spell;
+use mz_tree_spelling::tree::Spell;
 use std::alloc::{AllocError, Global};
 
 /// What the tree is spelled by.

@@ -1,23 +1,17 @@
-//! Tests of the parser of expressions.
+//! Tokens, and what the parsers make of them, worked out by hand.
 #![tactic(auto)]
 
 #[cfg(test)]
-mod chains;
-#[cfg(test)]
-mod depths;
+mod articles;
 #[cfg(test)]
 mod expressions;
 #[cfg(test)]
-mod fields;
+mod items;
 #[cfg(test)]
-mod lists;
+mod parts;
 #[cfg(test)]
-mod long;
+mod patterns;
 #[cfg(test)]
-mod terms;
+mod reasonings;
 #[cfg(test)]
-mod texts;
-#[cfg(test)]
-mod types;
-#[cfg(test)]
-mod units;
+mod tokens;

@@ -21,6 +21,8 @@ use Rattle.mz_tree_proof.specs.declared.propositions.PropositionTree.{Propositio
 use Rattle.mz_obligations.specs.declared.obligation.Extent.{Extent}
 use Rattle.mz_parts.specs.Joined.{joined_within}
 use Rattle.mz_parts.specs.Propositions.{PropositionsRead, hypotheses_in}
+use Rattle.mz_justified.specs.declared.proof_fault.ProofFault.{ProofFault}
+use Rattle.mz_justified.specs.declared.proof_fault.ProofFault.TheVariants.{Refused as FaultRefused, Memory}
 use Rattle.mz_justified.specs.declared.proof_fault.ProofRefusal.{ProofRefusal}
 use Rattle.mz_justified.specs.declared.proof_fault.ProofRefusal.TheVariants.{Resolve}
 use Rattle.mz_walk.specs.declared.compact.Compact.{Compact}
@@ -56,10 +58,15 @@ pub record IsBegun (e : Environment) (c : Context) (b : Block) (first : Place) (
   pub acts : Acts (typing e c) e.steps b c x.step (Some x.effect)
   pub within : keeps x.effect ≡ true
 
--- or it is refused, whatever justifies it
-abbrev pub Begins : Environment → Context → Block → Place → Bool → Bool → PropositionTree → List EqualityStepTree → Left → Left → Result Begun ProofRefusal → Type 0
-Begins e c b first linked concluded p ks l m (Ok x) = IsBegun e c b first linked concluded p ks l m x
-Begins e c b first linked concluded p ks l m (Err r) = (at : Extent) (j : JustData) (semicolon : Place) → Says e at (state c b l) first linked concluded (StatedCompact p j ks semicolon) (Refused r)
+-- or it is refused
+abbrev pub Begins : Environment → Context → Block → Place → Bool → Bool → PropositionTree → JustData → List EqualityStepTree → Place → Left → Left → Result Begun ProofRefusal → Type 0
+Begins e c b first linked concluded p j ks semicolon l m (Ok x) = IsBegun e c b first linked concluded p ks l m x
+Begins e c b first linked concluded p j ks semicolon l m (Err r) = (at : Extent) → Says e at (state c b l) first linked concluded (StatedCompact p j ks semicolon) (Refused r)
+
+-- the fault that is told in place of another, where a refusal is told as another one; want of memory stays, and may come
+abbrev pub ToldAs : (ProofRefusal → ProofRefusal) → ProofFault → ProofFault → Type 0
+ToldAs told f Memory = Unit {0}
+ToldAs told f (FaultRefused q) = (r : ProofRefusal) × (f ≡ FaultRefused r) × (q ≡ told r)
 
 -- what a case supposes was read, and is stated in the context d; its conjunction is put behind those of other cases
 pub record IsSupposed (e : Environment) (c d : Context) (first : Place) (h : HypothesesTree) (l m : Left) (old new : List Statement) (o : Outside) : Type 0 where

@@ -43,7 +43,7 @@ pub fn state_case(
 
 /// The disjunction of what all cases suppose, grouped to the left; contradiction where there is no case. `TooLarge` at the place.
 #[tactic(auto, using(crate::proofs::CaseLemmas::disjunction_rules))]
-fn disjunction_of(
+pub fn disjunction_of(
     alloc: Global,
     first: Place,
     suppositions: Statements,

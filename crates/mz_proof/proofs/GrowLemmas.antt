@@ -48,7 +48,7 @@ use Rattle.mz_walk.specs.Introductions.{Considers, Retypes, Reconsiders, SetsOne
 use Rattle.mz_walk.specs.Walk as wa
 use Rattle.mz_walk.specs.Walk.{Says, SaysNow, States, Goes, Splits, GoesAll}
 use Rattle.mz_performing.specs.Blocks.{restored}
-use Rattle.mz_proof.specs.Grown.{Grows}
+use Rattle.mz_context.specs.Grown.{Grew}
 
 -- a list is itself and nothing more
 itself : {X : Type 0} (xs : List X) → (ys : List X) × (xs ≡ xs ++ ys)
@@ -57,13 +57,14 @@ itself xs = ([], sym (append-nil xs))
 further : {X : Type 0} (xs ys zs : List X) → (us : List X) × (ys ≡ xs ++ us) → (vs : List X) × (zs ≡ ys ++ vs) → (ws : List X) × (zs ≡ xs ++ ws)
 further xs ys zs p q = (p.0 ++ q.0, q.1 ∙ (ap (λ ys. ys ++ q.0) p.1 ∙ append_assoc xs p.0 q.0))
 
-pub grows_more : (c d e : Context) → Grows c d → Grows d e → Grows c e
+pub grows_more : (c d e : Context) → Grew c d → Grew d e → Grew c e
 grows_more c d e g h = record {
   article = h.article ∙ g.article;
   counts = h.counts ∙ g.counts;
   constants = further c.constants d.constants e.constants g.constants h.constants;
   reserved = further c.reserved d.reserved e.reserved g.reserved h.reserved;
   labelled = further c.labelled d.labelled e.labelled g.labelled h.labelled;
+  schemes = h.schemes ∙ g.schemes;
   functors = further c.functors d.functors e.functors g.functors h.functors;
   predicates = further c.predicates d.predicates e.predicates g.predicates h.predicates;
   letters = further c.letters d.letters e.letters g.letters h.letters;
@@ -72,13 +73,14 @@ grows_more c d e g h = record {
   subject = h.subject ∙ g.subject;
 }
 
-pub grows_itself : (c : Context) → Grows c c
+pub grows_itself : (c : Context) → Grew c c
 grows_itself c = record {
   article = refl;
   counts = refl;
   constants = itself c.constants;
   reserved = itself c.reserved;
   labelled = itself c.labelled;
+  schemes = refl;
   functors = itself c.functors;
   predicates = itself c.predicates;
   letters = itself c.letters;
@@ -87,13 +89,14 @@ grows_itself c = record {
   subject = refl;
 }
 
-pub grows_constant : (c : Context) (k : Constant) → Grows c (with_constant c k)
+pub grows_constant : (c : Context) (k : Constant) → Grew c (with_constant c k)
 grows_constant c k = record {
   article = refl;
   counts = refl;
   constants = (Some k ∷ [], refl);
   reserved = itself c.reserved;
   labelled = itself c.labelled;
+  schemes = refl;
   functors = itself c.functors;
   predicates = itself c.predicates;
   letters = itself c.letters;
@@ -102,11 +105,11 @@ grows_constant c k = record {
   subject = refl;
 }
 
-pub grows_variables : (c : Context) (vs : List Variable) → Grows c (with_variables c vs)
+pub grows_variables : (c : Context) (vs : List Variable) → Grew c (with_variables c vs)
 grows_variables c [] = grows_itself c
 grows_variables c (v ∷ vs) = grows_more c (with_constant c (constant_of v)) (with_variables (with_constant c (constant_of v)) vs) (grows_constant c (constant_of v)) (grows_variables (with_constant c (constant_of v)) vs)
 
-grows_constants : (c : Context) (s : ReadStep) → Grows c (with_constants c s)
+grows_constants : (c : Context) (s : ReadStep) → Grew c (with_constants c s)
 grows_constants c (Let v) = grows_constant c (constant_of v)
 grows_constants c (Assume s) = grows_itself c
 grows_constants c (Given vs s) = grows_variables c vs
@@ -117,13 +120,14 @@ grows_constants c (Reconsider d) = grows_constant c (constant_for d)
 grows_constants c (Set d) = grows_constant c (constant_for d)
 grows_constants c (Stated s) = grows_itself c
 
-grows_left : (c : Context) (s : Statement) → Grows c (with_thesis c (Leaves s))
+grows_left : (c : Context) (s : Statement) → Grew c (with_thesis c (Leaves s))
 grows_left c s = record {
   article = refl;
   counts = refl;
   constants = itself c.constants;
   reserved = itself c.reserved;
   labelled = itself c.labelled;
+  schemes = refl;
   functors = itself c.functors;
   predicates = itself c.predicates;
   letters = itself c.letters;
@@ -132,18 +136,19 @@ grows_left c s = record {
   subject = refl;
 }
 
-grows_thesis : (c : Context) (e : Effect) → Grows c (with_thesis c e)
+grows_thesis : (c : Context) (e : Effect) → Grew c (with_thesis c e)
 grows_thesis c Unchanged = grows_itself c
 grows_thesis c (Leaves s) = grows_left c s
 grows_thesis c (SaysParts ps) = grows_itself c
 
-pub grows_stated : (c : Context) (ps : List LabelledStatement) → Grows c (with_stated c ps)
+pub grows_stated : (c : Context) (ps : List LabelledStatement) → Grew c (with_stated c ps)
 grows_stated c ps = record {
   article = refl;
   counts = refl;
   constants = itself c.constants;
   reserved = itself c.reserved;
   labelled = (flat_map label_of ps, refl);
+  schemes = refl;
   functors = itself c.functors;
   predicates = itself c.predicates;
   letters = itself c.letters;
@@ -152,17 +157,18 @@ grows_stated c ps = record {
   subject = refl;
 }
 
-pub grows_after : (c : Context) (r : ReadStep) (a : Effect) (ps : List LabelledStatement) → Grows c (context_after c r a ps)
+pub grows_after : (c : Context) (r : ReadStep) (a : Effect) (ps : List LabelledStatement) → Grew c (context_after c r a ps)
 grows_after c r a ps =
     grows_more c (with_thesis (with_constants c r) a) (context_after c r a ps) (grows_more c (with_constants c r) (with_thesis (with_constants c r) a) (grows_constants c r) (grows_thesis (with_constants c r) a)) (grows_stated (with_thesis (with_constants c r) a) ps)
 
-pub grows_into_proof : (c : Context) (vs : List Variable) (thesis : Statement) → Grows c (at_start_of_proof (with_variables c vs) thesis)
+pub grows_into_proof : (c : Context) (vs : List Variable) (thesis : Statement) → Grew c (at_start_of_proof (with_variables c vs) thesis)
 grows_into_proof c vs thesis = let g = grows_variables c vs in record {
   article = g.article;
   counts = g.counts;
   constants = g.constants;
   reserved = g.reserved;
   labelled = g.labelled;
+  schemes = g.schemes;
   functors = g.functors;
   predicates = g.predicates;
   letters = g.letters;
@@ -171,13 +177,14 @@ grows_into_proof c vs thesis = let g = grows_variables c vs in record {
   subject = g.subject;
 }
 
-pub grows_into_now : (c : Context) → Grows c (at_start_of_now c)
+pub grows_into_now : (c : Context) → Grew c (at_start_of_now c)
 grows_into_now c = let g = grows_itself c in record {
   article = g.article;
   counts = g.counts;
   constants = g.constants;
   reserved = g.reserved;
   labelled = g.labelled;
+  schemes = g.schemes;
   functors = g.functors;
   predicates = g.predicates;
   letters = g.letters;
@@ -195,7 +202,7 @@ take-took (x ∷ xs) ys = ap (λ zs. x ∷ zs) (take-took xs ys)
 take-cut : {X : Type 0} (xs zs : List X) → (ys : List X) × (zs ≡ xs ++ ys) → take (length xs) zs ≡ xs
 take-cut xs zs p = ap (take (length xs)) p.1 ∙ take-took xs p.0
 
-pub restored-grown : (c d : Context) → Grows c d → restored d (outside_of c) ≡ c
+pub restored-grown : (c d : Context) → Grew c d → restored d (outside_of c) ≡ c
 restored-grown c d g =
     let constants = take-cut c.constants d.constants g.constants in
     let reserved = take-cut c.reserved d.reserved g.reserved in
@@ -210,6 +217,7 @@ restored-grown c d g =
       reserved = reserved i;
       labelled = labelled i;
       previous = c.previous;
+      schemes = g.schemes i;
       functors = functors i;
       predicates = predicates i;
       letters = letters i;
@@ -221,11 +229,11 @@ restored-grown c d g =
 
 -- where a walk goes on, its context has grown
 abbrev pub GrowsTo : Context → Result State ProofRefusal → Type 0
-GrowsTo c (Ok t) = Grows c t.context
+GrowsTo c (Ok t) = Grew c t.context
 GrowsTo c (Err r) = Unit {0}
 
 abbrev pub GrowsIn : Context → Walked State → Type 0
-GrowsIn c (Made os t) = Grows c t.context
+GrowsIn c (Made os t) = Grew c t.context
 GrowsIn c (Refused r) = Unit {0}
 
 performs_grow : (e : Environment) (first : Place) (s : State) (r : ReadStep) (ps : List LabelledStatement) (o : Result State ProofRefusal) → Performs e first s r ps o → GrowsTo s.context o
@@ -233,7 +241,7 @@ performs_grow e first s r ps _ (pf.unfit h) = tt
 performs_grow e first s r ps _ (pf.beyond a h k) = tt
 performs_grow e first s r ps _ (pf.performed a h k) = grows_after s.context r a ps
 
-then_grows : (c d : Context) (o : Result State ProofRefusal) → Grows c d → GrowsTo d o → GrowsTo c o
+then_grows : (c d : Context) (o : Result State ProofRefusal) → Grew c d → GrowsTo d o → GrowsTo c o
 then_grows c d (Ok t) g h = grows_more c d t.context g h
 then_grows c d (Err r) g h = tt
 
@@ -248,14 +256,14 @@ stating_grows s ps (Err r) = tt
 
 -- `let`
 abbrev GrowsLet : Context → Result Letting ProofRefusal → Type 0
-GrowsLet c (Ok t) = Grows c t.state.context
+GrowsLet c (Ok t) = Grew c t.state.context
 GrowsLet c (Err r) = Unit {0}
 
 let_then : (c : Context) (ws : List Word) (o : Result State ProofRefusal) → GrowsTo c o → GrowsLet c (letting_then ws o)
 let_then c ws (Ok t) g = g
 let_then c ws (Err r) g = tt
 
-let_more : (c d : Context) (o : Result Letting ProofRefusal) → Grows c d → GrowsLet d o → GrowsLet c o
+let_more : (c d : Context) (o : Result Letting ProofRefusal) → Grew c d → GrowsLet d o → GrowsLet c o
 let_more c d (Ok t) g h = grows_more c d t.state.context g h
 let_more c d (Err r) g h = tt
 
@@ -283,14 +291,14 @@ lets_grow e first s ds _ (sk.all_declared t o h k) = then_grows s.context t.stat
 
 -- `assume`
 abbrev GrowsAssume : Context → Result Assuming ProofRefusal → Type 0
-GrowsAssume c (Ok t) = Grows c t.state.context
+GrowsAssume c (Ok t) = Grew c t.state.context
 GrowsAssume c (Err r) = Unit {0}
 
 assume_then : (c : Context) (ps : List LabelledStatement) (o : Result State ProofRefusal) → GrowsTo c o → GrowsAssume c (assuming_then ps o)
 assume_then c ps (Ok t) g = g
 assume_then c ps (Err r) g = tt
 
-assume_more : (c d : Context) (o : Result Assuming ProofRefusal) → Grows c d → GrowsAssume d o → GrowsAssume c o
+assume_more : (c d : Context) (o : Result Assuming ProofRefusal) → Grew c d → GrowsAssume d o → GrowsAssume c o
 assume_more c d (Ok t) g h = grows_more c d t.state.context g h
 assume_more c d (Err r) g h = tt
 
@@ -376,7 +384,7 @@ introduces_grow e at first s _ _ (it.private_functor t) = tt
 introduces_grow e at first s _ _ (it.private_predicate t) = tt
 
 -- the walk
-led_grows : (c : Context) (u : State) (os : List Obligation) (o : Walked Left) → Grows c u.context → GrowsIn c (led_to u (behind os o))
+led_grows : (c : Context) (u : State) (os : List Obligation) (o : Walked Left) → Grew c u.context → GrowsIn c (led_to u (behind os o))
 led_grows c u os (Made ps l) g = g
 led_grows c u os (Refused r) g = tt
 
@@ -398,13 +406,14 @@ states_grow e at _ _ _ _ (wa.says s first then t o h) = says_grow e at s first _
 states_grow e at _ _ _ _ (wa.says_now s first p end semicolon label ds o h) = says_now_grow e at s first false _ ds o h
 states_grow e at _ _ _ _ (wa.introduces s first t o h) = introduces_grow e at first s t o h
 
-split_grows : (c : Context) → Grows c (record c { thesis = Some Truth; previous = None })
+split_grows : (c : Context) → Grew c (record c { thesis = Some Truth; previous = None })
 split_grows c = let g = grows_itself c in record {
   article = g.article;
   counts = g.counts;
   constants = g.constants;
   reserved = g.reserved;
   labelled = g.labelled;
+  schemes = g.schemes;
   functors = g.functors;
   predicates = g.predicates;
   letters = g.letters;
@@ -414,10 +423,11 @@ split_grows c = let g = grows_itself c in record {
 }
 
 splits_grow : (e : Environment) (at : Extent) (s : State) (first : Place) (t : SplitTree) (us : SupposeList) (o : Walked State) → Splits e at s first t us o → GrowsIn s.context o
-splits_grow e at _ _ _ _ _ (wa.not_grounded s first t us r l h) = tt
-splits_grow e at _ _ _ _ _ (wa.cases_stopped s first t us given l r h k) = tt
-splits_grow e at _ _ _ _ _ (wa.cases_too_large s first t us given l os x r h k y) = tt
-splits_grow e at _ _ _ _ _ (wa.split s first t us given l os x y o h k z w) = split_grows s.context
+splits_grow e at _ _ _ _ _ (wa.foreseen s first t us r a) = tt
+splits_grow e at _ _ _ _ _ (wa.not_grounded s first t us r l a h) = tt
+splits_grow e at _ _ _ _ _ (wa.cases_stopped s first t us given l r a h k) = tt
+splits_grow e at _ _ _ _ _ (wa.cases_too_large s first t us given l os x r a h k y) = tt
+splits_grow e at _ _ _ _ _ (wa.split s first t us given l os x y o a h k z w) = split_grows s.context
 
 goes_grow : (e : Environment) (at : Extent) (s : State) (first : Place) (d : StepData) (o : Walked State) → Goes e at s first d o → GrowsIn s.context o
 goes_grow e at _ _ _ _ (wa.states s first t o h) = states_grow e at s first t o h
@@ -428,7 +438,7 @@ goes_grow e at _ _ _ _ (wa.steps_on s first t o h) = without_grows s.context o (
 goes_grow e at _ _ _ _ (wa.split_in_now s first t u us h) = tt
 goes_grow e at _ _ _ _ (wa.splits s first t u us o h k) = splits_grow e at s first t _ o k
 
-behind_more_grows : (c d : Context) (os : List Obligation) (o : Walked State) → Grows c d → GrowsIn d o → GrowsIn c (behind os o)
+behind_more_grows : (c d : Context) (os : List Obligation) (o : Walked State) → Grew c d → GrowsIn d o → GrowsIn c (behind os o)
 behind_more_grows c d os (Made ps t) g h = grows_more c d t.context g h
 behind_more_grows c d os (Refused r) g h = tt
 

@@ -26,7 +26,7 @@ use Rattle.mz_justified.specs.declared.proof_fault.ProofRefusal.TheVariants.{The
 use Rattle.mz_walk.specs.Walked.{state, Made, Refused}
 use Rattle.mz_walk.specs.Walk.{is_proved, Justifies, Proves, GoesAll}
 use Rattle.mz_performing.specs.Blocks.{restored}
-use Rattle.mz_proof.specs.Grown.{Grows}
+use Rattle.mz_context.specs.Grown.{Grew}
 use Rattle.mz_proof.proofs.GrowLemmas.{grows_more, grows_into_proof, restored-grown, goes_all_grow}
 
 -- by references
@@ -58,9 +58,9 @@ told_by_proof {X} e at c d first behind p end linked tree ds x l m os ps y z et 
 pub made_so : {X E P : Type 0} (y : Result X E) (z : X) → y ≡ Ok z → OnOk y P → P
 made_so {X} {E} {P} y z e h = subst (λ w. OnOk w P) e h
 
-pub told_back : {X : Type 0} (c d f g : Context) (x : Sentence) (o : Outside) (y : Result X ProofFault) (z : X) → d ≡ at_start_of_proof (with_variables c x.variables) x.inner → o ≡ outside_of c → OnOk y (Grows d f) → y ≡ Ok z → g ≡ restored f o → g ≡ c
+pub told_back : {X : Type 0} (c d f g : Context) (x : Sentence) (o : Outside) (y : Result X ProofFault) (z : X) → d ≡ at_start_of_proof (with_variables c x.variables) x.inner → o ≡ outside_of c → OnOk y (Grew d f) → y ≡ Ok z → g ≡ restored f o → g ≡ c
 told_back c d f g x o y z ed eo h ey eg =
-    let into : Grows c d = subst (Grows c) (sym ed) (grows_into_proof c x.variables x.inner) in
+    let into : Grew c d = subst (Grew c) (sym ed) (grows_into_proof c x.variables x.inner) in
     eg ∙ (ap (restored f) eo ∙ restored-grown c f (grows_more c d f into (made_so y z ey h)))
 
 -- proofs
@@ -85,7 +85,7 @@ told_proved {X} e at c d b f ds end l m os ps y z k eb h ey ek e1 =
     let g : IsBrought (λ qs. GoesAll e at (state c Proof l) ds (Made qs (state d f m))) os ps = on_ok P y z ey (subst (λ w. OnMade y (Brings (GoesAll e at (state c w l) ds) (state d f m) os ps)) eb h) in
     record { made = g.made; is_made = wa.proved c ds end l g.made (state d f m) g.is_made (sym ek ∙ e1); are_last = g.are_last }
 
-pub told_grown : {X : Type 0} (e : Environment) (at : Extent) (c d : Context) (b f : Block) (ds : StepList) (l m : Left) (os ps : List Obligation) (y : Result X ProofFault) (z : X) → OnMade y (Brings (GoesAll e at (state c b l) ds) (state d f m) os ps) → y ≡ Ok z → Grows c d
+pub told_grown : {X : Type 0} (e : Environment) (at : Extent) (c d : Context) (b f : Block) (ds : StepList) (l m : Left) (os ps : List Obligation) (y : Result X ProofFault) (z : X) → OnMade y (Brings (GoesAll e at (state c b l) ds) (state d f m) os ps) → y ≡ Ok z → Grew c d
 told_grown {X} e at c d b f ds l m os ps y z h ey =
     let P : Result X ProofRefusal → Type 0 = Brings (GoesAll e at (state c b l) ds) (state d f m) os ps in
     let g : IsBrought (λ qs. GoesAll e at (state c b l) ds (Made qs (state d f m))) os ps = on_ok P y z ey h in

@@ -5,4 +5,5 @@ pub mod JustifyLemmas
 pub mod SayLemmas
 pub mod StepLemmas
 pub mod SplitLemmas
+pub mod AheadLemmas
 pub mod ProvingLemmas

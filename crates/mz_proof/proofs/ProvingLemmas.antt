@@ -23,7 +23,7 @@ use Rattle.mz_tree_proof.specs.SpellReasoning.{spell_statement}
 use Rattle.mz_walk.specs.Walked.{state, Made}
 use Rattle.mz_walk.specs.Walk.{Proves, States}
 use Rattle.mz_performing.specs.Blocks.{restored}
-use Rattle.mz_proof.specs.Grown.{Grows}
+use Rattle.mz_context.specs.Grown.{Grew}
 use Rattle.mz_proof.proofs.ProofBlockLemmas.{states_proof}
 use Rattle.mz_proof.proofs.JustifyLemmas.{made_so}
 use Rattle.mz_proof.proofs.GrowLemmas.{grows_more, grows_into_proof, restored-grown}
@@ -42,9 +42,9 @@ told_proved {X} e at c d thesis copy ds end l m os ps y z et ed h ey =
     let P : Result X ProofRefusal → Type 0 = Brings (Proves e at (at_start_of_proof c thesis) ds end l) m os ps in
     on_ok P y z ey (subst (λ w. OnMade y (Brings (Proves e at w ds end l) m os ps)) (ed ∙ ap (at_start_of_proof c) et) h)
 
-pub told_back : {X : Type 0} (c d f g : Context) (copy : Statement) (o : Outside) (y : Result X ProofFault) (z : X) → d ≡ at_start_of_proof c copy → o ≡ outside_of c → OnOk y (Grows d f) → y ≡ Ok z → g ≡ restored f o → g ≡ c
+pub told_back : {X : Type 0} (c d f g : Context) (copy : Statement) (o : Outside) (y : Result X ProofFault) (z : X) → d ≡ at_start_of_proof c copy → o ≡ outside_of c → OnOk y (Grew d f) → y ≡ Ok z → g ≡ restored f o → g ≡ c
 told_back c d f g copy o y z ed eo h ey eg =
-    let into : Grows c d = subst (Grows c) (sym ed) (grows_into_proof c [] copy) in
+    let into : Grew c d = subst (Grew c) (sym ed) (grows_into_proof c [] copy) in
     eg ∙ (ap (restored f) eo ∙ restored-grown c f (grows_more c d f into (made_so y z ey h)))
 
 -- a statement

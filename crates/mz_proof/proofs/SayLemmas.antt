@@ -36,13 +36,13 @@ use Rattle.mz_performing.specs.Blocks.{restored}
 use Rattle.mz_performing.specs.Nows as nw
 use Rattle.mz_performing.specs.Nows.{StatesNow}
 use Rattle.mz_compact.proofs.SideLemmas.{further-length}
-use Rattle.mz_proof.specs.Grown.{Grows}
+use Rattle.mz_context.specs.Grown.{Grew}
 use Rattle.mz_proof.proofs.GrowLemmas.{grows_more, grows_into_now, restored-grown, goes_all_grow}
 
 -- as many equations as sides
-pub length-told_as_many : (e : Environment) (c : Context) (b : Block) (first : Place) (linked concluded : Bool) (p : PropositionTree) (ks : List EqualityStepTree) (l m : Left) (y : Result Begun ProofFault) (x : Begun) → OnMade y (Begins e c b first linked concluded p ks l m) → y ≡ Ok x → length x.compact.said.further ≡ length ks
-length-told_as_many e c b first linked concluded p ks l m y x h ey =
-    let g : IsBegun e c b first linked concluded p ks l m x = on_ok (Begins e c b first linked concluded p ks l m) y x ey h in
+pub length-told_as_many : (e : Environment) (c : Context) (b : Block) (first : Place) (linked concluded : Bool) (p : PropositionTree) (j : JustData) (ks : List EqualityStepTree) (semicolon : Place) (l m : Left) (y : Result Begun ProofFault) (x : Begun) → OnMade y (Begins e c b first linked concluded p j ks semicolon l m) → y ≡ Ok x → length x.compact.said.further ≡ length ks
+length-told_as_many e c b first linked concluded p j ks semicolon l m y x h ey =
+    let g : IsBegun e c b first linked concluded p ks l m x = on_ok (Begins e c b first linked concluded p j ks semicolon l m) y x ey h in
     further-length e c first l m p ks (Ok x.compact) g.is_read x.compact refl
 
 -- what it performs
@@ -53,11 +53,11 @@ performs e c b first linked concluded p ks l m x g =
     (subst (λ qs. Performs e first (state c b m) x.step qs (Ok (state (context_after c x.step x.effect x.stated) (block_after b x.effect) m))) g.states (pf.performed x.effect g.acts g.within))
 
 pub told_unbegun : (Y : Type 0) (e : Environment) (at : Extent) (c : Context) (b : Block) (first semicolon : Place) (linked concluded : Bool) (tree : CompactData) (p : PropositionTree) (j : JustData) (ks sides : List EqualityStepTree) (l m : Left) (t : State) (os ps : List Obligation) (y : Result Begun ProofFault) (f : ProofFault) →
-    tree ≡ StatedCompact p j sides semicolon → ks ≡ sides → OnMade y (Begins e c b first linked concluded p ks l m) → y ≡ Err f → OnMade {X = Y} (Err f) (Brings (Says e at (state c b l) first linked concluded tree) t os ps)
+    tree ≡ StatedCompact p j sides semicolon → ks ≡ sides → OnMade y (Begins e c b first linked concluded p j ks semicolon l m) → y ≡ Err f → OnMade {X = Y} (Err f) (Brings (Says e at (state c b l) first linked concluded tree) t os ps)
 told_unbegun Y e at c b first semicolon linked concluded tree p j ks sides l m t os ps y f et ek h ey =
     let Q : Result Y ProofRefusal → Type 0 = Brings (Says e at (state c b l) first linked concluded (StatedCompact p j ks semicolon)) t os ps in
     subst (λ z. OnMade {X = Y} (Err f) (Brings (Says e at (state c b l) first linked concluded z) t os ps)) (ap (λ w. StatedCompact p j w semicolon) ek ∙ sym et)
-    (on_err (Begins e c b first linked concluded p ks l m) Q y f ey h (λ r k. k at j semicolon))
+    (on_err (Begins e c b first linked concluded p j ks semicolon l m) Q y f ey h (λ r k. k at))
 
 -- a justification where it is asked for
 at_its_place : {X : Type 0} (e : Environment) (at : Extent) (c d : Context) (first place behind : Place) (linked : Bool) (i j : JustData) (z s : Sentence) (m n : Left) (os ps : List Obligation) (w : Result X ProofFault) → d ≡ c → place ≡ behind → i ≡ j → z ≡ s →
@@ -69,10 +69,10 @@ at_its_place e at c d first place behind linked i j z s m n os ps w ed ep ei ez 
     (subst (λ v. OnMade w (Brings (Justifies e at v first linked place i z m) n os ps)) ed g)))
 
 pub told_unjustified : {X : Type 0} (Y : Type 0) (e : Environment) (at : Extent) (c d : Context) (b : Block) (first semicolon place : Place) (linked concluded : Bool) (tree : CompactData) (p : PropositionTree) (i j : JustData) (z : Sentence) (ks sides : List EqualityStepTree) (l m n : Left) (t : State) (os ps qs rs : List Obligation) (y : Result Begun ProofFault) (x : Begun) (w : Result X ProofFault) (f : ProofFault) →
-    tree ≡ StatedCompact p j sides semicolon → ks ≡ sides → OnMade y (Begins e c b first linked concluded p ks l m) → y ≡ Ok x → d ≡ c → place ≡ place_behind ks semicolon → i ≡ j → z ≡ x.compact.sentence →
+    tree ≡ StatedCompact p j sides semicolon → ks ≡ sides → OnMade y (Begins e c b first linked concluded p j ks semicolon l m) → y ≡ Ok x → d ≡ c → place ≡ place_behind ks semicolon → i ≡ j → z ≡ x.compact.sentence →
     OnMade w (Brings (Justifies e at d first linked place i z m) n os ps) → w ≡ Err f → OnMade {X = Y} (Err f) (Brings (Says e at (state c b l) first linked concluded tree) t qs rs)
 told_unjustified {X} Y e at c d b first semicolon place linked concluded tree p i j z ks sides l m n t os ps qs rs y x w f et ek h ey ed ep ei ez g ew =
-    let begun : IsBegun e c b first linked concluded p ks l m x = on_ok (Begins e c b first linked concluded p ks l m) y x ey h in
+    let begun : IsBegun e c b first linked concluded p ks l m x = on_ok (Begins e c b first linked concluded p j ks semicolon l m) y x ey h in
     let P : Result X ProofRefusal → Type 0 = Brings (Justifies e at c first linked (place_behind ks semicolon) j x.compact.sentence m) n os ps in
     let Q : Result Y ProofRefusal → Type 0 = Brings (Says e at (state c b l) first linked concluded (StatedCompact p j ks semicolon)) t qs rs in
     let at_place : OnMade w P = at_its_place e at c d first place (place_behind ks semicolon) linked i j z x.compact.sentence m n os ps w ed ep ei ez g in
@@ -80,11 +80,11 @@ told_unjustified {X} Y e at c d b first semicolon place linked concluded tree p 
     (on_err P Q w f ew at_place (λ r k. wa.not_justified (state c b l) _ first semicolon linked concluded p j ks x.compact m r begun.follows begun.is_read (performs e c b first linked concluded p ks l m x begun) k))
 
 pub told_side_unjustified : {X Z : Type 0} (Y : Type 0) (e : Environment) (at : Extent) (c d d' : Context) (b : Block) (first semicolon place : Place) (linked concluded : Bool) (tree : CompactData) (p : PropositionTree) (i j : JustData) (z : Sentence) (ks sides : List EqualityStepTree) (l m n n' : Left) (t : State) (os ps qs rs vs : List Obligation) (ss : List Statement) (y : Result Begun ProofFault) (x : Begun) (w : Result X ProofFault) (u : X) (w' : Result Z ProofFault) (f : ProofFault) →
-    tree ≡ StatedCompact p j sides semicolon → ks ≡ sides → OnMade y (Begins e c b first linked concluded p ks l m) → y ≡ Ok x → d ≡ c → place ≡ place_behind ks semicolon → i ≡ j → z ≡ x.compact.sentence →
+    tree ≡ StatedCompact p j sides semicolon → ks ≡ sides → OnMade y (Begins e c b first linked concluded p j ks semicolon l m) → y ≡ Ok x → d ≡ c → place ≡ place_behind ks semicolon → i ≡ j → z ≡ x.compact.sentence →
     OnMade w (Brings (Justifies e at d first linked place i z m) n os ps) → w ≡ Ok u → OnOk w (d' ≡ d) → ss ≡ x.compact.said.further →
     OnMade w' (Brings (JustifiesSides e at d' first semicolon ks ss n) n' ps qs) → w' ≡ Err f → OnMade {X = Y} (Err f) (Brings (Says e at (state c b l) first linked concluded tree) t rs vs)
 told_side_unjustified {X} {Z} Y e at c d d' b first semicolon place linked concluded tree p i j z ks sides l m n n' t os ps qs rs vs ss y x w u w' f et ek h ey ed ep ei ez g ew same es k ew' =
-    let begun : IsBegun e c b first linked concluded p ks l m x = on_ok (Begins e c b first linked concluded p ks l m) y x ey h in
+    let begun : IsBegun e c b first linked concluded p ks l m x = on_ok (Begins e c b first linked concluded p j ks semicolon l m) y x ey h in
     let P : Result X ProofRefusal → Type 0 = Brings (Justifies e at c first linked (place_behind ks semicolon) j x.compact.sentence m) n os ps in
     let S : Result Z ProofRefusal → Type 0 = Brings (JustifiesSides e at c first semicolon ks x.compact.said.further n) n' ps qs in
     let Q : Result Y ProofRefusal → Type 0 = Brings (Says e at (state c b l) first linked concluded (StatedCompact p j ks semicolon)) t rs vs in
@@ -96,12 +96,12 @@ told_side_unjustified {X} {Z} Y e at c d d' b first semicolon place linked concl
     (on_err S Q w' f ew' sided (λ r z. wa.justified (state c b l) _ first semicolon linked concluded p j ks x.compact m n justified.made (Refused r) begun.follows begun.is_read (performs e c b first linked concluded p ks l m x begun) justified.is_made z))
 
 pub told_said : {X Z : Type 0} (e : Environment) (at : Extent) (c d d' c' : Context) (b b' : Block) (first semicolon place : Place) (linked concluded : Bool) (tree : CompactData) (p : PropositionTree) (i j : JustData) (z : Sentence) (ks sides : List EqualityStepTree) (l m n n' : Left) (os ps qs : List Obligation) (ss : List Statement) (y : Result Begun ProofFault) (x v : Begun) (w : Result X ProofFault) (u : X) (w' : Result Z ProofFault) (u' : Z) →
-    tree ≡ StatedCompact p j sides semicolon → ks ≡ sides → OnMade y (Begins e c b first linked concluded p ks l m) → y ≡ Ok x → d ≡ c → place ≡ place_behind ks semicolon → i ≡ j → z ≡ x.compact.sentence →
+    tree ≡ StatedCompact p j sides semicolon → ks ≡ sides → OnMade y (Begins e c b first linked concluded p j ks semicolon l m) → y ≡ Ok x → d ≡ c → place ≡ place_behind ks semicolon → i ≡ j → z ≡ x.compact.sentence →
     OnMade w (Brings (Justifies e at d first linked place i z m) n os ps) → w ≡ Ok u → OnOk w (d' ≡ d) → ss ≡ x.compact.said.further →
     OnMade w' (Brings (JustifiesSides e at d' first semicolon ks ss n) n' ps qs) → w' ≡ Ok u' → v ≡ x → c' ≡ context_after d' v.step v.effect v.stated → b' ≡ block_after b v.effect →
     IsBrought (λ zs. Says e at (state c b l) first linked concluded tree (Made zs (state c' b' n'))) os qs
 told_said {X} {Z} e at c d d' c' b b' first semicolon place linked concluded tree p i j z ks sides l m n n' os ps qs ss y x v w u w' u' et ek h ey ed ep ei ez g ew same es k ew' ev ec eb =
-    let begun : IsBegun e c b first linked concluded p ks l m x = on_ok (Begins e c b first linked concluded p ks l m) y x ey h in
+    let begun : IsBegun e c b first linked concluded p ks l m x = on_ok (Begins e c b first linked concluded p j ks semicolon l m) y x ey h in
     let P : Result X ProofRefusal → Type 0 = Brings (Justifies e at c first linked (place_behind ks semicolon) j x.compact.sentence m) n os ps in
     let S : Result Z ProofRefusal → Type 0 = Brings (JustifiesSides e at c first semicolon ks x.compact.said.further n) n' ps qs in
     let at_place : OnMade w P = at_its_place e at c d first place (place_behind ks semicolon) linked i j z x.compact.sentence m n os ps w ed ep ei ez g in
@@ -142,7 +142,7 @@ told_now {X} {Y} e at c d f g c' b b' inside inside' ns first concluded label ds
     let P : Result X ProofRefusal → Type 0 = Brings (GoesAll e at (state (at_start_of_now c) (Now []) l) ds) (state f inside' m) os ps in
     let begun : OnMade y P = subst (λ v. OnMade y (Brings (GoesAll e at (state (at_start_of_now c) v l) ds) (state f inside' m) os ps)) (ei ∙ ap Now en) (subst (λ v. OnMade y (Brings (GoesAll e at (state v inside l) ds) (state f inside' m) os ps)) ed h) in
     let went : IsBrought (λ qs. GoesAll e at (state (at_start_of_now c) (Now []) l) ds (Made qs (state f inside' m))) os ps = on_ok P y z ey begun in
-    let grown : Grows c f = grows_more c (at_start_of_now c) f (grows_into_now c) (goes_all_grow e at (state (at_start_of_now c) (Now []) l) ds (Made went.made (state f inside' m)) went.is_made) in
+    let grown : Grew c f = grows_more c (at_start_of_now c) f (grows_into_now c) (goes_all_grow e at (state (at_start_of_now c) (Now []) l) ds (Made went.made (state f inside' m)) went.is_made) in
     let back : g ≡ c = eg ∙ (ap (restored f) eo ∙ restored-grown c f grown) in
     let F : Result Y ProofRefusal → Type 0 = λ q. StatesNow e first (state c b m) concluded label inside' (reached q (state c' b' m)) in
     let Q : Result Y ProofRefusal → Type 0 = Brings (SaysNow e at (state c b l) first concluded label ds) (state c' b' m) os ps in

@@ -1,5 +1,5 @@
 -- What the code of splits tells.
-use Rattle.std.proofs.Common.{◌≡◌, ◌<◌, ◌≤◌, ◌+◌, ℕ, List, [], ◌∷◌, ◌++◌, length, drop, get_or, add-one, Bool, refl, sym, ap, ◌∙◌, subst}
+use Rattle.std.proofs.Common.{◌≡◌, ◌<◌, ◌≤◌, ◌+◌, ℕ, List, [], ◌∷◌, ◌++◌, length, drop, get_or, add-one, Bool, Some, None, refl, sym, ap, ◌∙◌, subst}
 use Rattle.std.specs.Prelude.{Result, Ok, Err, OnOk, is_some}
 use Rattle.std.proofs.lemmas.List.{append-nil, append_assoc}
 use Rattle.mz_free.proofs.OccurringLemmas.{drop-at}
@@ -24,13 +24,14 @@ use Rattle.mz_tree_proof.specs.declared.propositions.HypothesesTree.{HypothesesT
 use Rattle.mz_tree_proof.specs.declared.skeleton.SplitTree.{SplitTree}
 use Rattle.mz_justified.specs.Justified.{Grounds}
 use Rattle.mz_walk.specs.Walked.{State, state, Walked, Made, Refused, behind}
-use Rattle.mz_walk.specs.Walk.{Cases, no_cases, with_case, Proves, Splits, Supposes}
+use Rattle.mz_walk.specs.Walk.{Cases, no_cases, with_case, Foresees, Proves, Splits, Supposes}
 use Rattle.mz_performing.specs.Begun as bg
 use Rattle.mz_performing.specs.Begun.{IsSupposed, IsUnsupposed, Supposing}
 use Rattle.mz_performing.specs.Blocks.{restored}
 use Rattle.mz_performing.specs.Splits.{SplitEnds, AreTaken, TakesCases}
+use Rattle.mz_proof.specs.Ahead.{told_ahead}
 use Rattle.mz_proof.specs.Case.{IsTaken, TakesCase}
-use Rattle.mz_proof.specs.Grown.{Grows}
+use Rattle.mz_context.specs.Grown.{Grew}
 use Rattle.mz_proof.proofs.JustifyLemmas.{made_so}
 use Rattle.mz_proof.proofs.StepLemmas.{drop-gone}
 use Rattle.mz_proof.proofs.GrowLemmas.{grows_more, grows_stated, restored-grown}
@@ -65,10 +66,10 @@ told_case {X} e at c d tree first q end semicolon h ds l m n sold snew os ps y o
     (record { made = b.made; supposition = s.supposition; are_last = b.are_last; is_behind = s.is_last; goes_on = λ us z j. wa.one_more c l m n first q end semicolon h ds us s.propositions s.supposition b.made z s.are_read s.joined b.is_made j })
 
 pub told_case_back : {X : Type 0} (e : Environment) (c d f g : Context) (first : Place) (h : HypothesesTree) (l m : Left) (sold snew : List Statement) (y : Result Outside ProofFault) (o : Outside) (w : Result X ProofFault) (v : X) →
-    OnMade y (Supposing e c d first h l m sold snew) → y ≡ Ok o → OnOk w (Grows d f) → w ≡ Ok v → g ≡ restored f o → g ≡ c
+    OnMade y (Supposing e c d first h l m sold snew) → y ≡ Ok o → OnOk w (Grew d f) → w ≡ Ok v → g ≡ restored f o → g ≡ c
 told_case_back e c d f g first h l m sold snew y o w v k ey j ew eg =
     let s : IsSupposed e c d first h l m sold snew o = on_ok (Supposing e c d first h l m sold snew) y o ey k in
-    let into : Grows c d = subst (Grows c) (sym s.context) (grows_stated c s.propositions) in
+    let into : Grew c d = subst (Grew c) (sym s.context) (grows_stated c s.propositions) in
     eg ∙ (ap (restored f) s.aside ∙ restored-grown c f (grows_more c d f into (made_so w v ew j)))
 
 -- cases one after another
@@ -157,26 +158,50 @@ pub told_end_back : (e : Environment) (at : Extent) (c d : Context) (rest : List
 told_end_back e at c d rest all l from ss sold os old g = g.1
 
 -- a split
-pub told_not_grounded : (Y : Type 0) (e : Environment) (at : Extent) (c : Context) (b : Block) (first place : Place) (linked : Bool) (tree : SplitTree) (us : SupposeList) (l m : Left) (t : State) (os ps : List Obligation) (y : Result (List Statement) ProofFault) (f : ProofFault) → linked ≡ is_some tree.then → place ≡ tree.semicolon →
-    OnMade y (λ o. Grounds e c first linked place tree.simple l o m) → y ≡ Err f → OnMade {X = Y} (Err f) (Brings (Splits e at (state c b l) first tree us) t os ps)
-told_not_grounded Y e at c b first place linked tree us l m t os ps y f el ep h ey =
+-- what is told ahead
+foreseen_none : {Z : Type 0} (e : Environment) (first : Place) (c : Context) (l : Left) (linked : Bool) (us : SupposeList) (tree : SplitTree) (w : Result Z ProofFault) (v : Z) → linked ≡ is_some tree.then →
+    OnMade w (λ o. Foresees e first c l linked us (told_ahead o)) → w ≡ Ok v → Foresees e first c l (is_some tree.then) us None
+foreseen_none {Z} e first c l linked us tree w v el a ew =
+    let P : Result Z ProofRefusal → Type 0 = λ o. Foresees e first c l linked us (told_ahead o) in
+    subst (λ z. Foresees e first c l z us None) el (on_ok P w v ew a)
+
+pub told_foreseen : {X : Type 0} (Y : Type 0) (e : Environment) (at : Extent) (c : Context) (b : Block) (first : Place) (linked : Bool) (tree : SplitTree) (us : SupposeList) (l : Left) (t : State) (os ps : List Obligation) (w : Result X ProofFault) (f : ProofFault) → linked ≡ is_some tree.then →
+    OnMade w (λ o. Foresees e first c l linked us (told_ahead o)) → w ≡ Err f → OnMade {X = Y} (Err f) (Brings (Splits e at (state c b l) first tree us) t os ps)
+told_foreseen {X} Y e at c b first linked tree us l t os ps w f el a ew =
+    let P : Result X ProofRefusal → Type 0 = λ o. Foresees e first c l linked us (told_ahead o) in
+    let Q : Result Y ProofRefusal → Type 0 = Brings (Splits e at (state c b l) first tree us) t os ps in
+    on_err P Q w f ew a (λ r k. wa.foreseen (state c b l) first tree us r (subst (λ z. Foresees e first c l z us (Some r)) el k))
+
+pub told_not_grounded : {Z : Type 0} (Y : Type 0) (e : Environment) (at : Extent) (c d : Context) (b : Block) (first place : Place) (linked : Bool) (tree : SplitTree) (us : SupposeList) (l m : Left) (t : State) (os ps : List Obligation) (w : Result Z ProofFault) (v : Z) (y : Result (List Statement) ProofFault) (f : ProofFault) → linked ≡ is_some tree.then → place ≡ tree.semicolon →
+    OnMade w (λ o. Foresees e first c l linked us (told_ahead o)) → w ≡ Ok v → OnOk w (d ≡ c) → OnMade y (λ o. Grounds e d first linked place tree.simple l o m) → y ≡ Err f → OnMade {X = Y} (Err f) (Brings (Splits e at (state c b l) first tree us) t os ps)
+told_not_grounded {Z} Y e at c d b first place linked tree us l m t os ps w v y f el ep a ew same h' ey =
+    let none : Foresees e first c l (is_some tree.then) us None = foreseen_none e first c l linked us tree w v el a ew in
+    let h : OnMade y (λ o. Grounds e c first linked place tree.simple l o m) = subst (λ z. OnMade y (λ o. Grounds e z first linked place tree.simple l o m)) (made_so w v ew same) h' in
     let P : Result (List Statement) ProofRefusal → Type 0 = λ o. Grounds e c first (is_some tree.then) tree.semicolon tree.simple l o m in
     let Q : Result Y ProofRefusal → Type 0 = Brings (Splits e at (state c b l) first tree us) t os ps in
-    on_err P Q y f ey (subst (λ z. OnMade y (λ o. Grounds e c first (is_some tree.then) z tree.simple l o m)) ep (subst (λ z. OnMade y (λ o. Grounds e c first z place tree.simple l o m)) el h)) (λ r k. wa.not_grounded (state c b l) first tree us r m k)
+    on_err P Q y f ey (subst (λ z. OnMade y (λ o. Grounds e c first (is_some tree.then) z tree.simple l o m)) ep (subst (λ z. OnMade y (λ o. Grounds e c first z place tree.simple l o m)) el h)) (λ r k. wa.not_grounded (state c b l) first tree us r m none k)
 
-pub told_stopped : {X : Type 0} (Y : Type 0) (e : Environment) (at : Extent) (c : Context) (b : Block) (first place : Place) (linked : Bool) (tree : SplitTree) (us : SupposeList) (l m n : Left) (t : State) (os ps inner inner' : List Obligation) (sold snew : List Statement) (y : Result (List Statement) ProofFault) (given : List Statement) (w : Result X ProofFault) (f : ProofFault) → linked ≡ is_some tree.then → place ≡ tree.semicolon →
-    OnMade y (λ o. Grounds e c first linked place tree.simple l o m) → y ≡ Ok given → OnMade w (TakesCases (Supposes e at c us m) n sold snew inner inner') → w ≡ Err f → OnMade {X = Y} (Err f) (Brings (Splits e at (state c b l) first tree us) t os ps)
-told_stopped {X} Y e at c b first place linked tree us l m n t os ps inner inner' sold snew y given w f el ep h ey k ew =
+pub told_stopped : {X Z : Type 0} (Y : Type 0) (e : Environment) (at : Extent) (c d : Context) (b : Block) (first place : Place) (linked : Bool) (tree : SplitTree) (us : SupposeList) (l m n : Left) (t : State) (os ps inner inner' : List Obligation) (sold snew : List Statement) (x : Result Z ProofFault) (v : Z) (y : Result (List Statement) ProofFault) (given : List Statement) (w : Result X ProofFault) (f : ProofFault) → linked ≡ is_some tree.then → place ≡ tree.semicolon →
+    OnMade x (λ o. Foresees e first c l linked us (told_ahead o)) → x ≡ Ok v → OnOk x (d ≡ c) → OnMade y (λ o. Grounds e d first linked place tree.simple l o m) → y ≡ Ok given → OnMade w (TakesCases (Supposes e at d us m) n sold snew inner inner') → w ≡ Err f → OnMade {X = Y} (Err f) (Brings (Splits e at (state c b l) first tree us) t os ps)
+told_stopped {X} {Z} Y e at c d b first place linked tree us l m n t os ps inner inner' sold snew x v y given w f el ep a ex same h' ey k' ew =
+    let none : Foresees e first c l (is_some tree.then) us None = foreseen_none e first c l linked us tree x v el a ex in
+    let h : OnMade y (λ o. Grounds e c first linked place tree.simple l o m) = subst (λ z. OnMade y (λ o. Grounds e z first linked place tree.simple l o m)) (made_so x v ex same) h' in
+    let k : OnMade w (TakesCases (Supposes e at c us m) n sold snew inner inner') = subst (λ z. OnMade w (TakesCases (Supposes e at z us m) n sold snew inner inner')) (made_so x v ex same) k' in
     let P : Result (List Statement) ProofRefusal → Type 0 = λ o. Grounds e c first (is_some tree.then) tree.semicolon tree.simple l o m in
     let grounded : Grounds e c first (is_some tree.then) tree.semicolon tree.simple l (Ok given) m = on_ok P y given ey (subst (λ z. OnMade y (λ o. Grounds e c first (is_some tree.then) z tree.simple l o m)) ep (subst (λ z. OnMade y (λ o. Grounds e c first z place tree.simple l o m)) el h)) in
     let S : Result X ProofRefusal → Type 0 = TakesCases (Supposes e at c us m) n sold snew inner inner' in
     let Q : Result Y ProofRefusal → Type 0 = Brings (Splits e at (state c b l) first tree us) t os ps in
-    on_err S Q w f ew k (λ r z. wa.cases_stopped (state c b l) first tree us given m r grounded z)
+    on_err S Q w f ew k (λ r z. wa.cases_stopped (state c b l) first tree us given m r none grounded z)
 
-pub told_split : {X Y : Type 0} (e : Environment) (at : Extent) (c d d' : Context) (b : Block) (first place : Place) (linked : Bool) (tree : SplitTree) (us : SupposeList) (l m n : Left) (os ps inner inner' inner'' : List Obligation) (sold snew ss gs : List Statement) (y : Result (List Statement) ProofFault) (given : List Statement) (w : Result X ProofFault) (v : X) (q : Result Y ProofFault) → linked ≡ is_some tree.then → place ≡ tree.semicolon →
-    OnMade y (λ o. Grounds e c first linked place tree.simple l o m) → y ≡ Ok given → inner ≡ [] → sold ≡ [] → OnMade w (TakesCases (Supposes e at c us m) n sold snew inner inner') → w ≡ Ok v → OnOk w (d ≡ c) → inner'' ≡ inner' → ss ≡ snew → gs ≡ given →
+pub told_split : {X Y Z : Type 0} (e : Environment) (at : Extent) (c c' d d' : Context) (b : Block) (first place : Place) (linked : Bool) (tree : SplitTree) (us : SupposeList) (l m n : Left) (os ps inner inner' inner'' : List Obligation) (sold snew ss gs : List Statement) (x : Result Z ProofFault) (x' : Z) (y : Result (List Statement) ProofFault) (given : List Statement) (w : Result X ProofFault) (v : X) (q : Result Y ProofFault) → linked ≡ is_some tree.then → place ≡ tree.semicolon →
+    OnMade x (λ o. Foresees e first c l linked us (told_ahead o)) → x ≡ Ok x' → OnOk x (c' ≡ c) → OnMade y (λ o. Grounds e c' first linked place tree.simple l o m) → y ≡ Ok given → inner ≡ [] → sold ≡ [] → OnMade w (TakesCases (Supposes e at c' us m) n sold snew inner inner') → w ≡ Ok v → OnOk w (d ≡ c') → inner'' ≡ inner' → ss ≡ snew → gs ≡ given →
     OnMade q (SplitEnds e at d d' first tree gs ss inner'' os ps) → OnMade q (Brings (Splits e at (state c b l) first tree us) (state d' b n) os ps)
-told_split {X} {Y} e at c d d' b first place linked tree us l m n os ps inner inner' inner'' sold snew ss gs y given w v q el ep h ey ei es k ew same ei' es' eg j =
+told_split {X} {Y} {Z} e at c c' d d' b first place linked tree us l m n os ps inner inner' inner'' sold snew ss gs x x' y given w v q el ep a ex first_same h' ey ei es k' ew same' ei' es' eg j =
+    let none : Foresees e first c l (is_some tree.then) us None = foreseen_none e first c l linked us tree x x' el a ex in
+    let is_c : c' ≡ c = made_so x x' ex first_same in
+    let h : OnMade y (λ o. Grounds e c first linked place tree.simple l o m) = subst (λ z. OnMade y (λ o. Grounds e z first linked place tree.simple l o m)) is_c h' in
+    let k : OnMade w (TakesCases (Supposes e at c us m) n sold snew inner inner') = subst (λ z. OnMade w (TakesCases (Supposes e at z us m) n sold snew inner inner')) is_c k' in
+    let same : OnOk w (d ≡ c) = subst (λ z. OnOk w (d ≡ z)) is_c same' in
     let P : Result (List Statement) ProofRefusal → Type 0 = λ o. Grounds e c first (is_some tree.then) tree.semicolon tree.simple l o m in
     let grounded : Grounds e c first (is_some tree.then) tree.semicolon tree.simple l (Ok given) m = on_ok P y given ey (subst (λ z. OnMade y (λ o. Grounds e c first (is_some tree.then) z tree.simple l o m)) ep (subst (λ z. OnMade y (λ o. Grounds e c first z place tree.simple l o m)) el h)) in
     let S : Result X ProofRefusal → Type 0 = TakesCases (Supposes e at c us m) n sold snew inner inner' in
@@ -192,7 +217,7 @@ told_split {X} {Y} e at c d d' b first place linked tree us l m n os ps inner in
     (λ z g. record {
       made = g.obligation ∷ taken.made;
       is_made = subst (λ u. Splits e at (state c b l) first tree us (Made (g.obligation ∷ taken.made) (state u b n))) (sym g.context)
-          (wa.split (state c b l) first tree us given m taken.made (record { suppositions = taken.suppositions; left = n }) g.statement g.obligation grounded taken.is_made g.joined g.is_owed);
+          (wa.split (state c b l) first tree us given m taken.made (record { suppositions = taken.suppositions; left = n }) g.statement g.obligation none grounded taken.is_made g.joined g.is_owed);
       are_last = g.are_last;
     })
-    (λ r g. subst (λ z. Splits e at (state c b l) first tree us (Refused z)) (sym g.2) (wa.cases_too_large (state c b l) first tree us given m taken.made (record { suppositions = taken.suppositions; left = n }) g.0 grounded taken.is_made g.1))
+    (λ r g. subst (λ z. Splits e at (state c b l) first tree us (Refused z)) (sym g.2) (wa.cases_too_large (state c b l) first tree us given m taken.made (record { suppositions = taken.suppositions; left = n }) g.0 none grounded taken.is_made g.1))

@@ -11,9 +11,10 @@ ghost use Rattle.mz_walk.specs.Walked.{state};
 ghost use Rattle.mz_walk.specs.Walk.{Justifies, Proves, Says, SaysNow, States, Goes, Splits, Supposes, GoesAll};
 ghost use Rattle.mz_walk.specs.Answers.{Brings};
 ghost use Rattle.mz_performing.specs.Splits.{TakesCases};
-ghost use Rattle.mz_proof.specs.Grown.{Grows};
+ghost use Rattle.mz_context.specs.Grown.{Grew};
 ghost use Rattle.mz_proof.specs.Case.{TakesCase};
 
+use crate::ahead::foresee;
 use crate::parts::{case_parts, stated_parts};
 use mz_base::place::Place;
 use mz_compact::begun::{begin, finish};
@@ -97,7 +98,7 @@ pub fn prove(
     os: &mut Obligations,
 ) -> Result<(), ProofFault>
     ensures proves { OnMade result (Brings (Proves env.now at ctx.old (steps_of steps.now) end left.old) left.new os.old os.new) }
-    ensures grows { OnOk result (Grows ctx.old ctx.new) }
+    ensures grows { OnOk result (Grew ctx.old ctx.new) }
 {
     let mut block = Block::Proof;
     match go_all(alloc, env, at, ctx, &mut block, steps, left, os) {
@@ -138,7 +139,7 @@ fn say(
     let (p, just, sides, semicolon) = stated_parts(tree);
     let ks = sides.items.as_slice();
     let begun = match begin(
-        alloc, env, ctx, block, first, linked, concluded, p, ks, left,
+        alloc, env, ctx, block, first, linked, concluded, p, just, ks, semicolon, left,
     ) {
         Ok(x) => x,
         Err(f) => return Err(f),
@@ -266,8 +267,8 @@ fn go(
     }
 }
 
-/// A split into cases: what justifies it is looked at, then the cases are taken, and then it is asked, before what they ask, that
-/// one of them holds.
+/// A split into cases: what can be told of it ahead comes first; then what justifies it is looked at, then the cases are taken,
+/// and then it is asked, before what they ask, that one of them holds.
 #[cycle(walk)]
 fn split(
     alloc: Global,
@@ -285,6 +286,10 @@ fn split(
     ensures { OnMade result (Brings (Splits env.now at (state ctx.old block.now left.old) first tree.now (more_supposes case.now (supposes_of more.now))) (state ctx.new block.now left.new) os.old os.new) }
 {
     let linked = tree.then.is_some();
+    match foresee(alloc, env, ctx, first, linked, case, more, left) {
+        Ok(()) => {}
+        Err(f) => return Err(f),
+    }
     let behind = tree.semicolon;
     let given = match ground(alloc, env, ctx, first, linked, behind, &tree.simple, left) {
         Ok(ss) => ss,

@@ -1,31 +1,13 @@
-//! Small proofs, with their obligations or their first refusal, worked out by hand from the rules.
+//! Terms, formulas, expressions and proofs as they are read, worked out by hand.
 #![tactic(auto)]
 
 #[cfg(test)]
-mod auxiliary;
+mod formulas;
 #[cfg(test)]
-mod before;
+mod free;
 #[cfg(test)]
-mod blocks;
+mod proofs;
 #[cfg(test)]
-mod calls;
+mod resolve;
 #[cfg(test)]
-mod cases;
-#[cfg(test)]
-mod environment;
-#[cfg(test)]
-mod limits;
-#[cfg(test)]
-mod nows;
-#[cfg(test)]
-mod outcomes;
-#[cfg(test)]
-mod simple;
-#[cfg(test)]
-mod sizes;
-#[cfg(test)]
-mod skeletons;
-#[cfg(test)]
-mod unbuilt;
-#[cfg(test)]
-mod unfoldings;
+mod terms;

@@ -15,7 +15,7 @@ use std::alloc::Global;
 
 /// An atom or an equation as a literal; none of another formula.
 fn signed(positive: bool, f: Formula) -> Option<Literal> {
-    match f.node {
+    match f.into_node() {
         FormulaNode::Atom(sym, args) => Some(Literal::Atom {
             positive,
             sym,
@@ -32,15 +32,10 @@ fn signed(positive: bool, f: Formula) -> Option<Literal> {
 
 /// The formula as a literal; none of one that isn't the formula of a literal.
 fn as_literal(f: Formula) -> Option<Literal> {
-    match f.node {
+    let binders = f.binders;
+    match f.into_node() {
         FormulaNode::Not(g) => signed(false, Box::into_inner(g)),
-        node => signed(
-            true,
-            Formula {
-                node,
-                binders: f.binders,
-            },
-        ),
+        node => signed(true, Formula { node, binders }),
     }
 }
 
@@ -74,7 +69,7 @@ pub fn disjunct(alloc: Global, text: &str) -> Result<Disjunct, SampleFault> {
         literals: Literals::new(alloc),
         universals: Formulas::new(alloc),
     };
-    for f in formulas(alloc, text)?.items {
+    for f in formulas(alloc, text)?.into_items() {
         if is_literal(&f) {
             d.literals.push(as_literal(f).ok_or(SampleFault::Text)?)?;
         } else {

@@ -1,18 +1,21 @@
 -- Where the reading of an article's items stands.
-use Rattle.std.specs.Prelude.{ℕ, ◌+◌, ◌*◌, List, [], ◌∷◌, ◌++◌, length, Option, None}
+use Rattle.std.specs.Prelude.{ℕ, ◌+◌, ◌*◌, List, [], ◌∷◌, ◌++◌, length, take, Option, Some, None}
 use Rattle.mz_base.specs.declared.name.Name.{Name}
 use Rattle.mz_core.specs.Statement.{Statement}
 use Rattle.mz_core.specs.declared.item.Item.{Item}
 use Rattle.mz_core.specs.declared.outcome.Left.{Left}
+use Rattle.mz_items.specs.Items.{definitional_theorem}
 use Rattle.mz_ground.specs.declared.clause.Clause.{Clause}
 use Rattle.mz_clauses.specs.Clauses.{typing_clauses, further_clauses, equality_clauses}
 use Rattle.mz_environment.specs.Cited.{at_start, numbered}
 use Rattle.mz_environment.specs.Environment.{joined, of_item}
 use Rattle.mz_environment.specs.declared.environment.Environment.{Environment}
-use Rattle.mz_context.specs.Changes.{labelled}
+use Rattle.mz_context.specs.Changes.{labelled, trimmed}
 use Rattle.mz_context.specs.declared.context.Context.{Context}
 use Rattle.mz_context.specs.declared.context.SymbolCounts.{SymbolCounts}
+use Rattle.mz_context.specs.declared.labelled.LabelledStatement.{LabelledStatement}
 use Rattle.mz_obligations.specs.declared.obligation.Extent.{Extent}
+use Rattle.mz_standing.specs.Counts.{counted}
 use Rattle.mz_standing.specs.declared.standing.Standing.{Standing}
 
 -- the clauses by which an article's obligations are decided: those that were let in, and then those of its items, as they come
@@ -44,6 +47,7 @@ no_context article = record {
   reserved = [];
   labelled = [];
   previous = None;
+  schemes = [];
   functors = [];
   predicates = [];
   letters = [];
@@ -93,3 +97,24 @@ behind_item c = record c { previous = None }
 -- the context behind a theorem: it has its label, where it has one
 abbrev pub behind_theorem : Context → List ℕ → Statement → Context
 behind_theorem c label s = record c { labelled = c.labelled ++ labelled label s; previous = None }
+
+-- a statement under a label, where there is one
+abbrev pub with_label : Standing → List ℕ → Statement → Standing
+with_label s label t = with_context s (record s.context { labelled = s.context.labelled ++ labelled label t })
+
+-- what can be cited of a definition, under the label of its definiens
+abbrev pub labelled_if_any : List ℕ → Option Statement → List LabelledStatement
+labelled_if_any label None = []
+labelled_if_any label (Some t) = labelled label t
+
+-- the context behind a heading that made an item: its symbols are counted, and what can be cited of it has the label of its definiens
+abbrev pub behind_heading : Context → Item → List ℕ → Context
+behind_heading c x label = record c { counts = counted c.counts x; labelled = c.labelled ++ labelled_if_any label (definitional_theorem x); previous = None }
+
+-- the context behind a scheme: its letters are counted, and it can be named, by the label, as the scheme of the number
+abbrev pub behind_scheme : Context → Item → List ℕ → ℕ → Context
+behind_scheme c x label number = record c { counts = counted c.counts x; previous = None; schemes = c.schemes ++ record { label = label; number = number } ∷ [] }
+
+-- the context behind a block at whose word the constants had so many places: its loci are out of force; what was labelled in it stays
+abbrev pub behind_block : Context → ℕ → Context
+behind_block c places = record c { constants = trimmed (take places c.constants); previous = None }

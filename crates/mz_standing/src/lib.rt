@@ -2,5 +2,7 @@
 #![tactic(auto)]
 
 pub mod changes;
+pub mod counts;
+pub mod labels;
 pub mod standing;
 pub mod start;

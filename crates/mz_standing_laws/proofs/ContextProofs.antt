@@ -29,17 +29,11 @@ use Rattle.mz_walk_laws.specs.Grounds.{ReadsWell}
 use Rattle.mz_walk_laws.proofs.Outcomes.{WhereOk}
 use Rattle.mz_level_laws.specs.Level.{IsLevel}
 use Rattle.mz_standing.specs.Standing.{behind_item, behind_theorem}
+use Rattle.mz_standing_laws.specs.Soundly.{SaysNoMore}
 
 -- one list is part of another
 abbrev Within : {X : Type 0} → List X → List X → Type 0
 Within {X} xs ys = (x : X) → Contains xs x → Contains ys x
-
--- what differs in nothing but reservations, and has no statement just before where the other one has
-pub record IsPart (d c : Context) : Type 0 where
-  pub constants : d.constants ≡ c.constants
-  pub letters : d.letters ≡ c.letters
-  pub named : d.labelled ≡ c.labelled
-  pub previous : (d.previous ≡ c.previous) ⊎ (d.previous ≡ None)
 
 before_within : (p q : Option Statement) → (p ≡ q) ⊎ (p ≡ None) → Within (just_before p) (just_before q)
 before_within p q (inl same) s is = subst (λ o. Contains (just_before o) s) same is
@@ -54,7 +48,7 @@ three_within xs ys zs ys2 within x is = elim (Contains-append_cases (xs ++ ys) z
   | inr back ↦ Contains-append_right (xs ++ ys2) zs x back
 ]
 
-statements_part : (d c : Context) → IsPart d c → Within (statements_in d) (statements_in c)
+statements_part : (d c : Context) → SaysNoMore d c → Within (statements_in d) (statements_in c)
 statements_part d c part s is =
     three_within (map statement_of c.labelled) (just_before d.previous) (letter_types (map letter_of c.letters)) (just_before c.previous) (before_within d.previous c.previous part.previous) s
     (subst (λ ls. Contains ((map statement_of c.labelled ++ just_before d.previous) ++ letter_types (map letter_of ls)) s) part.letters
@@ -68,26 +62,26 @@ map_within {X} f xs ys within y is =
 behind_within : {X : Type 0} (xs ys zs : List X) → Within ys zs → Within (xs ++ ys) (xs ++ zs)
 behind_within xs ys zs within x is = elim (Contains-append_cases xs ys x is) [ inl front ↦ Contains-append_left xs zs x front | inr back ↦ Contains-append_right xs zs x (within x back) ]
 
-pub facts_part : (d c : Context) → IsPart d c → Within (facts d) (facts c)
+pub facts_part : (d c : Context) → SaysNoMore d c → Within (facts d) (facts c)
 facts_part d c part f is =
     behind_within (map literal_formula (known_from 1 c.constants)) (map erase (statements_in d)) (map erase (statements_in c)) (map_within erase (statements_in d) (statements_in c) (statements_part d c part)) f
     (subst (λ ks. Contains (map literal_formula (known_from 1 ks) ++ map erase (statements_in d)) f) part.constants is)
 
-said_part : (d c : Context) → IsPart d c → Within (said_in d) (said_in c)
+said_part : (d c : Context) → SaysNoMore d c → Within (said_in d) (said_in c)
 said_part d c part s is =
     behind_within (map literal_statement (known_from 1 c.constants)) (statements_in d) (statements_in c) (statements_part d c part) s
     (subst (λ ks. Contains (map literal_statement (known_from 1 ks) ++ statements_in d) s) part.constants is)
 
-pub order_part : (d c : Context) → IsPart d c → IsInOrder [] c → IsInOrder [] d
+pub order_part : (d c : Context) → SaysNoMore d c → IsInOrder [] c → IsInOrder [] d
 order_part d c part order = record {
   said = all-from (is_standing (next d)) (said_in d) (λ s is. ap (λ n. is_standing n s) (ap numbers part.constants) ∙ all-one (is_standing (next c)) (said_in c) s (said_part d c part s is) order.said);
   held_in_force = refl;
 }
 
-part_of_itself : (c : Context) → IsPart c c
+part_of_itself : (c : Context) → SaysNoMore c c
 part_of_itself c = record { constants = refl; letters = refl; named = refl; previous = inl refl }
 
-pub behind_item_part : (c : Context) → IsPart (behind_item c) c
+pub behind_item_part : (c : Context) → SaysNoMore (behind_item c) c
 behind_item_part c = record { constants = refl; letters = refl; named = refl; previous = inr refl }
 
 previous_further : (d c b : Context) → (d.previous ≡ c.previous) ⊎ (d.previous ≡ None) → (c.previous ≡ b.previous) ⊎ (c.previous ≡ None) → (d.previous ≡ b.previous) ⊎ (d.previous ≡ None)
@@ -95,7 +89,7 @@ previous_further d c b (inl same) (inl also) = inl (same ∙ also)
 previous_further d c b (inl same) (inr none) = inr (same ∙ none)
 previous_further d c b (inr none) q = inr none
 
-pub part_further : (d c b : Context) → IsPart d c → IsPart c b → IsPart d b
+pub part_further : (d c b : Context) → SaysNoMore d c → SaysNoMore c b → SaysNoMore d b
 part_further d c b p q = record {
   constants = p.constants ∙ q.constants;
   letters = p.letters ∙ q.letters;
@@ -105,7 +99,7 @@ part_further d c b p q = record {
 
 -- reservations
 pub record IsReserved (c d : Context) : Type 0 where
-  pub part : IsPart d c
+  pub part : SaysNoMore d c
   pub thesis : d.thesis ≡ c.thesis
 
 reserved_on : (c b : Context) (o : Result Context Refusal) → IsReserved c b → WhereOk o (IsReserved b) → WhereOk o (IsReserved c)

@@ -1,4 +1,4 @@
--- An article whose items are proved keeps a sound library sound.
+-- An article each of whose items is owed keeps a sound library sound.
 use Rattle.std.specs.Prelude.{◌≡◌, List, Ok, Contains}
 use Rattle.mz_base.specs.declared.name.Name.{Name}
 use Rattle.mz_base.specs.declared.head.Directive.{Directive}
@@ -11,7 +11,7 @@ use Rattle.mz_env_laws.specs.Entries.{IsOfExports, AreOfItems}
 use Rattle.mz_env_laws.specs.Used.{Uses}
 use Rattle.mz_corpus.specs.Directives.{dependencies_of}
 use Rattle.mz_standing.specs.Standing.{clauses_in}
-use Rattle.mz_standing_laws.specs.Proved.{AreProved}
+use Rattle.mz_standing_laws.specs.Owed.{AreOwed}
 use Rattle.mz_standing_laws.specs.Soundly.{axioms_of, Setting}
 
 -- a setting of an article with the name, by exports that its environment part uses and by what is let in of them
@@ -28,9 +28,9 @@ UsedLaw =
     (g : Setting) × IsSettingOf name head exports e g
 
 -- an article whose environment part is let in from exports of a sound library, which has no export of its name, and all of whose
--- items are proved from what it uses, keeps the library sound where its export is added
+-- items are owed from what it uses and what the items before grant, keeps the library sound where its export is added
 abbrev pub AddedLaw : Type 0
 AddedLaw =
     (head : List Directive) (library exports : List Export) (e : Environment) (d : Export) (g : Setting) → Sound library → AreExportsOf library exports → LetIn head exports (Ok e) →
     IsSettingOf d.name head exports e g → (HasName library d.name → ⊥) → d.dependencies ≡ dependencies_of head → HasNotationsOfItems d →
-    AreProved (axioms_of g.used) d.items → Sound (added d library)
+    AreOwed (axioms_of g.used) d.items → Sound (added d library)

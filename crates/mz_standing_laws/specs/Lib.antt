@@ -1,4 +1,6 @@
-pub mod Proved
+pub mod Owed
 pub mod Soundly
 pub mod Laws
+pub mod Headings
+pub mod Kinds
 pub mod Added

@@ -32,7 +32,8 @@ pub fn take_effect(ctx: &mut Context, block: &mut Block, e: Effect) -> Result<()
     }
 }
 
-fn statements_of(alloc: Global, ps: &[LabelledStatement]) -> Result<Statements, AllocError>
+/// The statements of propositions.
+pub fn statements_of(alloc: Global, ps: &[LabelledStatement]) -> Result<Statements, AllocError>
     ensures { IfOk result (λ ss. ss ≡ map statement_of ps.now) }
 {
     let mut out = Statements::new(alloc);

@@ -4,6 +4,7 @@ use Rattle.std.specs.Prelude.{flat_map}
 use Rattle.std.proofs.lemmas.List.{append-nil}
 use Rattle.mz_core.specs.Statement.{Statement}
 use Rattle.mz_context.specs.Changes.{trimmed, with_constant}
+use Rattle.mz_context.specs.Grown.{Grew}
 use Rattle.mz_context.specs.declared.constants.Constant.{Constant}
 use Rattle.mz_context.specs.declared.context.Context.{Context}
 use Rattle.mz_context.specs.declared.labelled.LabelledStatement.{LabelledStatement}
@@ -15,7 +16,7 @@ use Rattle.mz_steps.specs.declared.block.Effect.{Effect}
 use Rattle.mz_steps.specs.declared.block.Effect.TheVariants.{Unchanged, Leaves, Says}
 use Rattle.mz_steps.specs.declared.read_step.ReadStep.{ReadStep}
 use Rattle.mz_steps.specs.declared.read_step.ReadStep.TheVariants.{Let, Assume, Given, Thus, Take, Consider, Reconsider, Set, State}
-use Rattle.mz_steps_laws.specs.BlockLaws.{Grew, StepGrowsLaw, MoreGrewLaw, ProofGrewLaw, NowGrewLaw, BlockLaw}
+use Rattle.mz_steps_laws.specs.BlockLaws.{StepGrowsLaw, MoreGrewLaw, ProofGrewLaw, NowGrewLaw, BlockLaw}
 
 -- a list is itself and nothing more
 itself : {X : Type 0} (xs : List X) → (ys : List X) × (xs ≡ xs ++ ys)
@@ -31,6 +32,7 @@ more_grew_law c d e g h = record {
   constants = further c.constants d.constants e.constants g.constants h.constants;
   reserved = further c.reserved d.reserved e.reserved g.reserved h.reserved;
   labelled = further c.labelled d.labelled e.labelled g.labelled h.labelled;
+  schemes = h.schemes ∙ g.schemes;
   functors = further c.functors d.functors e.functors g.functors h.functors;
   predicates = further c.predicates d.predicates e.predicates g.predicates h.predicates;
   letters = further c.letters d.letters e.letters g.letters h.letters;
@@ -46,6 +48,7 @@ grew_itself c = record {
   constants = itself c.constants;
   reserved = itself c.reserved;
   labelled = itself c.labelled;
+  schemes = refl;
   functors = itself c.functors;
   predicates = itself c.predicates;
   letters = itself c.letters;
@@ -61,6 +64,7 @@ grew_constant c k = record {
   constants = (Some k ∷ [], refl);
   reserved = itself c.reserved;
   labelled = itself c.labelled;
+  schemes = refl;
   functors = itself c.functors;
   predicates = itself c.predicates;
   letters = itself c.letters;
@@ -91,6 +95,7 @@ grew_left c s = record {
   constants = itself c.constants;
   reserved = itself c.reserved;
   labelled = itself c.labelled;
+  schemes = refl;
   functors = itself c.functors;
   predicates = itself c.predicates;
   letters = itself c.letters;
@@ -111,6 +116,7 @@ grew_stated c ps = record {
   constants = itself c.constants;
   reserved = itself c.reserved;
   labelled = (flat_map label_of ps, refl);
+  schemes = refl;
   functors = itself c.functors;
   predicates = itself c.predicates;
   letters = itself c.letters;
@@ -131,6 +137,7 @@ proof_grew_law c thesis = record {
   constants = itself c.constants;
   reserved = itself c.reserved;
   labelled = itself c.labelled;
+  schemes = refl;
   functors = itself c.functors;
   predicates = itself c.predicates;
   letters = itself c.letters;
@@ -146,6 +153,7 @@ now_grew_law c = record {
   constants = itself c.constants;
   reserved = itself c.reserved;
   labelled = itself c.labelled;
+  schemes = refl;
   functors = itself c.functors;
   predicates = itself c.predicates;
   letters = itself c.letters;
@@ -171,6 +179,7 @@ block_law c d whole g = λ i. record {
   reserved = take-cut c.reserved d.reserved g.reserved i;
   labelled = take-cut c.labelled d.labelled g.labelled i;
   previous = c.previous;
+  schemes = g.schemes i;
   functors = take-cut c.functors d.functors g.functors i;
   predicates = take-cut c.predicates d.predicates g.predicates i;
   letters = take-cut c.letters d.letters g.letters i;

@@ -1,8 +1,8 @@
 -- Symbols, private functors and predicates, and letters applied to usable arguments.
 use Rattle.std.proofs.Common.{◌≡◌, ◌≤◌, ◌<◌, ◌⊎◌, inl, inr, ◌-◌, ◌+◌, ℕ, zero, suc, Bool, true, false, List, [], ◌∷◌, ◌++◌, refl, sym, ap, ◌∙◌, subst, arith, length, length-append, take, reverse, Option, Some, None}
-use Rattle.std.specs.Prelude.{not, nat_le, nat_eq, if◌then◌else◌, Result, Err, Contains, slice_get}
+use Rattle.std.specs.Prelude.{not, nat_le, nat_eq, if◌then◌else◌, Result, Ok, Err, Contains, slice_get}
 use Rattle.std.specs.List.{list_all, list_any}
-use Rattle.std.proofs.lemmas.Bool.{and_parts, and_from, leb-true, eqb-true, true≢false}
+use Rattle.std.proofs.lemmas.Bool.{leb-true, eqb-true, true≢false}
 use mathlib.Core.List.{reverse-cons}
 use Rattle.std.proofs.lemmas.List.Elements.{Contains-append_cases}
 use Rattle.std.proofs.Math.Seq.{take-append_seam}
@@ -33,9 +33,9 @@ use Rattle.mz_types.specs.Known.{typing}
 use Rattle.mz_chain_laws.proofs.StructureHolds.{found}
 use Rattle.mz_fits.proofs.OneMatch.{some-inj, none_some}
 use Rattle.mz_names.specs.Names.{has_name, is_some, is_reserved_as, reserved_as, usable_type, reserved_type, latest_up_to, number_of, if_usable, variable, argument, is_functor_as, is_predicate_as, functor_letter, predicate_letter, letter_sym, letter_places}
-use Rattle.mz_names.specs.Scope.{term_from, type_from, statement_from, types_from}
+use Rattle.mz_names.specs.Scope.{type_from}
 use Rattle.mz_names.specs.declared.refusal.Refusal.{Refusal}
-use Rattle.mz_names.specs.declared.refusal.Refusal.TheVariants.{NoNotation}
+use Rattle.mz_names.specs.declared.refusal.Refusal.TheVariants.{NoNotation, TooLarge}
 use Rattle.mz_choice.specs.Choice as co
 use Rattle.mz_choice.specs.Choice.{Suits, EndsWithFresh}
 use Rattle.mz_choice.specs.declared.choice.Applied.{Applied}
@@ -43,7 +43,7 @@ use Rattle.mz_choice.specs.declared.choice.Wanted.{Wanted}
 use Rattle.mz_choice.specs.declared.choice.Wanted.TheVariants.{Anything, AdjectiveOf, AdjectiveOfFresh}
 use Rattle.mz_sizes.specs.Sizes.{term_keeps, adjective_keeps, statement_keeps}
 use Rattle.mz_applied.specs.Within.{within}
-use Rattle.mz_applied.specs.Meant.{as_term, as_type, as_statement, as_attributed, as_adjective, adjective_of, sign_of, literal_of, but_last}
+use Rattle.mz_applied.specs.Meant.{as_term, as_type, as_statement, keeps_alone, as_attributed, as_adjective, adjective_of, sign_of, literal_of, but_last}
 use Rattle.mz_applied.specs.Private as pr
 use Rattle.mz_applied.specs.Private.{Admits, is_functor_usable, is_predicate_usable, term_of_letter, statement_of_letter, AppliesFunctor, AppliesPredicate}
 use Rattle.mz_applied.specs.Reading.{ReadsAs}
@@ -57,7 +57,7 @@ use Rattle.mz_term_laws.specs.Usable.{is_usable, term_usable, type_usable, state
 use Rattle.mz_term_laws.specs.Whole.{IsWhole}
 use Rattle.mz_term_laws.specs.TermLaws.{ReservedTypeLaw, RadicesLaw}
 use Rattle.mz_term_laws.proofs.Outcomes.{on_ok, if_any, on_within, on_reads_as}
-use Rattle.mz_term_laws.proofs.UsableProofs.{term_from-weaker, type_from-weaker, types_from-weaker, statement_from-weaker, numbered_below, usable_from}
+use Rattle.mz_term_laws.proofs.UsableProofs.{term_from-weaker, type_from-weaker, statement_from-weaker, numbered_below, usable_from}
 use Rattle.mz_term_laws.proofs.ChangeProofs.{known_types}
 
 -- what the laws on reading start from
@@ -86,10 +86,14 @@ literal_of_known : (known : ℕ → Bool) (non : Bool) (l : Literal) → literal
 literal_of_known known non (literal.Atom positive s ts) h = h
 literal_of_known known non (literal.Eq positive t u) h = h
 
+attributed_step : (known : ℕ → Bool) (first : Place) (s : Statement) (b : Bool) → statement_known known 0 s ≡ true → on_ok (statement_known known 0) (if b then Ok s else Err (TooLarge first)) ≡ true
+attributed_step known first s true h = h
+attributed_step known first s false h = refl
+
 attributed_form : (known : ℕ → Bool) (non : Bool) (place first : Place) (m : Meaning) → meaning_known known 0 m ≡ true → on_ok (statement_known known 0) (as_attributed non place first m) ≡ true
 attributed_form known non place first (OfTerm t) h = refl
 attributed_form known non place first (OfLiteral l) h =
-    on_within (statement_known known 0) statement_keeps first (literal_statement (literal_of non l)) (literal_statement_all (term_known known) 0 (literal_of non l) (literal_of_known known non l h))
+    attributed_step known first (literal_statement (literal_of non l)) (keeps_alone l) (literal_statement_all (term_known known) 0 (literal_of non l) (literal_of_known known non l h))
 attributed_form known non place first (OfType ty) h = refl
 
 literal_adjective : (known : ℕ → Bool) (non : Bool) (place first : Place) (l : Literal) → literal_known known 0 l ≡ true → on_ok (adjective_known known 0) (adjective_of non place first l) ≡ true
@@ -237,20 +241,16 @@ reserved_type_law c from least w le name ty e = some_usable (type_usable from c)
 
 -- private functors and predicates
 admitted : (e : Environment) (c : Context) (place : Place) (usable : Bool) (places : List SoftType) (ts : List Term) (o : Option Refusal) → Admits e c place usable places ts o → o ≡ None → (usable ≡ true) × (length ts ≡ length places)
-admitted e c place usable places ts o (pr.not_usable h) q = absurd (none_some _ (sym q))
-admitted e c place usable places ts o (pr.other_number h k) q = absurd (none_some _ (sym q))
-admitted e c place usable places ts o (pr.unfit h k n) q = absurd (none_some _ (sym q))
-admitted e c place usable places ts o (pr.admits h k p) q = (h, eqb-true (length ts) (length places) k)
+admitted e c place usable places ts o (pr.other_number k) q = absurd (none_some _ (sym q))
+admitted e c place usable places ts o (pr.unfit k n) q = absurd (none_some _ (sym q))
+admitted e c place usable places ts o (pr.not_usable k p h) q = absurd (none_some _ (sym q))
+admitted e c place usable places ts o (pr.admits k p h) q = (h, eqb-true (length ts) (length places) k)
 
 functor_weaker : (from least : ℕ) → from ≤ least → (f : PrivateFunctor) → is_functor_usable least f ≡ true → is_functor_usable from f ≡ true
-functor_weaker from least le f h =
-    let both : (term_from least f.body ≡ true) × (types_from least f.places ≡ true) = and_parts (term_from least f.body) (types_from least f.places) h in
-    and_from (term_from from f.body) (types_from from f.places) (term_from-weaker from least le f.body both.0) (types_from-weaker from least le f.places both.1)
+functor_weaker from least le f h = term_from-weaker from least le f.body h
 
 predicate_weaker : (from least : ℕ) → from ≤ least → (p : PrivatePredicate) → is_predicate_usable least p ≡ true → is_predicate_usable from p ≡ true
-predicate_weaker from least le p h =
-    let both : (statement_from least p.body ≡ true) × (types_from least p.places ≡ true) = and_parts (statement_from least p.body) (types_from least p.places) h in
-    and_from (statement_from from p.body) (types_from from p.places) (statement_from-weaker from least le p.body both.0) (types_from-weaker from least le p.places both.1)
+predicate_weaker from least le p h = statement_from-weaker from least le p.body h
 
 letter_term_step : (known : ℕ → Bool) (place : Place) (ts : List Term) (l : NamedLetter) (b : Bool) → list_all (term_known known 0) ts ≡ true → on_ok (term_known known 0) (if b then within term_keeps place (App (letter_sym l.letter) (terms_of ts)) else Err (NoNotation place)) ≡ true
 letter_term_step known place ts l true h = on_within (term_known known 0) term_keeps place (App (letter_sym l.letter) (terms_of ts)) (args_known-terms_of known 0 ts ∙ h)

@@ -2,7 +2,6 @@
 use Rattle.std.proofs.Common.{◌≡◌, ◌≤◌, ◌<◌, ◌⊎◌, inl, inr, ℕ, zero, suc, true, List, [], ◌∷◌, ◌++◌, refl, sym, ap, ◌∙◌, subst, arith, length, Option, Some, None}
 use Rattle.std.specs.Prelude.{Contains}
 use Rattle.std.specs.List.{list_all}
-use Rattle.std.proofs.lemmas.Bool.{and_parts, and_from}
 use Rattle.std.proofs.lemmas.List.Elements.{Contains-append_cases}
 use Rattle.mz_logic.specs.Term.{Term}
 use Rattle.mz_core.specs.Statement.{Statement}
@@ -19,7 +18,6 @@ use Rattle.mz_context.specs.declared.private.PrivatePredicate.{PrivatePredicate}
 use Rattle.mz_context.specs.declared.reserved.ReservedVariable.{ReservedVariable}
 use Rattle.mz_fits.proofs.OneMatch.{some-inj, none_some}
 use Rattle.mz_names.specs.Closing.{constant_of, with_variables}
-use Rattle.mz_names.specs.Scope.{term_from, types_from, statement_from}
 use Rattle.mz_names.specs.declared.variable.Variable.{Variable}
 use Rattle.mz_applied.specs.Private.{is_functor_usable, is_predicate_usable}
 use Rattle.mz_choice_laws.specs.Known.{term_known, statement_known, HasKnownTypes}
@@ -28,7 +26,7 @@ use Rattle.mz_choice_laws.proofs.KnownValues.{type_known-where, statement_known-
 use Rattle.mz_term_laws.specs.Usable.{is_usable, term_usable, type_usable, statement_usable}
 use Rattle.mz_term_laws.specs.Whole.{IsUsableConstant, IsWhole}
 use Rattle.mz_term_laws.specs.ChangeLaws.{EmptyLaw, WholeFromLaw, AreUsable, ConstantLaw, VariablesLaw, StatementLaw, ThesisLaw, PreviousLaw, ReservedLaw, FunctorLaw, PredicateLaw, LetterLaw}
-use Rattle.mz_term_laws.proofs.UsableProofs.{numbered_last, numbered_below, usable_parts, usable_from, usable_more, term_from-zero, type_from-zero, types_from-zero, statement_from-zero, term_known-with, type_known-with, statement_known-with}
+use Rattle.mz_term_laws.proofs.UsableProofs.{numbered_last, numbered_below, usable_parts, usable_from, usable_more, term_from-zero, type_from-zero, statement_from-zero, term_known-with, type_known-with, statement_known-with}
 
 either : {A B C : Type 0} → A ⊎ B → (A → C) → (B → C) → C
 either (inl a) f g = f a
@@ -254,10 +252,10 @@ from_now_on : (least : ℕ) (c : Context) (m : ℕ) → is_usable 0 c m ≡ true
 from_now_on least c m h le = usable_from least c m le (usable_parts 0 c m h).1
 
 functor_from_zero : (f : PrivateFunctor) → is_functor_usable 0 f ≡ true
-functor_from_zero f = and_from (term_from 0 f.body) (types_from 0 f.places) (term_from-zero f.body) (types_from-zero f.places)
+functor_from_zero f = term_from-zero f.body
 
 predicate_from_zero : (p : PrivatePredicate) → is_predicate_usable 0 p ≡ true
-predicate_from_zero p = and_from (statement_from 0 p.body) (types_from 0 p.places) (statement_from-zero p.body) (types_from-zero p.places)
+predicate_from_zero p = statement_from-zero p.body
 
 pub whole_from_law : WholeFromLaw
 whole_from_law least c w le no_thesis no_it no_arguments no_subject =
@@ -266,8 +264,8 @@ whole_from_law least c w le no_thesis no_it no_arguments no_subject =
       reserved = λ v i f. type_known-with (is_usable 0 c) (is_usable least c) least (from_now_on least c) 0 v.ty (w.reserved v i (type_from-zero v.ty)) f;
       labelled = λ p i f. statement_known-with (is_usable 0 c) (is_usable least c) least (from_now_on least c) 0 p.statement (w.labelled p i (statement_from-zero p.statement)) f;
       previous = λ s e f. statement_known-with (is_usable 0 c) (is_usable least c) least (from_now_on least c) 0 s (w.previous s e (statement_from-zero s)) f;
-      functors = λ f i u. term_known-with (is_usable 0 c) (is_usable least c) least (from_now_on least c) (length f.places) f.body (w.functors f i (functor_from_zero f)) (and_parts (term_from least f.body) (types_from least f.places) u).0;
-      predicates = λ p i u. statement_known-with (is_usable 0 c) (is_usable least c) least (from_now_on least c) (length p.places) p.body (w.predicates p i (predicate_from_zero p)) (and_parts (statement_from least p.body) (types_from least p.places) u).0;
+      functors = λ f i u. term_known-with (is_usable 0 c) (is_usable least c) least (from_now_on least c) (length f.places) f.body (w.functors f i (functor_from_zero f)) u;
+      predicates = λ p i u. statement_known-with (is_usable 0 c) (is_usable least c) least (from_now_on least c) (length p.places) p.body (w.predicates p i (predicate_from_zero p)) u;
       letters = w.letters;
       thesis = λ s e. absurd (not_any c.thesis s no_thesis e);
       it_is = λ t e. absurd (not_any c.it t no_it e);

@@ -1,6 +1,10 @@
 -- What an atom unfolds to, and the thesis after a step, are determined.
-use Rattle.std.proofs.Common.{◌≡◌, ℕ, zero, suc, List, [], ◌∷◌, refl, sym, ap, ◌∙◌, subst, Bool, true, false, length, inl, inr, ◌⊎◌, Option, Some, None}
+use Rattle.std.proofs.Common.{◌≡◌, ℕ, zero, suc, List, [], ◌∷◌, refl, sym, ap, ◌∙◌, subst, true, false, length, inl, inr, ◌⊎◌, Option, Some, None}
 use Rattle.std.specs.Prelude.{reverse}
+use Rattle.std.proofs.lemmas.Bool.{false≢true}
+use Rattle.mz_std_laws.proofs.Options.{some-inj, none_some}
+use Rattle.mz_std_laws.proofs.Sums.{either}
+use Rattle.mz_std_laws.proofs.Truth.{not_both}
 use Rattle.mz_logic.specs.declared.sym.Sym.{Sym}
 use Rattle.mz_logic.specs.Term.{Term}
 use Rattle.mz_core.specs.Statement.{Statement, Truth, Eq, Atom, Not, And, For}
@@ -16,27 +20,6 @@ use Rattle.mz_thesis.specs.Unfolding.{formals, is_sought, definiens_at, Gives, u
 use Rattle.mz_thesis.specs.Rows.{Admits, thesis_after}
 use Rattle.mz_thesis.specs.Applied.{first_part, with_first_part, Unfolded, unfolded, as_it_is, Applied, fits, unfolds, unfolds_to_nothing, no_unfolding_left}
 use Rattle.mz_thesis.specs.Laws.{OneUnfoldingLaw, OneThesisLaw}
-
-some-inj : {A : Type 0} (x y : A) → Some x ≡ Some y → x ≡ y
-some-inj x y e = ap (λ o. or_else o x) e
-  where
-    or_else : {A : Type 0} → Option A → A → A
-    or_else None d = d
-    or_else (Some z) d = z
-
-none_some : {A : Type 0} (x : A) → None ≡ Some x → ⊥
-none_some x e = cc
-
-false_true : false ≡ true → ⊥
-false_true e = cc
-
-not_both : (b : Bool) → b ≡ false → b ≡ true → ⊥
-not_both true e h = cc
-not_both false e h = cc
-
-either : {A B C : Type 0} → A ⊎ B → (A → C) → (B → C) → C
-either (inl a) f g = f a
-either (inr b) f g = g b
 
 -- one unfolding
 abbrev GivesAs : List Clause → List (Option Constant) → Unfolding → List Term → Option Fixed → Option Statement → Type 0
@@ -105,8 +88,8 @@ UnfoldsAs cs ks us (For ty s) o = o ≡ None
 
 nothing_of : (cs : List Clause) (ks : List (Option Constant)) (us : List Unfolding) (s : Statement) → is_compound s ≡ true → UnfoldsAs cs ks us s None
 nothing_of cs ks us Truth h = refl
-nothing_of cs ks us (Eq t u) h = absurd (false_true h)
-nothing_of cs ks us (Atom s ts) h = absurd (false_true h)
+nothing_of cs ks us (Eq t u) h = absurd (false≢true h)
+nothing_of cs ks us (Atom s ts) h = absurd (false≢true h)
 nothing_of cs ks us (Not s) h = refl
 nothing_of cs ks us (And s t) h = refl
 nothing_of cs ks us (For ty s) h = refl

@@ -4,6 +4,7 @@ use Rattle.std.specs.Prelude.{◌||◌, Option, Some, None, Contains, slice_get}
 use Rattle.std.specs.List.{list_any, list_all}
 use Rattle.std.proofs.lemmas.List.{append-nil}
 use Rattle.std.proofs.lemmas.Bool.{and_parts, and_from, or_from}
+use Rattle.mz_std_laws.proofs.Sums.{either}
 use Rattle.mz_logic.specs.Term.{Term, Bound, Const}
 use Rattle.mz_logic.specs.Formula as formula
 use Rattle.mz_logic.specs.Formula.{Formula}
@@ -73,10 +74,6 @@ specialized ax g ty s t ct each d =
     let one : Derives ax g (body_at (inner ty s) t) = all_out ax g (inner ty s) t ct d in
     let two : Derives ax g (where_guard (guard ty t) (erase (statement_at s t))) = subst (Derives ax g) (body_under_guard ty s t) one in
     where_out ax g (guard ty t) (erase (statement_at s t)) (along_each ax g (guard ty t) each) two
-
-either : {A B C : Type 0} → A ⊎ B → (A → C) → (B → C) → C
-either (inl a) f g = f a
-either (inr b) f g = g b
 
 -- what is known with a fresh constant
 last_or : (ks : List (Option Constant)) (x : Option Constant) (i : ℕ) → (slice_get (ks ++ x ∷ []) i ≡ slice_get ks i) ⊎ ((i ≡ length ks) × (slice_get (ks ++ x ∷ []) i ≡ Some x))

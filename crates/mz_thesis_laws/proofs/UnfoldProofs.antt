@@ -1,9 +1,11 @@
 -- What an atom or an equation unfolds to is as much as it.
-use Rattle.std.proofs.Common.{◌≡◌, ◌≤◌, ◌<◌, ◌-◌, ◌+◌, ℕ, zero, suc, true, false, Bool, List, [], ◌∷◌, ◌++◌, refl, sym, ap, ◌∙◌, subst, arith, length, length-append, append_assoc, Option, Some, None, map, drop, get_or}
+use Rattle.std.proofs.Common.{◌≡◌, ◌≤◌, ◌<◌, ◌-◌, ◌+◌, ℕ, zero, suc, true, false, Bool, List, [], ◌∷◌, ◌++◌, refl, sym, ap, ◌∙◌, subst, arith, length, length-append, append_assoc, Option, Some, map, drop, get_or}
 use Rattle.std.specs.Prelude.{◌&&◌, reverse, Contains, nat_eq}
 use Rattle.std.specs.List.{list_all}
 use Rattle.std.proofs.lemmas.List.{get_or-reverse, length-reverse, reverse-append, append-nil}
 use Rattle.std.proofs.lemmas.Bool.{and_parts, and_from, eqb-true, lt-ltb}
+use Rattle.std.proofs.lemmas.Bool.{false≢true}
+pub use Rattle.mz_std_laws.proofs.Options.{some-inj, none_some}
 use Rattle.mz_logic.specs.declared.sym.Sym.{Sym}
 use Rattle.mz_logic.specs.Sym.{same_sym, kind_number}
 use Rattle.mz_logic.specs.Term as term
@@ -58,19 +60,6 @@ use Rattle.mz_thesis.specs.declared.sought.Sought.TheVariants.{AtomOf, Equation}
 use Rattle.mz_thesis.specs.Unfolding.{formals, is_sought, definiens_at, Gives, unmatched, unfit, fit, FirstGives, none_left, of_other, not_this, this_one, is_compound, UnfoldsTo, atom, right, left, compound}
 use Rattle.mz_thesis_laws.specs.StepLaws.{AreUnfoldings, UnfoldsLaw}
 use Rattle.mz_thesis_laws.proofs.MatchKeeps.{GoesInside, matched_values}
-
-pub some-inj : {A : Type 0} (x y : A) → Some x ≡ Some y → x ≡ y
-some-inj x y e = ap (λ o. or_else o x) e
-  where
-    or_else : {A : Type 0} → Option A → A → A
-    or_else None d = d
-    or_else (Some z) d = z
-
-pub none_some : {A : Type 0} (x : A) → None ≡ Some x → ⊥
-none_some x e = cc
-
-false_true : false ≡ true → ⊥
-false_true e = cc
 
 -- the guards of loci
 map_two : {X Y Z : Type 0} (f : Y → Z) (g : X → Y) (xs : List X) → map f (map g xs) ≡ map (λ x. f (g x)) xs
@@ -310,14 +299,14 @@ Is (AtomOf s) ts f = formula.Atom s ts ≡ f
 Is Equation ts f = (t : term.Term) × (u : term.Term) × (ts ≡ u ∷ t ∷ []) × (formula.Eq t u ≡ f)
 
 by_head : (ax g : List Formula) (q : Sought) (r : Trigger) (vs ts : List term.Term) (f : Formula) → is_sought q r ≡ true → Is q ts f → list_all closed ts ≡ true → AreEqual ax g (map (substitute 0 (value_at vs)) (formals r)) ts → list_all closed (map (substitute 0 (value_at vs)) (formals r)) ≡ true → Both ax g (substitute_formula 0 (value_at vs) (erase (head_statement r))) f
-by_head ax g (AtomOf s) (Term t) vs ts f h is ct e cu = absurd (false_true h)
+by_head ax g (AtomOf s) (Term t) vs ts f h is ct e cu = absurd (false≢true h)
 by_head ax g (AtomOf s) (Atom r us) vs ts f h is ct e cu =
     subst (Both ax g (substitute_formula 0 (value_at vs) (erase (head_statement (Atom r us))))) (ap (λ z. formula.Atom z ts) (same_sym-true r s h) ∙ is) (atom_head ax g vs r us ts cu ct e)
 by_head ax g Equation (Term t) vs ts f h is ct e cu =
     let ct' : list_all closed (is.1 ∷ is.0 ∷ []) ≡ true = subst (λ xs. list_all closed xs ≡ true) is.2 ct in
     let e' : AreEqual ax g (map (substitute 0 (value_at vs)) (t ∷ Bound 0 ∷ [])) (is.1 ∷ is.0 ∷ []) = subst (AreEqual ax g (map (substitute 0 (value_at vs)) (t ∷ Bound 0 ∷ []))) is.2 e in
     subst (Both ax g (substitute_formula 0 (value_at vs) (erase (head_statement (Term t))))) is.3 (equation_head ax g vs t is.1 is.0 cu ct' e')
-by_head ax g Equation (Atom r us) vs ts f h is ct e cu = absurd (false_true h)
+by_head ax g Equation (Atom r us) vs ts f h is ct e cu = absurd (false≢true h)
 
 -- the first of several
 pub from_reverse : (us : List Unfolding) (u : Unfolding) → Contains (reverse us) u → Contains us u

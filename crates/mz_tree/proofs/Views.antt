@@ -1,8 +1,8 @@
 -- The views of the trees, variant by variant.
 use Rattle.std.proofs.Common.{◌≡◌, ℕ, zero, suc, List, [], ◌∷◌, map, take, length, ◌≤◌, Option, Vec, Box, refl, sym, ap, ◌∙◌, arith}
 use Rattle.std.specs.declared.alloc.Global.{Global}
-use Rattle.mz_tree.specs.Trees.{TermData, PieceData, PrefixData, BeforeData, BaseData, TermsData, NextTermData, AdjectiveData, TypeData, DeclaredData, NextDeclaredData, FormulaData, DisjunctionData, NextConjunctionData, ConjunctionData, NextUnitData, UnitData, QuantifiedData, PrefixList, PlainAdjective, WithIdentifierAdjective, WithTermsAdjective, IdentifierBase, SubjectBase, ArgumentBase, GroupBase, CallBase, CallWithBase, SelectorBase, AggregateBase, BracketsBase, BracesBase, SquaresBase, SetOfBase, ChoiceBase, ChoiceStructureBase, PlainDeclared, TypedDeclared, PlainFormula, ImpliesFormula, IffFormula, FunctorPiece, OperandPiece, SelectorPrefix, ChoiceOfPrefix, ChoiceOverPrefix, ForQuantified, ForSuchQuantified, ForFurtherQuantified, ForSuchFurtherQuantified, ExistsQuantified, ModeType, ModeOfType, StructureType, StructureOverType, NotUnit, ContradictionUnit, ThesisUnit, QuantifiedUnit, GroupUnit, PrivateUnit, PrivateWithUnit, PredicateUnit, PredicateRightUnit, PredicateLeftUnit, PredicateBothUnit, IsTypeUnit, IsAdjectivesUnit, RunTerm, OperandBefore, ListTerms, NextNextTerm, NextNextDeclared, ChainDisjunction, OrNextConjunction, ChainConjunction, AndNextUnit, pieces_of, prefixs_of, befores_of, next_terms_of, adjectives_of, next_declareds_of, next_conjunctions_of, next_units_of}
-use Rattle.mz_tree.specs.Views.{OperandData, before_view, next_term_view, next_declared_view, next_unit_view, next_conjunction_view, adjective_step, base_step, declared_step, formula_step, piece_step, prefix_step, quantified_step, type_step, unit_step, conjunction_step, operand_step, term_step, adjective_of, base_of, declared_of, formula_of, piece_of, prefix_of, quantified_of, type_of, unit_of, conjunction_of, operand_of, term_of, before_of, next_term_of, terms_of, next_declared_of, next_unit_of, next_conjunction_of, disjunction_of}
+use Rattle.mz_tree.specs.Trees.{TermData, ConjunctionData, PlainAdjective, WithIdentifierAdjective, WithTermsAdjective, IdentifierBase, SubjectBase, ArgumentBase, GroupBase, CallBase, CallWithBase, SelectorBase, AggregateBase, BracketsBase, BracesBase, SquaresBase, SetOfBase, ChoiceBase, ChoiceStructureBase, PlainDeclared, TypedDeclared, PlainFormula, ImpliesFormula, IffFormula, FunctorPiece, OperandPiece, SelectorPrefix, ChoiceOfPrefix, ChoiceOverPrefix, ForQuantified, ForSuchQuantified, ForFurtherQuantified, ForSuchFurtherQuantified, ExistsQuantified, ModeType, ModeOfType, StructureType, StructureOverType, NotUnit, ContradictionUnit, ThesisUnit, QuantifiedUnit, GroupUnit, PrivateUnit, PrivateWithUnit, PredicateUnit, PredicateRightUnit, PredicateLeftUnit, PredicateBothUnit, IsTypeUnit, IsAdjectivesUnit, RunTerm, ListTerms, ChainDisjunction, ChainConjunction, pieces_of, prefixs_of, befores_of, next_terms_of, adjectives_of, next_declareds_of, next_conjunctions_of, next_units_of}
+use Rattle.mz_tree.specs.Views.{OperandData, before_view, next_term_view, next_declared_view, next_unit_view, next_conjunction_view, adjective_of, base_of, declared_of, formula_of, piece_of, prefix_of, quantified_of, type_of, unit_of, conjunction_of, operand_of, term_of, before_of, next_term_of, terms_of, next_declared_of, next_unit_of, next_conjunction_of, disjunction_of}
 use Rattle.mz_base.specs.declared.place.Place.{Place}
 use Rattle.mz_tree.specs.declared.word.Word.{Word}
 use Rattle.mz_tree.specs.declared.word.Comma.{Comma}
@@ -11,13 +11,10 @@ use Rattle.mz_tree.specs.declared.chain.Next.{Next}
 use Rattle.mz_tree.specs.declared.chain.Chain.{Chain}
 use Rattle.mz_tree.specs.declared.chain.Before.{Before}
 use Rattle.mz_tree.specs.declared.nodes.AdjectiveNode.{AdjectiveNode}
-use Rattle.mz_tree.specs.declared.nodes.BaseNode.{BaseNode}
 use Rattle.mz_tree.specs.declared.nodes.ConjunctionNode.{ConjunctionNode}
 use Rattle.mz_tree.specs.declared.nodes.DeclaredNode.{DeclaredNode}
 use Rattle.mz_tree.specs.declared.nodes.FormulaNode.{FormulaNode}
 use Rattle.mz_tree.specs.declared.nodes.OperandNode.{OperandNode}
-use Rattle.mz_tree.specs.declared.nodes.PieceNode.{PieceNode}
-use Rattle.mz_tree.specs.declared.nodes.PrefixNode.{PrefixNode}
 use Rattle.mz_tree.specs.declared.nodes.QuantifiedNode.{QuantifiedNode}
 use Rattle.mz_tree.specs.declared.nodes.TermNode.{TermNode}
 use Rattle.mz_tree.specs.declared.nodes.TypeNode.{TypeNode}

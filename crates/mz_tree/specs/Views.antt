@@ -1,11 +1,9 @@
 -- The trees of the program as those of the grammar.
-use Rattle.std.specs.Prelude.{ℕ, List, map, Vec, Box, Option}
+use Rattle.std.specs.Prelude.{map, Vec, Box}
 use Rattle.std.specs.declared.alloc.Global.{Global}
 use Rattle.mz_tree.specs.Trees.{DeclarationsData, AdjectivesData, TermData, PieceData, PrefixData, BeforeData, BaseData, TermsData, NextTermData, AdjectiveData, TypeData, DeclaredData, NextDeclaredData, FormulaData, DisjunctionData, NextConjunctionData, ConjunctionData, NextUnitData, UnitData, QuantifiedData, PrefixList, PlainAdjective, WithIdentifierAdjective, WithTermsAdjective, IdentifierBase, SubjectBase, ArgumentBase, GroupBase, CallBase, CallWithBase, SelectorBase, AggregateBase, BracketsBase, BracesBase, SquaresBase, SetOfBase, ChoiceBase, ChoiceStructureBase, PlainDeclared, TypedDeclared, PlainFormula, ImpliesFormula, IffFormula, FunctorPiece, OperandPiece, SelectorPrefix, ChoiceOfPrefix, ChoiceOverPrefix, ForQuantified, ForSuchQuantified, ForFurtherQuantified, ForSuchFurtherQuantified, ExistsQuantified, ModeType, ModeOfType, StructureType, StructureOverType, NotUnit, ContradictionUnit, ThesisUnit, QuantifiedUnit, GroupUnit, PrivateUnit, PrivateWithUnit, PredicateUnit, PredicateRightUnit, PredicateLeftUnit, PredicateBothUnit, IsTypeUnit, IsAdjectivesUnit, RunTerm, OperandBefore, ListTerms, NextNextTerm, NextNextDeclared, ChainDisjunction, OrNextConjunction, ChainConjunction, AndNextUnit, pieces_of, prefixs_of, befores_of, next_terms_of, adjectives_of, next_declareds_of, next_conjunctions_of, next_units_of}
 use Rattle.mz_base.specs.declared.place.Place.{Place}
-use Rattle.mz_tree.specs.declared.word.Word.{Word}
 use Rattle.mz_tree.specs.declared.word.Comma.{Comma}
-use Rattle.mz_tree.specs.declared.word.Being.{Being}
 use Rattle.mz_tree.specs.declared.chain.Next.{Next}
 use Rattle.mz_tree.specs.declared.chain.Chain.{Chain}
 use Rattle.mz_tree.specs.declared.chain.Before.{Before}

@@ -1,21 +1,20 @@
 //! The trees of expressions: terms, types, adjectives, declarations and formulas.
-ghost use Rattle.std.specs.Prelude.{◌≡◌, ◌++◌, IfOk, map};
-ghost use Rattle.mz_tree.specs.Spell.{spell_term, spell_terms, spell_type, spell_adjectives, spell_declarations, spell_formula};
+ghost use Rattle.std.specs.Prelude.{◌≡◌, map};
 ghost use Rattle.mz_tree.specs.Trees.{adjectives_of};
 ghost use Rattle.mz_tree.specs.Views.{term_of, terms_of, type_of, adjective_of, adjectives_seen, declarations_of, formula_of};
 
-use crate::copies::{copy_adjectives, copy_declarations, copy_terms};
 use crate::nodes::{AdjectiveNode, DeclarationsNode, FormulaNode, TermNode, TermsNode, TypeNode};
-use crate::spell::{spell_adjectives_of, spell_declarations_of, spell_terms_of};
-use crate::tree::{Copied, Spell};
-use mz_base::token::MarkedToken;
-use std::alloc::{AllocError, Global};
 use std::marker::Model;
 
 /// A term.
-#[derive(Drop)]
 pub struct TermTree {
     pub node: TermNode,
+}
+
+impl Drop for TermTree {
+    fn drop(self) {
+        let TermTree { node: _node } = self;
+    }
 }
 
 impl Model for TermTree {
@@ -47,25 +46,15 @@ impl TermTree {
     }
 }
 
-impl Copied for TermTree {
-    fn copy(&self, alloc: Global) -> Result<TermTree, AllocError> {
-        let node = self.node.copy(alloc)?;
-        Ok(TermTree { node })
-    }
-}
-
-impl Spell for TermTree {
-    ghost spelled = { spell_term };
-
-    fn spell(&self, alloc: Global, out: &mut Vec<MarkedToken>) -> Result<(), AllocError> {
-        self.node.spell(alloc, out)
-    }
-}
-
 /// Terms with list commas between them.
-#[derive(Drop)]
 pub struct TermsTree {
     pub node: TermsNode,
+}
+
+impl Drop for TermsTree {
+    fn drop(self) {
+        let TermsTree { node: _node } = self;
+    }
 }
 
 impl Model for TermsTree {
@@ -97,25 +86,15 @@ impl TermsTree {
     }
 }
 
-impl Copied for TermsTree {
-    fn copy(&self, alloc: Global) -> Result<TermsTree, AllocError> {
-        let node = copy_terms(alloc, &self.node)?;
-        Ok(TermsTree { node })
-    }
-}
-
-impl Spell for TermsTree {
-    ghost spelled = { spell_terms };
-
-    fn spell(&self, alloc: Global, out: &mut Vec<MarkedToken>) -> Result<(), AllocError> {
-        spell_terms_of(alloc, out, &self.node)
-    }
-}
-
 /// A type.
-#[derive(Drop)]
 pub struct TypeTree {
     pub node: Box<TypeNode>,
+}
+
+impl Drop for TypeTree {
+    fn drop(self) {
+        let TypeTree { node: _node } = self;
+    }
 }
 
 impl Model for TypeTree {
@@ -147,26 +126,19 @@ impl TypeTree {
     }
 }
 
-impl Copied for TypeTree {
-    fn copy(&self, alloc: Global) -> Result<TypeTree, AllocError> {
-        let node = self.node.boxed(alloc)?;
-        Ok(TypeTree { node })
-    }
-}
-
-impl Spell for TypeTree {
-    ghost spelled = { spell_type };
-
-    fn spell(&self, alloc: Global, out: &mut Vec<MarkedToken>) -> Result<(), AllocError> {
-        self.node.spell(alloc, out)
-    }
-}
-
 /// Adjectives, at least one.
-#[derive(Drop)]
 pub struct AdjectivesTree {
     pub first: AdjectiveNode,
     pub more: Vec<AdjectiveNode>,
+}
+
+impl Drop for AdjectivesTree {
+    fn drop(self) {
+        let AdjectivesTree {
+            first: _first,
+            more: _more,
+        } = self;
+    }
 }
 
 impl Model for AdjectivesTree {
@@ -205,28 +177,15 @@ impl AdjectivesTree {
     }
 }
 
-impl Copied for AdjectivesTree {
-    fn copy(&self, alloc: Global) -> Result<AdjectivesTree, AllocError> {
-        let more = copy_adjectives(alloc, &self.more)?;
-        let first = self.first.copy(alloc)?;
-        Ok(AdjectivesTree { first, more })
-    }
-}
-
-impl Spell for AdjectivesTree {
-    ghost spelled = { spell_adjectives };
-
-    #[tactic(auto, using(crate::proofs::SpellLemmas::spell_rules))]
-    fn spell(&self, alloc: Global, out: &mut Vec<MarkedToken>) -> Result<(), AllocError> {
-        self.first.spell(alloc, out)?;
-        spell_adjectives_of(alloc, out, &self.more)
-    }
-}
-
 /// Declarations with commas between them.
-#[derive(Drop)]
 pub struct DeclarationsTree {
     pub node: DeclarationsNode,
+}
+
+impl Drop for DeclarationsTree {
+    fn drop(self) {
+        let DeclarationsTree { node: _node } = self;
+    }
 }
 
 impl Model for DeclarationsTree {
@@ -258,26 +217,15 @@ impl DeclarationsTree {
     }
 }
 
-impl Copied for DeclarationsTree {
-    fn copy(&self, alloc: Global) -> Result<DeclarationsTree, AllocError> {
-        let node = copy_declarations(alloc, &self.node)?;
-        Ok(DeclarationsTree { node })
-    }
-}
-
-impl Spell for DeclarationsTree {
-    ghost spelled = { spell_declarations };
-
-    #[tactic(auto, using(crate::proofs::SpellLemmas::spell_rules))]
-    fn spell(&self, alloc: Global, out: &mut Vec<MarkedToken>) -> Result<(), AllocError> {
-        spell_declarations_of(alloc, out, &self.node)
-    }
-}
-
 /// A formula.
-#[derive(Drop)]
 pub struct FormulaTree {
     pub node: Box<FormulaNode>,
+}
+
+impl Drop for FormulaTree {
+    fn drop(self) {
+        let FormulaTree { node: _node } = self;
+    }
 }
 
 impl Model for FormulaTree {
@@ -306,20 +254,5 @@ impl FormulaTree {
         ensures { formula_of result.now ≡ self.now }
     {
         &*self.node
-    }
-}
-
-impl Copied for FormulaTree {
-    fn copy(&self, alloc: Global) -> Result<FormulaTree, AllocError> {
-        let node = self.node.boxed(alloc)?;
-        Ok(FormulaTree { node })
-    }
-}
-
-impl Spell for FormulaTree {
-    ghost spelled = { spell_formula };
-
-    fn spell(&self, alloc: Global, out: &mut Vec<MarkedToken>) -> Result<(), AllocError> {
-        self.node.spell(alloc, out)
     }
 }

@@ -1,7 +1,6 @@
-//! Trees of patterns, definientia, structures and headings of definitions, with their spelling.
+//! Trees of patterns, definientia, structures and headings of definitions, and the definitions of their spelling.
 #![tactic(auto)]
 
-pub mod copies;
 pub mod heading;
 pub mod meaning;
 pub mod patterns;

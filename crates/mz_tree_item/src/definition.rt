@@ -1,21 +1,12 @@
 //! Definitions: headings with their conditions and properties.
-ghost use Rattle.std.specs.Prelude.{◌≡◌, ◌++◌, IfOk};
-ghost use Rattle.mz_tree_item.specs.Spell.{spell_condition, spell_property, spell_condition_or_property, spell_definition, spell_definition_part};
-
 use mz_base::place::Place;
-use mz_base::token::MarkedToken;
-use mz_tree::emit::{emit_reserved, emit_special};
 use mz_tree::lists::Trees;
-use mz_tree::tree::{Copied, Spell};
-use mz_tree_heading::copies::copied_pair;
 use mz_tree_heading::heading::HeadingTree;
 use mz_tree_part::notation::BlockLetTree;
 use mz_tree_part::words::{ConditionWord, PropertyWord};
 use mz_tree_proof::reasoning::JustTree;
-use std::alloc::{AllocError, Global};
 
 /// A condition and its justification.
-#[derive(Drop)]
 pub struct ConditionTree {
     pub place: Place,
     pub word: ConditionWord,
@@ -23,30 +14,18 @@ pub struct ConditionTree {
     pub semicolon: Place,
 }
 
-impl Copied for ConditionTree {
-    fn copy(&self, alloc: Global) -> Result<ConditionTree, AllocError> {
-        let just = self.just.copy(alloc)?;
-        Ok(ConditionTree {
-            place: self.place,
-            word: self.word,
-            just,
-            semicolon: self.semicolon,
-        })
-    }
-}
-
-impl Spell for ConditionTree {
-    ghost spelled = { spell_condition };
-
-    fn spell(&self, alloc: Global, out: &mut Vec<MarkedToken>) -> Result<(), AllocError> {
-        emit_reserved(alloc, out, self.place, self.word.spelling())?;
-        self.just.spell(alloc, out)?;
-        emit_special(alloc, out, self.semicolon, b";")
+impl Drop for ConditionTree {
+    fn drop(self) {
+        let ConditionTree {
+            place: _place,
+            word: _word,
+            just: _just,
+            semicolon: _semicolon,
+        } = self;
     }
 }
 
 /// A property and its justification.
-#[derive(Drop)]
 pub struct PropertyTree {
     pub place: Place,
     pub word: PropertyWord,
@@ -54,61 +33,33 @@ pub struct PropertyTree {
     pub semicolon: Place,
 }
 
-impl Copied for PropertyTree {
-    fn copy(&self, alloc: Global) -> Result<PropertyTree, AllocError> {
-        let just = self.just.copy(alloc)?;
-        Ok(PropertyTree {
-            place: self.place,
-            word: self.word,
-            just,
-            semicolon: self.semicolon,
-        })
-    }
-}
-
-impl Spell for PropertyTree {
-    ghost spelled = { spell_property };
-
-    fn spell(&self, alloc: Global, out: &mut Vec<MarkedToken>) -> Result<(), AllocError> {
-        emit_reserved(alloc, out, self.place, self.word.spelling())?;
-        self.just.spell(alloc, out)?;
-        emit_special(alloc, out, self.semicolon, b";")
+impl Drop for PropertyTree {
+    fn drop(self) {
+        let PropertyTree {
+            place: _place,
+            word: _word,
+            just: _just,
+            semicolon: _semicolon,
+        } = self;
     }
 }
 
 /// A condition or a property behind a heading.
-#[derive(Drop)]
 pub enum ConditionOrPropertyTree {
     Condition(ConditionTree),
     Property(PropertyTree),
 }
 
-impl Copied for ConditionOrPropertyTree {
-    fn copy(&self, alloc: Global) -> Result<ConditionOrPropertyTree, AllocError> {
+impl Drop for ConditionOrPropertyTree {
+    fn drop(self) {
         match self {
-            ConditionOrPropertyTree::Condition(part) => Ok(ConditionOrPropertyTree::Condition(
-                part.copy(alloc)?,
-            )),
-            ConditionOrPropertyTree::Property(part) => Ok(ConditionOrPropertyTree::Property(
-                part.copy(alloc)?,
-            )),
-        }
-    }
-}
-
-impl Spell for ConditionOrPropertyTree {
-    ghost spelled = { spell_condition_or_property };
-
-    fn spell(&self, alloc: Global, out: &mut Vec<MarkedToken>) -> Result<(), AllocError> {
-        match self {
-            ConditionOrPropertyTree::Condition(condition) => condition.spell(alloc, out),
-            ConditionOrPropertyTree::Property(property) => property.spell(alloc, out),
+            ConditionOrPropertyTree::Condition(_a) => (),
+            ConditionOrPropertyTree::Property(_a) => (),
         }
     }
 }
 
 /// A part of a block of definitions: loci, or a heading with its conditions and properties.
-#[derive(Drop)]
 pub enum DefinitionPartTree {
     Let(BlockLetTree),
     Heading {
@@ -117,43 +68,19 @@ pub enum DefinitionPartTree {
     },
 }
 
-impl Copied for DefinitionPartTree {
-    fn copy(&self, alloc: Global) -> Result<DefinitionPartTree, AllocError> {
+impl Drop for DefinitionPartTree {
+    fn drop(self) {
         match self {
-            DefinitionPartTree::Let(part) => Ok(DefinitionPartTree::Let(part.copy(alloc)?)),
+            DefinitionPartTree::Let(_a) => (),
             DefinitionPartTree::Heading {
-                heading,
-                conditions,
-            } => {
-                let (heading, conditions) = copied_pair(alloc, heading, conditions)?;
-                Ok(DefinitionPartTree::Heading {
-                    heading,
-                    conditions,
-                })
-            }
-        }
-    }
-}
-
-impl Spell for DefinitionPartTree {
-    ghost spelled = { spell_definition_part };
-
-    fn spell(&self, alloc: Global, out: &mut Vec<MarkedToken>) -> Result<(), AllocError> {
-        match self {
-            DefinitionPartTree::Let(loci) => loci.spell(alloc, out),
-            DefinitionPartTree::Heading {
-                heading,
-                conditions,
-            } => {
-                heading.spell(alloc, out)?;
-                conditions.spell(alloc, out)
-            }
+                heading: _heading,
+                conditions: _conditions,
+            } => (),
         }
     }
 }
 
 /// A block of definitions.
-#[derive(Drop)]
 pub struct DefinitionTree {
     pub definition: Place,
     pub parts: Trees<DefinitionPartTree>,
@@ -161,25 +88,13 @@ pub struct DefinitionTree {
     pub semicolon: Place,
 }
 
-impl Copied for DefinitionTree {
-    fn copy(&self, alloc: Global) -> Result<DefinitionTree, AllocError> {
-        let parts = self.parts.copy(alloc)?;
-        Ok(DefinitionTree {
-            definition: self.definition,
-            parts,
-            end: self.end,
-            semicolon: self.semicolon,
-        })
-    }
-}
-
-impl Spell for DefinitionTree {
-    ghost spelled = { spell_definition };
-
-    fn spell(&self, alloc: Global, out: &mut Vec<MarkedToken>) -> Result<(), AllocError> {
-        emit_reserved(alloc, out, self.definition, b"definition")?;
-        self.parts.spell(alloc, out)?;
-        emit_reserved(alloc, out, self.end, b"end")?;
-        emit_special(alloc, out, self.semicolon, b";")
+impl Drop for DefinitionTree {
+    fn drop(self) {
+        let DefinitionTree {
+            definition: _definition,
+            parts: _parts,
+            end: _end,
+            semicolon: _semicolon,
+        } = self;
     }
 }

@@ -1,8 +1,7 @@
-//! Trees of items and articles, with their spelling.
+//! Trees of items and articles, and the definitions of their spelling.
 #![tactic(auto)]
 
 pub mod article;
 pub mod definition;
 pub mod registration;
 pub mod schemes;
-pub mod spell;

@@ -9,11 +9,12 @@ use mz_tree::nodes::{
     AdjectiveNode, BaseNode, ConjunctionNode, FormulaNode, OperandNode, PieceNode, TermNode,
     TypeNode, UnitNode,
 };
-use mz_tree::tree::{Copied, Spell};
 use mz_tree::word::{Comma, Word};
+use mz_tree_copies::tree::Copied;
 use mz_tree_heading::patterns::IdentifierTree;
 use mz_tree_proof::reasoning::{JustNode, JustTree};
 use mz_tree_proof::references::{ReferenceTree, SimpleTree};
+use mz_tree_spelling::tree::Spell;
 use std::alloc::Global;
 use std::process::Abort;
 

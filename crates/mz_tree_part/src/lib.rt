@@ -1,5 +1,5 @@
 //! Trees of the parts of items that hold no proof: notations, clusters, reservations, parameters of schemes and directives,
-//! with their spelling.
+//! and the definitions of their spelling.
 #![tactic(auto)]
 
 pub mod cluster;

@@ -1,4 +1,4 @@
-//! Trees of propositions, justifications, statements and steps, with their spelling.
+//! Trees of propositions, justifications, statements and steps, and the definitions of their spelling.
 #![tactic(auto)]
 
 pub mod equality_step;
@@ -6,7 +6,5 @@ pub mod introduction;
 pub mod places;
 pub mod propositions;
 pub mod reasoning;
-mod reasoning_copy;
-mod reasoning_spell;
 pub mod references;
 pub mod skeleton;

@@ -10,17 +10,32 @@ use std::marker::Model;
 
 /// A justification.
 #[cycle(reasoning)]
-#[derive(Drop)]
 pub struct JustTree {
     pub node: JustNode,
 }
 
+impl Drop for JustTree {
+    #[cycle(drop)]
+    fn drop(self) {
+        let JustTree { node: _node } = self;
+    }
+}
+
 /// A justification: a simple one, or a proof.
 #[cycle(reasoning)]
-#[derive(Drop)]
 pub enum JustNode {
     Simple(SimpleTree),
     Proof(Place, Steps, Place),
+}
+
+impl Drop for JustNode {
+    #[cycle(drop)]
+    fn drop(self) {
+        match self {
+            JustNode::Simple(_a) => (),
+            JustNode::Proof(_a, _b, _c) => (),
+        }
+    }
 }
 
 impl Model for JustTree {
@@ -44,16 +59,30 @@ impl Model for JustTree {
 
 /// A proposition with its justification, and the further sides of an iterative equality.
 #[cycle(reasoning)]
-#[derive(Drop)]
 pub struct CompactTree {
     pub node: CompactNode,
 }
 
+impl Drop for CompactTree {
+    #[cycle(drop)]
+    fn drop(self) {
+        let CompactTree { node: _node } = self;
+    }
+}
+
 /// What a compact statement is made of.
 #[cycle(reasoning)]
-#[derive(Drop)]
 pub enum CompactNode {
     Stated(PropositionTree, Box<JustTree>, Trees<EqualityStepTree>, Place),
+}
+
+impl Drop for CompactNode {
+    #[cycle(drop)]
+    fn drop(self) {
+        match self {
+            CompactNode::Stated(_a, _b, _c, _d) => (),
+        }
+    }
 }
 
 impl Model for CompactTree {
@@ -77,18 +106,34 @@ impl Model for CompactTree {
 
 /// A statement.
 #[cycle(reasoning)]
-#[derive(Drop)]
 pub struct StatementTree {
     pub node: StatementNode,
 }
 
+impl Drop for StatementTree {
+    #[cycle(drop)]
+    fn drop(self) {
+        let StatementTree { node: _node } = self;
+    }
+}
+
 /// A statement: a compact one, `now`, or one that names something.
 #[cycle(reasoning)]
-#[derive(Drop)]
 pub enum StatementNode {
     Compact(Option<Place>, Box<CompactTree>),
     Now(Option<LabelTree>, Place, Steps, Place, Place),
     Introduction(IntroductionTree),
+}
+
+impl Drop for StatementNode {
+    #[cycle(drop)]
+    fn drop(self) {
+        match self {
+            StatementNode::Compact(_a, _b) => (),
+            StatementNode::Now(_a, _b, _c, _d, _e) => (),
+            StatementNode::Introduction(_a) => (),
+        }
+    }
 }
 
 impl Model for StatementTree {
@@ -112,14 +157,19 @@ impl Model for StatementTree {
 
 /// A step of a reasoning.
 #[cycle(reasoning)]
-#[derive(Drop)]
 pub struct StepTree {
     pub node: StepNode,
 }
 
+impl Drop for StepTree {
+    #[cycle(drop)]
+    fn drop(self) {
+        let StepTree { node: _node } = self;
+    }
+}
+
 /// A step: a statement, a conclusion, a step of the skeleton, or a split into cases, which only the last step may be.
 #[cycle(reasoning)]
-#[derive(Drop)]
 pub enum StepNode {
     Statement(Box<StatementTree>),
     Thus(Place, Box<CompactTree>),
@@ -127,6 +177,20 @@ pub enum StepNode {
     Hereby(Place, Steps, Place, Place),
     Skeleton(SkeletonTree),
     Cases(SplitTree, Box<SupposeTree>, SupposeTrees),
+}
+
+impl Drop for StepNode {
+    #[cycle(drop)]
+    fn drop(self) {
+        match self {
+            StepNode::Statement(_a) => (),
+            StepNode::Thus(_a, _b) => (),
+            StepNode::Hence(_a, _b) => (),
+            StepNode::Hereby(_a, _b, _c, _d) => (),
+            StepNode::Skeleton(_a) => (),
+            StepNode::Cases(_a, _b, _c) => (),
+        }
+    }
 }
 
 impl Model for StepTree {
@@ -150,16 +214,30 @@ impl Model for StepTree {
 
 /// A case: what it supposes, and its reasoning.
 #[cycle(reasoning)]
-#[derive(Drop)]
 pub struct SupposeTree {
     pub node: SupposeNode,
 }
 
+impl Drop for SupposeTree {
+    #[cycle(drop)]
+    fn drop(self) {
+        let SupposeTree { node: _node } = self;
+    }
+}
+
 /// What a case is made of.
 #[cycle(reasoning)]
-#[derive(Drop)]
 pub enum SupposeNode {
     Case(Place, HypothesesTree, Place, Steps, Place, Place),
+}
+
+impl Drop for SupposeNode {
+    #[cycle(drop)]
+    fn drop(self) {
+        match self {
+            SupposeNode::Case(_a, _b, _c, _d, _e, _f) => (),
+        }
+    }
 }
 
 impl Model for SupposeTree {
@@ -183,9 +261,15 @@ impl Model for SupposeTree {
 
 /// Steps, in order: a whole reasoning.
 #[cycle(reasoning)]
-#[derive(Drop)]
 pub struct Steps {
     pub items: Vec<StepTree>,
+}
+
+impl Drop for Steps {
+    #[cycle(drop)]
+    fn drop(self) {
+        let Steps { items: _items } = self;
+    }
 }
 
 impl Model for Steps {
@@ -208,9 +292,15 @@ impl Model for Steps {
 
 /// Cases, in order.
 #[cycle(reasoning)]
-#[derive(Drop)]
 pub struct SupposeTrees {
     pub items: Vec<SupposeTree>,
+}
+
+impl Drop for SupposeTrees {
+    #[cycle(drop)]
+    fn drop(self) {
+        let SupposeTrees { items: _items } = self;
+    }
 }
 
 impl Model for SupposeTrees {

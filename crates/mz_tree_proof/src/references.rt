@@ -1,76 +1,42 @@
 //! Labels, references and simple justifications.
-ghost use Rattle.std.specs.Prelude.{◌≡◌, ◌++◌, IfOk};
-ghost use Rattle.mz_tree_proof.specs.Spell.{spell_label, spell_number, spell_reference, spell_scheme_reference, spell_premises, spell_simple};
-
 use mz_base::place::Place;
-use mz_base::token::MarkedToken;
-use mz_tree::emit::{emit_identifier, emit_numeral, emit_reserved, emit_special};
 use mz_tree::lists::Separated;
-use mz_tree::tree::{Copied, Spell};
 use mz_tree::word::Word;
-use std::alloc::{AllocError, Global};
 
 /// A label and its colon.
-#[derive(Drop)]
 pub struct LabelTree {
     pub name: Word,
     pub colon: Place,
 }
 
-impl Copied for LabelTree {
-    fn copy(&self, alloc: Global) -> Result<LabelTree, AllocError> {
-        let name = self.name.copy(alloc)?;
-        Ok(LabelTree {
-            name,
-            colon: self.colon,
-        })
-    }
-}
-
-impl Spell for LabelTree {
-    ghost spelled = { spell_label };
-
-    fn spell(&self, alloc: Global, out: &mut Vec<MarkedToken>) -> Result<(), AllocError> {
-        emit_identifier(alloc, out, &self.name)?;
-        emit_special(alloc, out, self.colon, b":")
+impl Drop for LabelTree {
+    fn drop(self) {
+        let LabelTree {
+            name: _name,
+            colon: _colon,
+        } = self;
     }
 }
 
 /// The number of a theorem or of a definition.
-#[derive(Drop)]
 pub enum NumberTree {
     Theorem(Word),
     Definition { def: Place, number: Word },
 }
 
-impl Copied for NumberTree {
-    fn copy(&self, alloc: Global) -> Result<NumberTree, AllocError> {
+impl Drop for NumberTree {
+    fn drop(self) {
         match self {
-            NumberTree::Theorem(number) => Ok(NumberTree::Theorem(number.copy(alloc)?)),
-            NumberTree::Definition { def, number } => {
-                let number = number.copy(alloc)?;
-                Ok(NumberTree::Definition { def: *def, number })
-            }
-        }
-    }
-}
-
-impl Spell for NumberTree {
-    ghost spelled = { spell_number };
-
-    fn spell(&self, alloc: Global, out: &mut Vec<MarkedToken>) -> Result<(), AllocError> {
-        match self {
-            NumberTree::Theorem(number) => emit_numeral(alloc, out, number),
-            NumberTree::Definition { def, number } => {
-                emit_reserved(alloc, out, *def, b"def")?;
-                emit_numeral(alloc, out, number)
-            }
+            NumberTree::Theorem(_a) => (),
+            NumberTree::Definition {
+                def: _def,
+                number: _number,
+            } => (),
         }
     }
 }
 
 /// A reference: a label, or numbers of an article.
-#[derive(Drop)]
 pub enum ReferenceTree {
     Label(Word),
     Numbered {
@@ -80,48 +46,20 @@ pub enum ReferenceTree {
     },
 }
 
-impl Copied for ReferenceTree {
-    fn copy(&self, alloc: Global) -> Result<ReferenceTree, AllocError> {
+impl Drop for ReferenceTree {
+    fn drop(self) {
         match self {
-            ReferenceTree::Label(name) => Ok(ReferenceTree::Label(name.copy(alloc)?)),
+            ReferenceTree::Label(_a) => (),
             ReferenceTree::Numbered {
-                article,
-                colon,
-                numbers,
-            } => {
-                let article = article.copy(alloc)?;
-                let numbers = numbers.copy(alloc)?;
-                Ok(ReferenceTree::Numbered {
-                    article,
-                    colon: *colon,
-                    numbers,
-                })
-            }
-        }
-    }
-}
-
-impl Spell for ReferenceTree {
-    ghost spelled = { spell_reference };
-
-    fn spell(&self, alloc: Global, out: &mut Vec<MarkedToken>) -> Result<(), AllocError> {
-        match self {
-            ReferenceTree::Label(name) => emit_identifier(alloc, out, name),
-            ReferenceTree::Numbered {
-                article,
-                colon,
-                numbers,
-            } => {
-                emit_identifier(alloc, out, article)?;
-                emit_special(alloc, out, *colon, b":")?;
-                numbers.spell(alloc, out)
-            }
+                article: _article,
+                colon: _colon,
+                numbers: _numbers,
+            } => (),
         }
     }
 }
 
 /// A reference to a scheme.
-#[derive(Drop)]
 pub enum SchemeReferenceTree {
     Label(Word),
     Numbered {
@@ -132,81 +70,38 @@ pub enum SchemeReferenceTree {
     },
 }
 
-impl Copied for SchemeReferenceTree {
-    fn copy(&self, alloc: Global) -> Result<SchemeReferenceTree, AllocError> {
+impl Drop for SchemeReferenceTree {
+    fn drop(self) {
         match self {
-            SchemeReferenceTree::Label(name) => Ok(SchemeReferenceTree::Label(name.copy(alloc)?)),
+            SchemeReferenceTree::Label(_a) => (),
             SchemeReferenceTree::Numbered {
-                article,
-                colon,
-                sch,
-                number,
-            } => {
-                let article = article.copy(alloc)?;
-                let number = number.copy(alloc)?;
-                Ok(SchemeReferenceTree::Numbered {
-                    article,
-                    colon: *colon,
-                    sch: *sch,
-                    number,
-                })
-            }
-        }
-    }
-}
-
-impl Spell for SchemeReferenceTree {
-    ghost spelled = { spell_scheme_reference };
-
-    fn spell(&self, alloc: Global, out: &mut Vec<MarkedToken>) -> Result<(), AllocError> {
-        match self {
-            SchemeReferenceTree::Label(name) => emit_identifier(alloc, out, name),
-            SchemeReferenceTree::Numbered {
-                article,
-                colon,
-                sch,
-                number,
-            } => {
-                emit_identifier(alloc, out, article)?;
-                emit_special(alloc, out, *colon, b":")?;
-                emit_reserved(alloc, out, *sch, b"sch")?;
-                emit_numeral(alloc, out, number)
-            }
+                article: _article,
+                colon: _colon,
+                sch: _sch,
+                number: _number,
+            } => (),
         }
     }
 }
 
 /// The references that a scheme is applied to, in parentheses.
-#[derive(Drop)]
 pub struct PremisesTree {
     pub left: Place,
     pub references: Separated<ReferenceTree>,
     pub right: Place,
 }
 
-impl Copied for PremisesTree {
-    fn copy(&self, alloc: Global) -> Result<PremisesTree, AllocError> {
-        let references = self.references.copy(alloc)?;
-        Ok(PremisesTree {
-            left: self.left,
-            references,
-            right: self.right,
-        })
-    }
-}
-
-impl Spell for PremisesTree {
-    ghost spelled = { spell_premises };
-
-    fn spell(&self, alloc: Global, out: &mut Vec<MarkedToken>) -> Result<(), AllocError> {
-        emit_special(alloc, out, self.left, b"(")?;
-        self.references.spell(alloc, out)?;
-        emit_special(alloc, out, self.right, b")")
+impl Drop for PremisesTree {
+    fn drop(self) {
+        let PremisesTree {
+            left: _left,
+            references: _references,
+            right: _right,
+        } = self;
     }
 }
 
 /// A justification without a proof.
-#[derive(Drop)]
 pub enum SimpleTree {
     Nothing,
     By {
@@ -220,53 +115,19 @@ pub enum SimpleTree {
     },
 }
 
-impl Copied for SimpleTree {
-    fn copy(&self, alloc: Global) -> Result<SimpleTree, AllocError> {
+impl Drop for SimpleTree {
+    fn drop(self) {
         match self {
-            SimpleTree::Nothing => Ok(SimpleTree::Nothing),
-            SimpleTree::By { by, references } => {
-                let references = references.copy(alloc)?;
-                Ok(SimpleTree::By {
-                    by: *by,
-                    references,
-                })
-            }
+            SimpleTree::Nothing => (),
+            SimpleTree::By {
+                by: _by,
+                references: _references,
+            } => (),
             SimpleTree::From {
-                from,
-                scheme,
-                premises,
-            } => {
-                let scheme = scheme.copy(alloc)?;
-                let premises = premises.copy(alloc)?;
-                Ok(SimpleTree::From {
-                    from: *from,
-                    scheme,
-                    premises,
-                })
-            }
-        }
-    }
-}
-
-impl Spell for SimpleTree {
-    ghost spelled = { spell_simple };
-
-    fn spell(&self, alloc: Global, out: &mut Vec<MarkedToken>) -> Result<(), AllocError> {
-        match self {
-            SimpleTree::Nothing => Ok(()),
-            SimpleTree::By { by, references } => {
-                emit_reserved(alloc, out, *by, b"by")?;
-                references.spell(alloc, out)
-            }
-            SimpleTree::From {
-                from,
-                scheme,
-                premises,
-            } => {
-                emit_reserved(alloc, out, *from, b"from")?;
-                scheme.spell(alloc, out)?;
-                premises.spell(alloc, out)
-            }
+                from: _from,
+                scheme: _scheme,
+                premises: _premises,
+            } => (),
         }
     }
 }

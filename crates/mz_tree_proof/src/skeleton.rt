@@ -1,20 +1,12 @@
 //! Steps of the skeleton: `let`, `assume`, `given`, `take`, and the beginning of a split into cases.
-ghost use Rattle.std.specs.Prelude.{◌≡◌, ◌++◌, IfOk};
-ghost use Rattle.mz_tree_proof.specs.Spell.{spell_let, spell_assume, spell_given, spell_taken, spell_take, spell_skeleton, spell_split};
-
 use crate::introduction::NamedTermTree;
 use crate::propositions::{HypothesesTree, SuchTree};
 use crate::references::SimpleTree;
 use mz_base::place::Place;
-use mz_base::token::MarkedToken;
-use mz_tree::emit::{emit_reserved, emit_reserved_if, emit_special};
 use mz_tree::expressions::{DeclarationsTree, TermTree};
 use mz_tree::lists::Separated;
-use mz_tree::tree::{Copied, Spell};
-use std::alloc::{AllocError, Global};
 
 /// `let`: variables for what is arbitrary.
-#[derive(Drop)]
 pub struct LetTree {
     pub let_: Place,
     pub declarations: DeclarationsTree,
@@ -22,61 +14,35 @@ pub struct LetTree {
     pub semicolon: Place,
 }
 
-impl Copied for LetTree {
-    fn copy(&self, alloc: Global) -> Result<LetTree, AllocError> {
-        let declarations = self.declarations.copy(alloc)?;
-        let such = self.such.copy(alloc)?;
-        Ok(LetTree {
-            let_: self.let_,
-            declarations,
-            such,
-            semicolon: self.semicolon,
-        })
-    }
-}
-
-impl Spell for LetTree {
-    ghost spelled = { spell_let };
-
-    fn spell(&self, alloc: Global, out: &mut Vec<MarkedToken>) -> Result<(), AllocError> {
-        emit_reserved(alloc, out, self.let_, b"let")?;
-        self.declarations.spell(alloc, out)?;
-        self.such.spell(alloc, out)?;
-        emit_special(alloc, out, self.semicolon, b";")
+impl Drop for LetTree {
+    fn drop(self) {
+        let LetTree {
+            let_: _let,
+            declarations: _declarations,
+            such: _such,
+            semicolon: _semicolon,
+        } = self;
     }
 }
 
 /// `assume`: hypotheses.
-#[derive(Drop)]
 pub struct AssumeTree {
     pub assume: Place,
     pub hypotheses: HypothesesTree,
     pub semicolon: Place,
 }
 
-impl Copied for AssumeTree {
-    fn copy(&self, alloc: Global) -> Result<AssumeTree, AllocError> {
-        let hypotheses = self.hypotheses.copy(alloc)?;
-        Ok(AssumeTree {
-            assume: self.assume,
-            hypotheses,
-            semicolon: self.semicolon,
-        })
-    }
-}
-
-impl Spell for AssumeTree {
-    ghost spelled = { spell_assume };
-
-    fn spell(&self, alloc: Global, out: &mut Vec<MarkedToken>) -> Result<(), AllocError> {
-        emit_reserved(alloc, out, self.assume, b"assume")?;
-        self.hypotheses.spell(alloc, out)?;
-        emit_special(alloc, out, self.semicolon, b";")
+impl Drop for AssumeTree {
+    fn drop(self) {
+        let AssumeTree {
+            assume: _assume,
+            hypotheses: _hypotheses,
+            semicolon: _semicolon,
+        } = self;
     }
 }
 
 /// `given`: names for what is assumed to be there.
-#[derive(Drop)]
 pub struct GivenTree {
     pub given: Place,
     pub declarations: DeclarationsTree,
@@ -84,88 +50,50 @@ pub struct GivenTree {
     pub semicolon: Place,
 }
 
-impl Copied for GivenTree {
-    fn copy(&self, alloc: Global) -> Result<GivenTree, AllocError> {
-        let declarations = self.declarations.copy(alloc)?;
-        let such = self.such.copy(alloc)?;
-        Ok(GivenTree {
-            given: self.given,
-            declarations,
-            such,
-            semicolon: self.semicolon,
-        })
-    }
-}
-
-impl Spell for GivenTree {
-    ghost spelled = { spell_given };
-
-    fn spell(&self, alloc: Global, out: &mut Vec<MarkedToken>) -> Result<(), AllocError> {
-        emit_reserved(alloc, out, self.given, b"given")?;
-        self.declarations.spell(alloc, out)?;
-        self.such.spell(alloc, out)?;
-        emit_special(alloc, out, self.semicolon, b";")
+impl Drop for GivenTree {
+    fn drop(self) {
+        let GivenTree {
+            given: _given,
+            declarations: _declarations,
+            such: _such,
+            semicolon: _semicolon,
+        } = self;
     }
 }
 
 /// What is taken as an example.
-#[derive(Drop)]
 pub enum TakenTree {
     Plain(TermTree),
     Named(NamedTermTree),
 }
 
-impl Copied for TakenTree {
-    fn copy(&self, alloc: Global) -> Result<TakenTree, AllocError> {
+impl Drop for TakenTree {
+    fn drop(self) {
         match self {
-            TakenTree::Plain(term) => Ok(TakenTree::Plain(term.copy(alloc)?)),
-            TakenTree::Named(named) => Ok(TakenTree::Named(named.copy(alloc)?)),
-        }
-    }
-}
-
-impl Spell for TakenTree {
-    ghost spelled = { spell_taken };
-
-    fn spell(&self, alloc: Global, out: &mut Vec<MarkedToken>) -> Result<(), AllocError> {
-        match self {
-            TakenTree::Plain(term) => term.spell(alloc, out),
-            TakenTree::Named(named) => named.spell(alloc, out),
+            TakenTree::Plain(_a) => (),
+            TakenTree::Named(_a) => (),
         }
     }
 }
 
 /// `take`: examples.
-#[derive(Drop)]
 pub struct TakeTree {
     pub take: Place,
     pub taken: Separated<TakenTree>,
     pub semicolon: Place,
 }
 
-impl Copied for TakeTree {
-    fn copy(&self, alloc: Global) -> Result<TakeTree, AllocError> {
-        let taken = self.taken.copy(alloc)?;
-        Ok(TakeTree {
-            take: self.take,
-            taken,
-            semicolon: self.semicolon,
-        })
-    }
-}
-
-impl Spell for TakeTree {
-    ghost spelled = { spell_take };
-
-    fn spell(&self, alloc: Global, out: &mut Vec<MarkedToken>) -> Result<(), AllocError> {
-        emit_reserved(alloc, out, self.take, b"take")?;
-        self.taken.spell(alloc, out)?;
-        emit_special(alloc, out, self.semicolon, b";")
+impl Drop for TakeTree {
+    fn drop(self) {
+        let TakeTree {
+            take: _take,
+            taken: _taken,
+            semicolon: _semicolon,
+        } = self;
     }
 }
 
 /// A step that needs no justification.
-#[derive(Drop)]
 pub enum SkeletonTree {
     Let(LetTree),
     Assume(AssumeTree),
@@ -173,32 +101,18 @@ pub enum SkeletonTree {
     Take(TakeTree),
 }
 
-impl Copied for SkeletonTree {
-    fn copy(&self, alloc: Global) -> Result<SkeletonTree, AllocError> {
+impl Drop for SkeletonTree {
+    fn drop(self) {
         match self {
-            SkeletonTree::Let(tree) => Ok(SkeletonTree::Let(tree.copy(alloc)?)),
-            SkeletonTree::Assume(tree) => Ok(SkeletonTree::Assume(tree.copy(alloc)?)),
-            SkeletonTree::Given(tree) => Ok(SkeletonTree::Given(tree.copy(alloc)?)),
-            SkeletonTree::Take(tree) => Ok(SkeletonTree::Take(tree.copy(alloc)?)),
-        }
-    }
-}
-
-impl Spell for SkeletonTree {
-    ghost spelled = { spell_skeleton };
-
-    fn spell(&self, alloc: Global, out: &mut Vec<MarkedToken>) -> Result<(), AllocError> {
-        match self {
-            SkeletonTree::Let(tree) => tree.spell(alloc, out),
-            SkeletonTree::Assume(tree) => tree.spell(alloc, out),
-            SkeletonTree::Given(tree) => tree.spell(alloc, out),
-            SkeletonTree::Take(tree) => tree.spell(alloc, out),
+            SkeletonTree::Let(_a) => (),
+            SkeletonTree::Assume(_a) => (),
+            SkeletonTree::Given(_a) => (),
+            SkeletonTree::Take(_a) => (),
         }
     }
 }
 
 /// The beginning of a split into cases.
-#[derive(Drop)]
 pub struct SplitTree {
     pub then: Option<Place>,
     pub per: Place,
@@ -207,27 +121,14 @@ pub struct SplitTree {
     pub semicolon: Place,
 }
 
-impl Copied for SplitTree {
-    fn copy(&self, alloc: Global) -> Result<SplitTree, AllocError> {
-        let simple = self.simple.copy(alloc)?;
-        Ok(SplitTree {
-            then: self.then,
-            per: self.per,
-            cases: self.cases,
-            simple,
-            semicolon: self.semicolon,
-        })
-    }
-}
-
-impl Spell for SplitTree {
-    ghost spelled = { spell_split };
-
-    fn spell(&self, alloc: Global, out: &mut Vec<MarkedToken>) -> Result<(), AllocError> {
-        emit_reserved_if(alloc, out, self.then, b"then")?;
-        emit_reserved(alloc, out, self.per, b"per")?;
-        emit_reserved(alloc, out, self.cases, b"cases")?;
-        self.simple.spell(alloc, out)?;
-        emit_special(alloc, out, self.semicolon, b";")
+impl Drop for SplitTree {
+    fn drop(self) {
+        let SplitTree {
+            then: _then,
+            per: _per,
+            cases: _cases,
+            simple: _simple,
+            semicolon: _semicolon,
+        } = self;
     }
 }

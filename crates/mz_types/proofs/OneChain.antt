@@ -1,6 +1,7 @@
 -- A term has one chain.
 use Rattle.std.proofs.Common.{◌≡◌, ◌⊎◌, inl, inr, ℕ, zero, suc, Bool, true, false, List, [], ◌∷◌, ◌++◌, refl, sym, ap, ◌∙◌, subst, arith, length, Option, Some, None}
 use Rattle.std.specs.Prelude.{reverse}
+use Rattle.mz_std_laws.proofs.Sums.{either}
 use Rattle.mz_logic.specs.declared.sym.Sym.{Sym}
 use Rattle.mz_logic.specs.declared.kind.Kind.{Kind}
 use Rattle.mz_logic.specs.declared.kind.Kind.TheVariants as kind
@@ -20,7 +21,7 @@ use Rattle.mz_types.specs.Structures.{FirstGives, AggregateGives, AncestorsGive}
 use Rattle.mz_types.specs.Chain as ch
 use Rattle.mz_types.specs.Chain.{IsLeftOut, is_structure_kind, has_no_radix, rows_of_letters, radix_if_any, Parents, Visited, Walks, walked, visits, Begins, IsChain, chain_of, chain_end}
 use Rattle.mz_types.specs.Laws.{OneChainLaw}
-use Rattle.mz_types.proofs.OneRow.{either, rows_once, first_once, aggregate_once, ancestors_once}
+use Rattle.mz_types.proofs.OneRow.{rows_once, first_once, aggregate_once, ancestors_once}
 
 -- parents
 abbrev ParentsAs : List Clause → Environment → Context → Radix → Bool → Bool → List Radix → Type 0

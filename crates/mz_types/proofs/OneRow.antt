@@ -1,6 +1,7 @@
 -- What rows and structures give is determined.
 use Rattle.std.proofs.Common.{◌≡◌, ◌⊎◌, inl, inr, ℕ, zero, suc, Bool, true, false, List, [], ◌∷◌, ◌++◌, refl, sym, ap, ◌∙◌, subst, length, map, Option, Some, None}
 use Rattle.std.specs.Prelude.{find, reverse}
+use Rattle.mz_std_laws.proofs.Sums.{either, either_once}
 use Rattle.mz_logic.specs.Sym.{same_sym}
 use Rattle.mz_logic.specs.declared.sym.Sym.{Sym}
 use Rattle.mz_logic.specs.Term.{Term}
@@ -17,10 +18,6 @@ use Rattle.mz_fits.proofs.OneMatch.{some-inj, none_some, one_match_law, one_acce
 use Rattle.mz_types.specs.RowTypes.{radix_at, RowGives, unmatched, refused, gives, RowAdds, of_other, of_none, of_one, RowsAdd, no_rows, and_row}
 use Rattle.mz_types.specs.Structures as st
 use Rattle.mz_types.specs.Structures.{has_selector, structure_of, made_by, field_radix, MemberGives, FirstGives, none_gives, this_gives, not_this, AggregateFits, made_radix, AggregateGives, ancestors_at, AncestorsGive}
-
-pub either : {A B C : Type 0} → A ⊎ B → (A → C) → (B → C) → C
-either (inl a) f g = f a
-either (inr b) f g = g b
 
 -- the radix of a row at values, if there are any
 abbrev given : Row → Option (List Term) → Option Radix
@@ -89,10 +86,6 @@ rows_once cs ks s args (r ∷ rs) xs ys h k =
 abbrev Either : Type 0 → Option Radix → Option Radix → Type 0
 Either F x o = (F × (o ≡ x)) ⊎ ((F → ⊥) × (o ≡ None))
 
-either_once : (F : Type 0) (x o p : Option Radix) → Either F x o → Either F x p → o ≡ p
-either_once F x o p h k =
-    either h (λ a. either k (λ b. a.1 ∙ sym b.1) (λ b. absurd (b.0 a.0))) (λ a. either k (λ b. absurd (a.0 b.0)) (λ b. a.1 ∙ sym b.1))
-
 abbrev FieldAs : List Clause → List (Option Constant) → Structure → Term → Radix → Option Field → Option Radix → Type 0
 FieldAs cs ks x t r None o = o ≡ None
 FieldAs cs ks x t r (Some f) o = Either (LociFit cs ks [] x.loci r.args) (Some (field_radix x r.args t f)) o
@@ -109,7 +102,7 @@ member_as cs ks all s t r o (st.of_field x f h k l) = subst (λ y. MemberAs cs k
 
 field_once : (cs : List Clause) (ks : List (Option Constant)) (x : Structure) (t : Term) (r : Radix) (f : Option Field) (o p : Option Radix) → FieldAs cs ks x t r f o → FieldAs cs ks x t r f p → o ≡ p
 field_once cs ks x t r None o p h k = h ∙ sym k
-field_once cs ks x t r (Some f) o p h k = either_once (LociFit cs ks [] x.loci r.args) (Some (field_radix x r.args t f)) o p h k
+field_once cs ks x t r (Some f) o p h k = either_once h k
 
 as_member_once : (cs : List Clause) (ks : List (Option Constant)) (s : Sym) (t : Term) (r : Radix) (x : Option Structure) (o p : Option Radix) → MemberAs cs ks s t r x o → MemberAs cs ks s t r x p → o ≡ p
 as_member_once cs ks s t r None o p h k = h ∙ sym k
@@ -149,7 +142,7 @@ made_as cs ks all s args o (st.of_structure x h f) = subst (λ y. MadeAs cs ks a
 
 as_made_once : (cs : List Clause) (ks : List (Option Constant)) (args : List Term) (x : Option Structure) (o p : Option Radix) → MadeAs cs ks args x o → MadeAs cs ks args x p → o ≡ p
 as_made_once cs ks args None o p h k = h ∙ sym k
-as_made_once cs ks args (Some x) o p h k = either_once (AggregateFits cs ks x args) (Some (made_radix x args)) o p h k
+as_made_once cs ks args (Some x) o p h k = either_once h k
 
 pub aggregate_once : (cs : List Clause) (ks : List (Option Constant)) (all : List Structure) (s : Sym) (args : List Term) (o p : Option Radix) → AggregateGives cs ks all s args o → AggregateGives cs ks all s args p → o ≡ p
 aggregate_once cs ks all s args o p h k = as_made_once cs ks args (made_by all s) o p (made_as cs ks all s args o h) (made_as cs ks all s args p k)
@@ -165,8 +158,7 @@ ancestors_as cs ks all r xs (st.of_ancestors x h l) = subst (λ y. AncestorsAs c
 
 as_ancestors_once : (cs : List Clause) (ks : List (Option Constant)) (r : Radix) (x : Option Structure) (xs ys : List Radix) → AncestorsAs cs ks r x xs → AncestorsAs cs ks r x ys → xs ≡ ys
 as_ancestors_once cs ks r None xs ys h k = h ∙ sym k
-as_ancestors_once cs ks r (Some x) xs ys h k =
-    either h (λ a. either k (λ b. a.1 ∙ sym b.1) (λ b. absurd (b.0 a.0))) (λ a. either k (λ b. absurd (a.0 b.0)) (λ b. a.1 ∙ sym b.1))
+as_ancestors_once cs ks r (Some x) xs ys h k = either_once h k
 
 pub ancestors_once : (cs : List Clause) (ks : List (Option Constant)) (all : List Structure) (r : Radix) (xs ys : List Radix) → AncestorsGive cs ks all r xs → AncestorsGive cs ks all r ys → xs ≡ ys
 ancestors_once cs ks all r xs ys h k = as_ancestors_once cs ks r (structure_of all r.sym) xs ys (ancestors_as cs ks all r xs h) (ancestors_as cs ks all r ys k)

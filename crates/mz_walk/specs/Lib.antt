@@ -4,5 +4,6 @@ pub mod Performing
 pub mod Skeleton
 pub mod Introductions
 pub mod Compact
+pub mod Earlier
 pub mod Walk
 pub mod Answers

@@ -2,9 +2,10 @@
 -- its premises is the one that is told. `first` is the place of a step's first token. A step is read, then it fits, then it is
 -- justified in the context before it, and then stands what it makes. Behind a justification and behind a block the context is as
 -- it was before.
-use Rattle.std.specs.Prelude.{◌≡◌, ℕ, Bool, true, false, is_some, List, [], ◌∷◌, Option, Some, None, Result, Ok, Err}
+use Rattle.std.specs.Prelude.{◌≡◌, ℕ, Bool, true, false, is_some, List, [], ◌∷◌, map, Option, Some, None, Result, Ok, Err}
 use Rattle.mz_base.specs.declared.place.Place.{Place}
 use Rattle.mz_core.specs.Statement.{Statement, Truth, Eq, Atom, Not, And, For}
+use Rattle.mz_core.specs.Parts.{conjunction}
 use Rattle.mz_core.specs.declared.outcome.Left.{Left}
 use Rattle.mz_context.specs.declared.context.Context.{Context}
 use Rattle.mz_context.specs.declared.labelled.LabelledStatement.{LabelledStatement}
@@ -18,7 +19,7 @@ use Rattle.mz_thesis.specs.Cases.{disjunction_to}
 use Rattle.mz_formulas.specs.declared.sentence.Sentence.{Sentence}
 use Rattle.mz_now.specs.Kept.{stated_kept}
 use Rattle.mz_now.specs.declared.now_part.NowPart.{NowPart}
-use Rattle.mz_steps.specs.Changes.{with_stated, at_start_of_proof, at_start_of_now}
+use Rattle.mz_steps.specs.Changes.{statement_of, with_stated, at_start_of_proof, at_start_of_now}
 use Rattle.mz_steps.specs.declared.block.Block.{Block}
 use Rattle.mz_steps.specs.declared.block.Block.TheVariants.{Proof, Now}
 use Rattle.mz_steps.specs.declared.read_step.ReadStep.{ReadStep}
@@ -47,6 +48,7 @@ use Rattle.mz_walk.specs.Skeleton.{StepsOn}
 use Rattle.mz_walk.specs.Introductions.{Introduces}
 use Rattle.mz_walk.specs.declared.compact.Compact.{Compact}
 use Rattle.mz_walk.specs.Compact.{CompactRead, compact_stated, stated_under, place_behind, JustifiesSides}
+use Rattle.mz_walk.specs.Earlier.{told_first}
 
 -- the step of a statement: with `thus`, `hence` and `hereby` it is concluded, else it is stated only
 abbrev pub step_of : Bool → Statement → ReadStep
@@ -93,6 +95,31 @@ disjunction_of (s ∷ ss) = disjunction_to s ss
 abbrev pub behind_cases : State → Left → State
 behind_cases s l = record { context = record s.context { thesis = Some Truth; previous = None }; block = s.block; left = l }
 
+-- what a case supposes, in front of what others do, where these could be read
+abbrev pub supposed_first : Statement → Option (List Statement) → Option (List Statement)
+supposed_first s None = None
+supposed_first s (Some ss) = Some (s ∷ ss)
+
+-- what the cases of a split suppose, read ahead of what they prove; none where some of it isn't read
+pub data SuppositionsRead (e : Environment) (c : Context) : SupposeList → Left → Option (List Statement) → Type 0 where
+  none_supposed : (l : Left) → SuppositionsRead e c no_supposes l (Some [])
+  not_readable : (l m : Left) (p q end semicolon : Place) (h : HypothesesTree) (ds : StepList) (us : SupposeList) (r : Refusal) →
+      PropositionsRead e c 0 l (hypotheses_in h) (Err r) m → SuppositionsRead e c (more_supposes (CaseSuppose p h q ds end semicolon) us) l None
+  one_supposed : (l m : Left) (p q end semicolon : Place) (h : HypothesesTree) (ds : StepList) (us : SupposeList) (ps : List LabelledStatement) (o : Option (List Statement)) →
+      PropositionsRead e c 0 l (hypotheses_in h) (Ok ps) m → SuppositionsRead e c us m o → SuppositionsRead e c (more_supposes (CaseSuppose p h q ds end semicolon) us) l (supposed_first (conjunction (map statement_of ps)) o)
+
+-- the nodes alone of what is left
+abbrev pub nodes_alone : Left → Left
+nodes_alone l = record { nodes = l.nodes; obligations = 0; made = [] }
+
+-- what can be told of a split before its justification: that it follows no statement; or, where all that its cases suppose can be
+-- read, that their disjunction is beyond the limits
+pub data Foresees (e : Environment) (first : Place) (c : Context) (l : Left) (linked : Bool) (us : SupposeList) : Option ProofRefusal → Type 0 where
+  not_linked : is_linked linked c.previous ≡ false → Foresees e first c l linked us (Some (StepNoFit first))
+  not_foreseen : is_linked linked c.previous ≡ true → SuppositionsRead e c us (nodes_alone l) None → Foresees e first c l linked us None
+  beyond : (ss : List Statement) (r : Refusal) → is_linked linked c.previous ≡ true → SuppositionsRead e c us (nodes_alone l) (Some ss) → within statement_keeps first (disjunction_of ss) ≡ Err r → Foresees e first c l linked us (Some (Resolve r))
+  kept : (ss : List Statement) (y : Statement) → is_linked linked c.previous ≡ true → SuppositionsRead e c us (nodes_alone l) (Some ss) → within statement_keeps first (disjunction_of ss) ≡ Ok y → Foresees e first c l linked us None
+
 mutual
   -- a justification of a sentence: by references, of the closed sentence; or by a proof, in which its free reserved variables are
   -- constants. `behind` is the place of the token behind the statement
@@ -110,11 +137,13 @@ mutual
     proved : (c : Context) (ds : StepList) (end : Place) (l : Left) (os : List Obligation) (t : State) →
         GoesAll e at (state c Proof l) ds (Made os t) → is_proved t.context.thesis ≡ true → Proves e at c ds end l (Made os t.left)
 
-  -- a compact statement, which is linked where `then` or `hence` stands before it, and concluded behind `thus` and `hence`
+  -- a compact statement, which is linked where `then` or `hence` stands before it, and concluded behind `thus` and `hence`. Where
+  -- something of it isn't read, a refusal of a justification that stands before comes first
   pub data Says (e : Environment) (at : Extent) : State → Place → Bool → Bool → CompactData → Walked State → Type 0 where
     follows_nothing : (s : State) (first : Place) (linked concluded : Bool) (t : CompactData) → is_linked linked s.context.previous ≡ false → Says e at s first linked concluded t (Refused (StepNoFit first))
     not_read : (s : State) (first semicolon : Place) (linked concluded : Bool) (p : PropositionTree) (j : JustData) (ks : List EqualityStepTree) (r : ProofRefusal) (l : Left) →
-        is_linked linked s.context.previous ≡ true → CompactRead e s.context first s.left p ks (Err r) l → Says e at s first linked concluded (StatedCompact p j ks semicolon) (Refused r)
+        is_linked linked s.context.previous ≡ true → CompactRead e s.context first s.left p ks (Err r) l →
+        Says e at s first linked concluded (StatedCompact p j ks semicolon) (Refused (told_first e s.context semicolon s.left.obligations j ks r))
     unfit : (s : State) (first semicolon : Place) (linked concluded : Bool) (p : PropositionTree) (j : JustData) (ks : List EqualityStepTree) (x : Compact) (l : Left) (r : ProofRefusal) →
         is_linked linked s.context.previous ≡ true → CompactRead e s.context first s.left p ks (Ok x) l →
         Performs e first (with_left s l) (step_of concluded x.said.states) (compact_stated p x ∷ []) (Err r) → Says e at s first linked concluded (StatedCompact p j ks semicolon) (Refused r)
@@ -156,18 +185,19 @@ mutual
     splits : (s : State) (first : Place) (t : SplitTree) (u : SupposeData) (us : SupposeList) (o : Walked State) →
         is_now s.block ≡ false → Splits e at s first t (more_supposes u us) o → Goes e at s first (CasesStep t u us) o
 
-  -- a split into cases: what justifies it is looked at before the cases; what it has to justify, that one of the cases holds, is
-  -- known behind them, and is asked before what they ask
+  -- a split into cases: what can be told of it ahead comes first, for it stands at its first token. What justifies it is looked at
+  -- before the cases; what it has to justify, that one of the cases holds, is asked before what they ask
   pub data Splits (e : Environment) (at : Extent) : State → Place → SplitTree → SupposeList → Walked State → Type 0 where
+    foreseen : (s : State) (first : Place) (t : SplitTree) (us : SupposeList) (r : ProofRefusal) → Foresees e first s.context s.left (is_some t.then) us (Some r) → Splits e at s first t us (Refused r)
     not_grounded : (s : State) (first : Place) (t : SplitTree) (us : SupposeList) (r : ProofRefusal) (l : Left) →
-        Grounds e s.context first (is_some t.then) t.semicolon t.simple s.left (Err r) l → Splits e at s first t us (Refused r)
+        Foresees e first s.context s.left (is_some t.then) us None → Grounds e s.context first (is_some t.then) t.semicolon t.simple s.left (Err r) l → Splits e at s first t us (Refused r)
     cases_stopped : (s : State) (first : Place) (t : SplitTree) (us : SupposeList) (given : List Statement) (l : Left) (r : ProofRefusal) →
-        Grounds e s.context first (is_some t.then) t.semicolon t.simple s.left (Ok given) l → Supposes e at s.context us l (Refused r) → Splits e at s first t us (Refused r)
+        Foresees e first s.context s.left (is_some t.then) us None → Grounds e s.context first (is_some t.then) t.semicolon t.simple s.left (Ok given) l → Supposes e at s.context us l (Refused r) → Splits e at s first t us (Refused r)
     cases_too_large : (s : State) (first : Place) (t : SplitTree) (us : SupposeList) (given : List Statement) (l : Left) (os : List Obligation) (x : Cases) (r : Refusal) →
-        Grounds e s.context first (is_some t.then) t.semicolon t.simple s.left (Ok given) l → Supposes e at s.context us l (Made os x) →
+        Foresees e first s.context s.left (is_some t.then) us None → Grounds e s.context first (is_some t.then) t.semicolon t.simple s.left (Ok given) l → Supposes e at s.context us l (Made os x) →
         within statement_keeps first (disjunction_of x.suppositions) ≡ Err r → Splits e at s first t us (Refused (Resolve r))
     split : (s : State) (first : Place) (t : SplitTree) (us : SupposeList) (given : List Statement) (l : Left) (os : List Obligation) (x : Cases) (y : Statement) (o : Obligation) →
-        Grounds e s.context first (is_some t.then) t.semicolon t.simple s.left (Ok given) l → Supposes e at s.context us l (Made os x) →
+        Foresees e first s.context s.left (is_some t.then) us None → Grounds e s.context first (is_some t.then) t.semicolon t.simple s.left (Ok given) l → Supposes e at s.context us l (Made os x) →
         within statement_keeps first (disjunction_of x.suppositions) ≡ Ok y →
         Owes e at s.context given y (place_of t.semicolon t.simple) o →
         Splits e at s first t us (Made (o ∷ os) (behind_cases s x.left))

@@ -270,10 +270,11 @@ mutual
   goes_made e at s first d w (walk.splits z f t u us o h i) = splits_made e at z f t (more_supposes u us) o i
 
   splits_made : (e : Environment) (at : Extent) (s : State) (first : Place) (t : SplitTree) (us : SupposeList) (w : Walked State) → Splits e at s first t us w → WhereMade w (MadeFrom at s)
-  splits_made e at s first t us w (walk.not_grounded z f c vs r l h) = tt
-  splits_made e at s first t us w (walk.cases_stopped z f c vs given l r h i) = tt
-  splits_made e at s first t us w (walk.cases_too_large z f c vs given l os x r h i k) = tt
-  splits_made e at s first t us w (walk.split z f c vs given l os x y o h i k owes) =
+  splits_made e at s first t us w (walk.foreseen z f c vs r a) = tt
+  splits_made e at s first t us w (walk.not_grounded z f c vs r l a h) = tt
+  splits_made e at s first t us w (walk.cases_stopped z f c vs given l r a h i) = tt
+  splits_made e at s first t us w (walk.cases_too_large z f c vs given l os x r a h i k) = tt
+  splits_made e at s first t us w (walk.split z f c vs given l os x y o a h i k owes) =
       let all : AreMadeAt at (letters_at z) os = supposes_made e at z.context vs l (Made os x) i in
       (more_made at (letters_at z) o os (owed_made e at z.context given y _ o owes) all, refl)
 

@@ -56,6 +56,7 @@ more_grounded b held more each g = record {
   steps = g.steps;
   expansions = g.expansions;
   theorems = λ s is. (cut_each b.axioms more held (erase s.statement) each (g.theorems s is).0, (g.theorems s is).1);
+  schemes = g.schemes;
   chains = g.chains;
 }
 

@@ -315,10 +315,11 @@ mutual
   goes_walk W ax cl ls env reads held g at s p first d w (walk.splits z f t u us o h i) = splits_walk W ax cl ls env reads held g at z p h f t (more_supposes u us) tt o i
 
   splits_walk : (W : Context → Type 0) (ax : List Formula) (cl : List Clause) (ls : List NamedLetter) (env : Environment) → ReadsWell env W → (held : List Formula) → IsGrounded (basis ax cl env ls) held → (at : Extent) (s : State) → IsProper W (basis ax cl env ls) held s.context → is_now s.block ≡ false → (first : Place) (t : SplitTree) (us : SupposeList) → IsMore us → (w : Walked State) → Splits env at s first t us w → WhereMade w (λ os u. AreMet ax cl os → Reaches W (basis ax cl env ls) held s held u)
-  splits_walk W ax cl ls env reads held g at s p now first t us more w (walk.not_grounded z f c vs r l h) = tt
-  splits_walk W ax cl ls env reads held g at s p now first t us more w (walk.cases_stopped z f c vs given l r h i) = tt
-  splits_walk W ax cl ls env reads held g at s p now first t us more w (walk.cases_too_large z f c vs given l os x r h i k) = tt
-  splits_walk W ax cl ls env reads held g at s p now first t us more w (walk.split z f c vs given l os x y o h i k owes) =
+  splits_walk W ax cl ls env reads held g at s p now first t us more w (walk.foreseen z f c vs r a) = tt
+  splits_walk W ax cl ls env reads held g at s p now first t us more w (walk.not_grounded z f c vs r l a h) = tt
+  splits_walk W ax cl ls env reads held g at s p now first t us more w (walk.cases_stopped z f c vs given l r a h i) = tt
+  splits_walk W ax cl ls env reads held g at s p now first t us more w (walk.cases_too_large z f c vs given l os x r a h i k) = tt
+  splits_walk W ax cl ls env reads held g at s p now first t us more w (walk.split z f c vs given l os x y o a h i k owes) =
       let cases : HasSupposed W (basis ax cl env ls) held z.context vs os x = supposes_walk W ax cl ls env reads held g at z.context vs l (Made os x) i in
       λ met. split_walks W (basis ax cl env ls) reads held g at f (place_of c.semicolon c.simple) z p now given (grounds_known W (basis ax cl env ls) held g z.context p f c.semicolon (is_some c.then) c.simple z.left (Ok given) l h) vs more os x cases y k o owes met
 

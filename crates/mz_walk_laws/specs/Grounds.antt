@@ -26,7 +26,7 @@ use Rattle.mz_resolve.specs.Calls.{TermRead, TypeRead, SentenceRead}
 use Rattle.mz_thesis_laws.specs.StepLaws.{AreUnfoldings}
 use Rattle.mz_steps.specs.Changes.{statement_of, with_stated}
 use Rattle.mz_block_laws.specs.Orders.{TermStands, TypeStands, Stands, AllStand, EqualStands, IsInOrder}
-use Rattle.mz_block_laws.specs.Met.{AreHeld, AreTheorems}
+use Rattle.mz_block_laws.specs.Met.{AreHeld, AreTheorems, AreSchemes}
 
 -- axioms; the clauses that `by` uses, in the order of an article; an environment; and the scheme's letters that are in force
 pub record Basis : Type 0 where
@@ -35,14 +35,15 @@ pub record Basis : Type 0 where
   pub env : Environment
   pub letters : List NamedLetter
 
--- the clauses and the theorems derive from what is held, what the unfoldings say from the axioms; and clauses say what the rows
--- do by which chains go
+-- the clauses and the theorems derive from what is held, what the unfoldings say from the axioms, and so does each scheme: from its
+-- letters' types and its premises its conclusion; and clauses say what the rows do by which chains go
 pub record IsGrounded (b : Basis) (held : List Formula) : Type 0 where
   pub typing_clauses : AreHeld b.axioms held (b.env.typing ++ letters_clauses b.letters)
   pub clauses : AreHeld b.axioms held b.clauses
   pub steps : AreUnfoldings b.axioms b.env.steps
   pub expansions : AreUnfoldings b.axioms b.env.expansions
   pub theorems : AreTheorems b.axioms held b.env
+  pub schemes : AreSchemes b.axioms b.env
   pub chains : (c : Context) → c.letters ≡ b.letters → HasChainClauses (typing b.env c) b.env c
 
 -- What is asked of the contexts in which expressions are read, for some property of contexts: what is read in one that has it

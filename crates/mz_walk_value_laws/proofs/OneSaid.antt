@@ -20,6 +20,7 @@ use Rattle.mz_justified_laws.proofs.Sequence.{one_by, one_value, IfSo, if_so, if
 use Rattle.mz_walk.specs.Walked.{State, state, with_left, Walked, Made, Refused, without_obligations, behind, led_to}
 use Rattle.mz_walk.specs.Performing.{Performs, is_linked}
 use Rattle.mz_walk.specs.Compact.{CompactRead, compact_stated, stated_under, place_behind, JustifiesSides}
+use Rattle.mz_walk.specs.Earlier.{told_first}
 use Rattle.mz_walk.specs.declared.compact.Compact.{Compact}
 use Rattle.mz_walk.specs.Walk as wk
 use Rattle.mz_walk.specs.Walk.{step_of, stated_in, Justifies, Says, SaysNow, GoesAll}
@@ -52,8 +53,12 @@ PerformsIt e s first concluded t x l o = Performs e first (with_left s l) (step_
 abbrev CompactNext : Environment → Extent → State → Place → Bool → Bool → Place → PropositionTree → JustData → List EqualityStepTree → Compact → Left → Walked State → Type 0
 CompactNext e at s first linked concluded semicolon t j ks x l o = After (PerformsIt e s first concluded t x l) (NextOk refused (FittingNext e at s first linked semicolon j ks x l)) o
 
+-- a refusal of its reading, as it is told
+abbrev told_unread : Environment → State → Place → JustData → List EqualityStepTree → ProofRefusal → Walked State
+told_unread e s semicolon j ks r = Refused (told_first e s.context semicolon s.left.obligations j ks r)
+
 abbrev SaidBehind : Environment → Extent → State → Place → Bool → Bool → Place → PropositionTree → JustData → List EqualityStepTree → Walked State → Type 0
-SaidBehind e at s first linked concluded semicolon t j ks o = AfterRead (CompactRead e s.context first s.left t ks) refused (CompactNext e at s first linked concluded semicolon t j ks) o
+SaidBehind e at s first linked concluded semicolon t j ks o = AfterRead (CompactRead e s.context first s.left t ks) (told_unread e s semicolon j ks) (CompactNext e at s first linked concluded semicolon t j ks) o
 
 abbrev no_fit : Place → Walked State
 no_fit first = Refused (StepNoFit first)
@@ -94,7 +99,7 @@ pub one_stated_compact : (e : Environment) (at : Extent) (t : PropositionTree) (
 one_stated_compact e at t j ks semicolon one s first linked concluded =
     one_by (Says e at s first linked concluded (StatedCompact t j ks semicolon)) (SaysAs e at s first linked concluded semicolon t j ks) (says_as e at s first linked concluded semicolon t j ks)
     (one_if (is_linked linked s.context.previous) (SaidBehind e at s first linked concluded semicolon t j ks) (IsNoFit first)
-    (one_after_read (CompactRead e s.context first s.left t ks) refused (CompactNext e at s first linked concluded semicolon t j ks) (one_compact e s.context first s.left t ks) (one_read_next e at s first linked concluded semicolon t j ks one))
+    (one_after_read (CompactRead e s.context first s.left t ks) (told_unread e s semicolon j ks) (CompactNext e at s first linked concluded semicolon t j ks) (one_compact e s.context first s.left t ks) (one_read_next e at s first linked concluded semicolon t j ks one))
     (one_value (no_fit first)))
 
 -- a `now`

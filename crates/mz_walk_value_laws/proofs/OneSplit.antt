@@ -1,8 +1,9 @@
 -- Splits into cases, each where its cases lead to one outcome at most.
-use Rattle.std.proofs.Common.{◌≡◌, List, [], ◌∷◌, refl, sym, subst}
+use Rattle.std.proofs.Common.{◌≡◌, Bool, List, [], ◌∷◌, map, Option, Some, None, refl, sym, ◌∙◌, subst}
 use Rattle.std.specs.Prelude.{Result, Ok, Err, is_some}
 use Rattle.mz_base.specs.declared.place.Place.{Place}
 use Rattle.mz_core.specs.Statement.{Statement}
+use Rattle.mz_core.specs.Parts.{conjunction}
 use Rattle.mz_core.specs.declared.outcome.Left.{Left}
 use Rattle.mz_context.specs.declared.context.Context.{Context}
 use Rattle.mz_context.specs.declared.labelled.LabelledStatement.{LabelledStatement}
@@ -10,7 +11,7 @@ use Rattle.mz_environment.specs.declared.environment.Environment.{Environment}
 use Rattle.mz_names.specs.declared.refusal.Refusal.{Refusal}
 use Rattle.mz_sizes.specs.Sizes.{statement_keeps}
 use Rattle.mz_applied.specs.Within.{within}
-use Rattle.mz_steps.specs.Changes.{with_stated}
+use Rattle.mz_steps.specs.Changes.{statement_of, with_stated}
 use Rattle.mz_tree_proof.specs.Reasoning.{StepList, SupposeList, CaseSuppose, no_supposes, more_supposes}
 use Rattle.mz_tree_proof.specs.declared.propositions.HypothesesTree.{HypothesesTree}
 use Rattle.mz_tree_proof.specs.declared.skeleton.SplitTree.{SplitTree}
@@ -20,13 +21,15 @@ use Rattle.mz_parts.specs.Joined.{joined_within}
 use Rattle.mz_parts.specs.Propositions.{PropositionsRead, hypotheses_in}
 use Rattle.mz_justified.specs.Justified.{Grounds, Owes, place_of}
 use Rattle.mz_justified.specs.declared.proof_fault.ProofRefusal.{ProofRefusal}
+use Rattle.mz_justified.specs.declared.proof_fault.ProofRefusal.TheVariants.{StepNoFit, Resolve}
 use Rattle.mz_justified_laws.specs.Determined.{AtMostOne}
-use Rattle.mz_justified_laws.proofs.Sequence.{one_by, one_value, NextOk, one_next_ok, After, one_after, Makes, one_made, AfterRead, one_after_read}
+use Rattle.mz_justified_laws.proofs.Sequence.{one_by, one_value, IfSo, if_so, if_not, one_if, NextOk, one_next_ok, After, one_after, Makes, one_made, AfterRead, one_after_read}
 use Rattle.mz_justified_laws.proofs.OneJustification.{one_ground, one_owed}
 use Rattle.mz_parts_laws.proofs.OneProposition.{one_propositions}
 use Rattle.mz_walk.specs.Walked.{State, Walked, Made, Refused, behind}
 use Rattle.mz_walk.specs.Walk as wk
-use Rattle.mz_walk.specs.Walk.{Cases, no_cases, with_case, disjunction_of, behind_cases, Proves, Splits, Supposes}
+use Rattle.mz_walk.specs.Performing.{is_linked}
+use Rattle.mz_walk.specs.Walk.{Cases, no_cases, with_case, disjunction_of, behind_cases, supposed_first, SuppositionsRead, nodes_alone, Foresees, Proves, Splits, Supposes}
 use Rattle.mz_introduction_laws.proofs.Walks.{refused, unread, NextMade, one_next_made}
 use Rattle.mz_walk_value_laws.proofs.OneBlock.{OneReasoning, one_proof}
 
@@ -88,6 +91,20 @@ one_more_cases e at p q end semicolon h ds us one others c l =
     (one_after_read (PropositionsRead e c 0 l (hypotheses_in h)) unread (HypothesesNext e at c p ds end us) (one_propositions e c 0 l (hypotheses_in h))
     (λ (ps : List LabelledStatement) (m : Left). one_next_ok unread (JoinedNext e at c ds end us ps m) (one_joined_next e at c ds end us ps m one others) (joined_within p ps)))
 
+-- what the cases suppose
+abbrev none_told : Refusal → Option (List Statement)
+none_told r = None
+
+abbrev all_supposed : Option (List Statement)
+all_supposed = Some []
+
+abbrev SupposedNext : Environment → Context → SupposeList → List LabelledStatement → Left → Option (List Statement) → Type 0
+SupposedNext e c us ps m o = Makes (SuppositionsRead e c us m) (supposed_first (conjunction (map statement_of ps))) o
+
+abbrev SuppositionsAs : Environment → Context → SupposeList → Left → Option (List Statement) → Type 0
+SuppositionsAs e c no_supposes l o = o ≡ all_supposed
+SuppositionsAs e c (more_supposes (CaseSuppose p h q ds end semicolon) us) l o = AfterRead (PropositionsRead e c 0 l (hypotheses_in h)) none_told (SupposedNext e c us) o
+
 -- a split
 abbrev split_made : State → List Obligation → Cases → Obligation → Walked State
 split_made s os x o = Made (o ∷ os) (behind_cases s x.left)
@@ -107,16 +124,83 @@ GroundedNext e at s first t us given l o = After (Supposes e at s.context us l) 
 abbrev GroundsIt : Environment → State → Place → SplitTree → Result (List Statement) ProofRefusal → Left → Type 0
 GroundsIt e s first t o a = Grounds e s.context first (is_some t.then) t.semicolon t.simple s.left o a
 
+abbrev JustifiedSplit : Environment → Extent → State → Place → SplitTree → SupposeList → Walked State → Type 0
+JustifiedSplit e at s first t us o = AfterRead (GroundsIt e s first t) refused (GroundedNext e at s first t us) o
+
+-- what is told ahead
+supposed_as : (e : Environment) (c : Context) (us : SupposeList) (l : Left) (o : Option (List Statement)) → SuppositionsRead e c us l o → SuppositionsAs e c us l o
+supposed_as e c us l o (wk.none_supposed _) = refl
+supposed_as e c us l o (wk.not_readable _ m p q end semicolon h ds vs r k) = (Err r, m, k, refl)
+supposed_as e c us l o (wk.one_supposed _ m p q end semicolon h ds vs ps x k g) = (Ok ps, m, k, (x, g, refl))
+
+pub one_supposed : (e : Environment) (c : Context) (us : SupposeList) (l : Left) → AtMostOne (SuppositionsRead e c us l)
+one_supposed e c no_supposes l = one_by (SuppositionsRead e c no_supposes l) (SuppositionsAs e c no_supposes l) (supposed_as e c no_supposes l) (one_value all_supposed)
+one_supposed e c (more_supposes (CaseSuppose p h q ds end semicolon) us) l =
+    one_by (SuppositionsRead e c (more_supposes (CaseSuppose p h q ds end semicolon) us) l) (SuppositionsAs e c (more_supposes (CaseSuppose p h q ds end semicolon) us) l) (supposed_as e c (more_supposes (CaseSuppose p h q ds end semicolon) us) l)
+    (one_after_read (PropositionsRead e c 0 l (hypotheses_in h)) none_told (SupposedNext e c us) (one_propositions e c 0 l (hypotheses_in h))
+    (λ (ps : List LabelledStatement) (m : Left). one_made (SuppositionsRead e c us m) (supposed_first (conjunction (map statement_of ps))) (one_supposed e c us m)))
+
+abbrev KeptAs : Result Statement Refusal → Option ProofRefusal → Type 0
+KeptAs (Ok y) o = o ≡ None
+KeptAs (Err r) o = o ≡ Some (Resolve r)
+
+abbrev ForeseenNext : Place → Option (List Statement) → Option ProofRefusal → Type 0
+ForeseenNext first None o = o ≡ None
+ForeseenNext first (Some ss) o = KeptAs (within statement_keeps first (disjunction_of ss)) o
+
+abbrev ForeseesBehind : Environment → Place → Context → Left → SupposeList → Option ProofRefusal → Type 0
+ForeseesBehind e first c l us o = After (SuppositionsRead e c us (nodes_alone l)) (ForeseenNext first) o
+
+abbrev FollowsNothing : Place → Option ProofRefusal → Type 0
+FollowsNothing first o = o ≡ Some (StepNoFit first)
+
+abbrev ForeseesAs : Environment → Place → Context → Left → Bool → SupposeList → Option ProofRefusal → Type 0
+ForeseesAs e first c l linked us o = IfSo (is_linked linked c.previous) (ForeseesBehind e first c l us o) (FollowsNothing first o)
+
+foresees_as : (e : Environment) (first : Place) (c : Context) (l : Left) (linked : Bool) (us : SupposeList) (o : Option ProofRefusal) → Foresees e first c l linked us o → ForeseesAs e first c l linked us o
+foresees_as e first c l linked us o (wk.not_linked h) = if_not (is_linked linked c.previous) (ForeseesBehind e first c l us o) (FollowsNothing first o) h refl
+foresees_as e first c l linked us o (wk.not_foreseen h k) = if_so (is_linked linked c.previous) (ForeseesBehind e first c l us o) (FollowsNothing first o) h (None, k, refl)
+foresees_as e first c l linked us o (wk.beyond ss r h k g) =
+    if_so (is_linked linked c.previous) (ForeseesBehind e first c l us o) (FollowsNothing first o) h (Some ss, k, subst (λ (z : Result Statement Refusal). KeptAs z o) (sym g) refl)
+foresees_as e first c l linked us o (wk.kept ss y h k g) =
+    if_so (is_linked linked c.previous) (ForeseesBehind e first c l us o) (FollowsNothing first o) h (Some ss, k, subst (λ (z : Result Statement Refusal). KeptAs z o) (sym g) refl)
+
+one_kept : (z : Result Statement Refusal) → AtMostOne (KeptAs z)
+one_kept (Ok y) o p h k = h ∙ sym k
+one_kept (Err r) o p h k = h ∙ sym k
+
+one_foreseen_next : (first : Place) (z : Option (List Statement)) → AtMostOne (ForeseenNext first z)
+one_foreseen_next first None o p h k = h ∙ sym k
+one_foreseen_next first (Some ss) o p h k = one_kept (within statement_keeps first (disjunction_of ss)) o p h k
+
+one_follows_nothing : (first : Place) → AtMostOne (FollowsNothing first)
+one_follows_nothing first o p h k = h ∙ sym k
+
+pub one_foresight : (e : Environment) (first : Place) (c : Context) (l : Left) (linked : Bool) (us : SupposeList) → AtMostOne (Foresees e first c l linked us)
+one_foresight e first c l linked us =
+    one_by (Foresees e first c l linked us) (ForeseesAs e first c l linked us) (foresees_as e first c l linked us)
+    (one_if (is_linked linked c.previous) (ForeseesBehind e first c l us) (FollowsNothing first)
+    (one_after (SuppositionsRead e c us (nodes_alone l)) (ForeseenNext first) (one_supposed e c us (nodes_alone l)) (one_foreseen_next first))
+    (one_follows_nothing first))
+
+abbrev ForeseesIt : Environment → State → Place → SplitTree → SupposeList → Option ProofRefusal → Type 0
+ForeseesIt e s first t us o = Foresees e first s.context s.left (is_some t.then) us o
+
+abbrev SplitNext : Environment → Extent → State → Place → SplitTree → SupposeList → Option ProofRefusal → Walked State → Type 0
+SplitNext e at s first t us (Some r) o = o ≡ Refused r
+SplitNext e at s first t us None o = JustifiedSplit e at s first t us o
+
 abbrev SplitsAs : Environment → Extent → State → Place → SplitTree → SupposeList → Walked State → Type 0
-SplitsAs e at s first t us o = AfterRead (GroundsIt e s first t) refused (GroundedNext e at s first t us) o
+SplitsAs e at s first t us o = After (ForeseesIt e s first t us) (SplitNext e at s first t us) o
 
 splits_as : (e : Environment) (at : Extent) (s : State) (first : Place) (t : SplitTree) (us : SupposeList) (o : Walked State) → Splits e at s first t us o → SplitsAs e at s first t us o
-splits_as e at s first t us o (wk.not_grounded _ _ _ _ r l h) = (Err r, l, h, refl)
-splits_as e at s first t us o (wk.cases_stopped _ _ _ _ given l r h i) = (Ok given, l, h, (Refused r, i, refl))
-splits_as e at s first t us o (wk.cases_too_large _ _ _ _ given l os x r h i k) =
-    (Ok given, l, h, (Made os x, i, subst (λ (z : Result Statement Refusal). OwedIs e at s t given os x z o) (sym k) refl))
-splits_as e at s first t us o (wk.split _ _ _ _ given l os x y u h i k g) =
-    (Ok given, l, h, (Made os x, i, subst (λ (z : Result Statement Refusal). OwedIs e at s t given os x z o) (sym k) (u, g, refl)))
+splits_as e at s first t us o (wk.foreseen _ _ _ _ r a) = (Some r, a, refl)
+splits_as e at s first t us o (wk.not_grounded _ _ _ _ r l a h) = (None, a, (Err r, l, h, refl))
+splits_as e at s first t us o (wk.cases_stopped _ _ _ _ given l r a h i) = (None, a, (Ok given, l, h, (Refused r, i, refl)))
+splits_as e at s first t us o (wk.cases_too_large _ _ _ _ given l os x r a h i k) =
+    (None, a, (Ok given, l, h, (Made os x, i, subst (λ (z : Result Statement Refusal). OwedIs e at s t given os x z o) (sym k) refl)))
+splits_as e at s first t us o (wk.split _ _ _ _ given l os x y u a h i k g) =
+    (None, a, (Ok given, l, h, (Made os x, i, subst (λ (z : Result Statement Refusal). OwedIs e at s t given os x z o) (sym k) (u, g, refl))))
 
 one_cases_next : (e : Environment) (at : Extent) (s : State) (first : Place) (t : SplitTree) (given : List Statement) (os : List Obligation) (x : Cases) → AtMostOne (CasesNext e at s first t given os x)
 one_cases_next e at s first t given os x =
@@ -124,8 +208,16 @@ one_cases_next e at s first t given os x =
     (λ (y : Statement). one_made (Owes e at s.context given y (place_of t.semicolon t.simple)) (split_made s os x) (one_owed e at s.context given y (place_of t.semicolon t.simple)))
     (within statement_keeps first (disjunction_of x.suppositions))
 
+one_justified_split : (e : Environment) (at : Extent) (t : SplitTree) (us : SupposeList) → OneCases e at us → (s : State) (first : Place) → AtMostOne (JustifiedSplit e at s first t us)
+one_justified_split e at t us one s first =
+    one_after_read (GroundsIt e s first t) refused (GroundedNext e at s first t us) (one_ground e s.context first (is_some t.then) t.semicolon t.simple s.left)
+    (λ (given : List Statement) (l : Left). one_after (Supposes e at s.context us l) (NextMade (CasesNext e at s first t given)) (one s.context l) (one_next_made (CasesNext e at s first t given) (one_cases_next e at s first t given)))
+
+one_split_next : (e : Environment) (at : Extent) (t : SplitTree) (us : SupposeList) → OneCases e at us → (s : State) (first : Place) (q : Option ProofRefusal) → AtMostOne (SplitNext e at s first t us q)
+one_split_next e at t us one s first (Some r) o p h k = h ∙ sym k
+one_split_next e at t us one s first None o p h k = one_justified_split e at t us one s first o p h k
+
 pub one_split : (e : Environment) (at : Extent) (t : SplitTree) (us : SupposeList) → OneCases e at us → (s : State) (first : Place) → AtMostOne (Splits e at s first t us)
 one_split e at t us one s first =
     one_by (Splits e at s first t us) (SplitsAs e at s first t us) (splits_as e at s first t us)
-    (one_after_read (GroundsIt e s first t) refused (GroundedNext e at s first t us) (one_ground e s.context first (is_some t.then) t.semicolon t.simple s.left)
-    (λ (given : List Statement) (l : Left). one_after (Supposes e at s.context us l) (NextMade (CasesNext e at s first t given)) (one s.context l) (one_next_made (CasesNext e at s first t given) (one_cases_next e at s first t given))))
+    (one_after (ForeseesIt e s first t us) (SplitNext e at s first t us) (one_foresight e first s.context s.left (is_some t.then) us) (one_split_next e at t us one s first))

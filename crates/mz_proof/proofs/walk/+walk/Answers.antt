@@ -44,7 +44,7 @@ pub say-returns-in-Err-justify : goal.say-returns-in-Err-justify
 say-returns-in-Err-justify t c = saying.told_unjustified _ _ _ _ _ _ _ _ _ _ _ _ _ _ _ _ _ _ _ _ _ _ _ _ _ _ _ _ _ _ c.stated_parts.ensures (c.as_slice-ks.ensures.value ∙ c.sides.view_is) c.begin.ensures.begins c.in-Ok.is c.begin.ensures.same c.place_behind-behind.ensures refl (ap (λ (b : Begun). b.compact.sentence) (c.deref.ensures ∙ c.in_ok-x.ensures.ok)) c.justify.ensures.justifies c.in-Err-justify.is
 
 pub say-justify_sides-requires : goal.say-justify_sides-requires
-say-justify_sides-requires t c = ap length (c.further_of-ss.ensures ∙ ap (λ (b : Begun). b.compact.said.further) (c.deref-2.ensures ∙ c.in_ok-x.ensures.ok)) ∙ saying.length-told_as_many _ _ _ _ _ _ _ _ _ _ _ _ c.begin.ensures.begins c.in-Ok.is
+say-justify_sides-requires t c = ap length (c.further_of-ss.ensures ∙ ap (λ (b : Begun). b.compact.said.further) (c.deref-2.ensures ∙ c.in_ok-x.ensures.ok)) ∙ saying.length-told_as_many _ _ _ _ _ _ _ _ _ _ _ _ _ _ c.begin.ensures.begins c.in-Ok.is
 
 pub say-returns-in-Err-justify_sides : goal.say-returns-in-Err-justify_sides
 say-returns-in-Err-justify_sides t c = saying.told_side_unjustified _ _ _ _ _ _ _ _ _ _ _ _ _ _ _ _ _ _ _ _ _ _ _ _ _ _ _ _ _ _ _ _ _ _ _ _ c.stated_parts.ensures (c.as_slice-ks.ensures.value ∙ c.sides.view_is) c.begin.ensures.begins c.in-Ok.is c.begin.ensures.same c.place_behind-behind.ensures refl (ap (λ (b : Begun). b.compact.sentence) (c.deref.ensures ∙ c.in_ok-x.ensures.ok)) c.justify.ensures.justifies c.in-Ok-justify.is c.justify.ensures.same (c.further_of-ss.ensures ∙ ap (λ (b : Begun). b.compact.said.further) (c.deref-2.ensures ∙ c.in_ok-x.ensures.ok)) c.justify_sides.ensures c.in-Err-justify_sides.is
@@ -93,13 +93,16 @@ go-returns-else-is_now t c = stepping.told_splits _ _ _ _ _ _ _ _ _ _ _ _ _ _ (s
 
 -- splits into cases
 pub split-returns-in-Err : goal.split-returns-in-Err
-split-returns-in-Err t c = splitting.told_not_grounded _ _ _ _ _ _ _ _ _ _ _ _ _ _ _ _ _ c.is_some-linked.ensures refl c.ground.ensures c.in-Err.is
+split-returns-in-Err t c = splitting.told_foreseen _ _ _ _ _ _ _ _ _ _ _ _ _ _ _ c.is_some-linked.ensures c.foresee.ensures.foresees c.in-Err.is
+
+pub split-returns-in-Err-ground : goal.split-returns-in-Err-ground
+split-returns-in-Err-ground t c = splitting.told_not_grounded _ _ _ _ _ _ _ _ _ _ _ _ _ _ _ _ _ _ _ _ c.is_some-linked.ensures refl c.foresee.ensures.foresees c.in-Ok.is c.foresee.ensures.same c.ground.ensures c.in-Err-ground.is
 
 pub split-returns-in-Err-suppose_all : goal.split-returns-in-Err-suppose_all
-split-returns-in-Err-suppose_all t c = splitting.told_stopped _ _ _ _ _ _ _ _ _ _ _ _ _ _ _ _ _ _ _ _ _ _ _ _ c.is_some-linked.ensures refl c.ground.ensures c.in-Ok.is c.suppose_all.ensures.supposes c.in-Err-suppose_all.is
+split-returns-in-Err-suppose_all t c = splitting.told_stopped _ _ _ _ _ _ _ _ _ _ _ _ _ _ _ _ _ _ _ _ _ _ _ _ _ _ _ c.is_some-linked.ensures refl c.foresee.ensures.foresees c.in-Ok.is c.foresee.ensures.same c.ground.ensures c.in-Ok-ground.is c.suppose_all.ensures.supposes c.in-Err-suppose_all.is
 
 pub split-returns : goal.split-returns
-split-returns t c = splitting.told_split _ _ _ _ _ _ _ _ _ _ _ _ _ _ _ _ _ _ _ _ _ _ _ _ _ _ _ _ c.is_some-linked.ensures refl c.ground.ensures c.in-Ok.is c.new-asked.ensures c.new-supposed.ensures c.suppose_all.ensures.supposes c.in-Ok-suppose_all.is c.suppose_all.ensures.same refl refl refl c.end_split.ensures
+split-returns t c = splitting.told_split _ _ _ _ _ _ _ _ _ _ _ _ _ _ _ _ _ _ _ _ _ _ _ _ _ _ _ _ _ _ _ c.is_some-linked.ensures refl c.foresee.ensures.foresees c.in-Ok.is c.foresee.ensures.same c.ground.ensures c.in-Ok-ground.is c.new-asked.ensures c.new-supposed.ensures c.suppose_all.ensures.supposes c.in-Ok-suppose_all.is c.suppose_all.ensures.same refl refl refl c.end_split.ensures
 
 -- cases
 pub suppose_all-returns-in-Err-clause-supposes : goal.suppose_all-returns-in-Err-clause-supposes

@@ -1,11 +1,14 @@
-use Rattle.mz_standing_laws.proofs.ItemProofs.{reservation_law, theorem_law, statement_law}
+use Rattle.mz_standing_laws.proofs.ItemProofs.{item_law, label_law, context_law, left_law}
 use Rattle.mz_standing_laws.proofs.laws.item_law.Goals as goal
 
-pub returns-clause-reservation : goal.returns-clause-reservation
-returns-clause-reservation c = reservation_law
+pub returns-clause-item : goal.returns-clause-item
+returns-clause-item c = item_law
 
-pub returns-clause-theorem : goal.returns-clause-theorem
-returns-clause-theorem c = theorem_law
+pub returns-clause-label : goal.returns-clause-label
+returns-clause-label c = label_law
 
-pub returns-clause-statement : goal.returns-clause-statement
-returns-clause-statement c = statement_law
+pub returns-clause-context : goal.returns-clause-context
+returns-clause-context c = context_law
+
+pub returns-clause-left : goal.returns-clause-left
+returns-clause-left c = left_law

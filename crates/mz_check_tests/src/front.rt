@@ -1,0 +1,4 @@
+//! Tests of what texts are before their items are read.
+mod large;
+mod rows;
+mod texts;

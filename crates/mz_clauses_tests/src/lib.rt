@@ -1,5 +1,0 @@
-//! Tests of the clauses that items give.
-#![tactic(auto)]
-
-#[cfg(test)]
-mod tests;

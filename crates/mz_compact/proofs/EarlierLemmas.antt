@@ -1,0 +1,134 @@
+-- What the code of refusals in front of a side that isn't read tells.
+use Rattle.std.proofs.Common.{◌≡◌, ℕ, ◌-◌, Bool, true, false, List, ◌∷◌, length, Option, Some, None, refl, sym, ap, ◌∙◌, subst, arith}
+use Rattle.std.specs.Prelude.{nat_eq, if◌then◌else◌, Result, Ok, Err, IfOk}
+use Rattle.mz_base.specs.declared.place.Place.{Place}
+use Rattle.mz_core.specs.Statement.{Statement}
+use Rattle.mz_context.specs.declared.context.Context.{Context}
+use Rattle.mz_environment.specs.declared.environment.Environment.{Environment}
+use Rattle.mz_fits.proofs.FitLemmas.{empty}
+use Rattle.mz_cited.specs.Cited.{cites}
+use Rattle.mz_tree_proof.specs.Reasoning.{JustData, SimpleJust, ProofJust, StepList}
+use Rattle.mz_tree_proof.specs.declared.equality_step.EqualityStepTree.{EqualityStepTree}
+use Rattle.mz_tree_proof.specs.declared.references.SimpleTree.{SimpleTree}
+use Rattle.mz_justified.specs.Justified.{place_of, references_of, from_of}
+use Rattle.mz_justified.specs.declared.proof_fault.ProofFault.{ProofFault}
+use Rattle.mz_justified.specs.declared.proof_fault.ProofFault.TheVariants.{Refused}
+use Rattle.mz_justified.specs.declared.proof_fault.ProofRefusal.{ProofRefusal}
+use Rattle.mz_justified.specs.declared.proof_fault.ProofRefusal.TheVariants.{UnknownLabel, TooManyObligations, NotBuilt}
+use Rattle.mz_walk.specs.Compact.{place_behind}
+use Rattle.mz_walk.specs.Earlier.{is_before, place_refused, uncited, unbuilt, ungrounded, else_told, told_behind, told_of_sides, told_first}
+use Rattle.mz_performing.specs.Begun.{ToldAs}
+
+-- one justification
+tested : (n : ℕ) (b : Bool) → nat_eq n 0 ≡ b → (n ≡ 0 → ⊥) → b ≡ false
+tested n true e h = absurd (h (grind (arith, e)))
+tested n false e h = refl
+
+some_left : (n : ℕ) → (n ≡ 0 → ⊥) → nat_eq n 0 ≡ false
+some_left n h = tested n (nat_eq n 0) refl h
+
+none_left : (n : ℕ) → n ≡ 0 → nat_eq n 0 ≡ true
+none_left n h = grind (arith, h)
+
+abbrev spent_or : Place → Option ProofRefusal → Bool → Option ProofRefusal
+spent_or place o b = if b then Some (TooManyObligations place) else o
+
+pub told_spent : (e : Environment) (c : Context) (n : ℕ) (place : Place) (t : SimpleTree) → n ≡ 0 → Some (TooManyObligations place) ≡ ungrounded e c n place t
+told_spent e c n place t h = sym (ap (spent_or place (unbuilt (from_of t) (uncited (cites e c (references_of t))))) (none_left n h))
+
+pub told_unbuilt : (e : Environment) (c : Context) (n : ℕ) (place : Place) (t : SimpleTree) (o : Option Place) (from : Place) → (n ≡ 0 → ⊥) → o ≡ from_of t → o ≡ Some from → Some (NotBuilt from) ≡ ungrounded e c n place t
+told_unbuilt e c n place t o from h eo es =
+    sym (ap (spent_or place (unbuilt (from_of t) (uncited (cites e c (references_of t))))) (some_left n h) ∙ ap (λ z. unbuilt z (uncited (cites e c (references_of t)))) (sym eo ∙ es))
+
+built : (e : Environment) (c : Context) (n : ℕ) (place : Place) (t : SimpleTree) (o : Option Place) → (n ≡ 0 → ⊥) → o ≡ from_of t → o ≡ None → ungrounded e c n place t ≡ uncited (cites e c (references_of t))
+built e c n place t o h eo en =
+    ap (spent_or place (unbuilt (from_of t) (uncited (cites e c (references_of t))))) (some_left n h) ∙ ap (λ z. unbuilt z (uncited (cites e c (references_of t)))) (sym eo ∙ en)
+
+pub told_uncited : (e : Environment) (c : Context) (n : ℕ) (place : Place) (t : SimpleTree) (o : Option Place) (q : Result (List Statement) Place) (p : Place) → (n ≡ 0 → ⊥) → o ≡ from_of t → o ≡ None → q ≡ cites e c (references_of t) → q ≡ Err p → Some (UnknownLabel p) ≡ ungrounded e c n place t
+told_uncited e c n place t o q p h eo en eq ep = sym (built e c n place t o h eo en ∙ ap uncited (sym eq ∙ ep))
+
+pub told_grounded : (e : Environment) (c : Context) (n : ℕ) (place : Place) (t : SimpleTree) (o : Option Place) (q : Result (List Statement) Place) (ss : List Statement) → (n ≡ 0 → ⊥) → o ≡ from_of t → o ≡ None → q ≡ cites e c (references_of t) → q ≡ Ok ss → None ≡ ungrounded e c n place t
+told_grounded e c n place t o q ss h eo en eq es = sym (built e c n place t o h eo en ∙ ap uncited (sym eq ∙ es))
+
+pub ruleset ground_rules = (told_spent, told_unbuilt, told_uncited, told_grounded)
+
+-- in front of others
+abbrev before_or : ProofRefusal → ProofRefusal → Bool → ProofRefusal
+before_or q r b = if b then q else r
+
+told_behind-stays : (e : Environment) (c : Context) (n : ℕ) (place : Place) (t : SimpleTree) (rest r : ProofRefusal) → is_before place (place_refused r) ≡ false → told_behind e c n place t rest r ≡ r
+told_behind-stays e c n place t rest r h = ap (before_or (else_told (ungrounded e c n place t) rest) r) h
+
+told_behind-told : (e : Environment) (c : Context) (n : ℕ) (place : Place) (t : SimpleTree) (rest r q : ProofRefusal) → is_before place (place_refused r) ≡ true → ungrounded e c n place t ≡ Some q → told_behind e c n place t rest r ≡ q
+told_behind-told e c n place t rest r q h k = ap (before_or (else_told (ungrounded e c n place t) rest) r) h ∙ ap (λ o. else_told o rest) k
+
+told_behind-goes_on : (e : Environment) (c : Context) (n : ℕ) (place : Place) (t : SimpleTree) (rest r : ProofRefusal) → is_before place (place_refused r) ≡ true → ungrounded e c n place t ≡ None → told_behind e c n place t rest r ≡ rest
+told_behind-goes_on e c n place t rest r h k = ap (before_or (else_told (ungrounded e c n place t) rest) r) h ∙ ap (λ o. else_told o rest) k
+
+-- what the code asks of a justification, at its place
+place_is : (place behind : Place) (t : SimpleTree) (ks : List EqualityStepTree) (semicolon : Place) → place ≡ place_of behind t → behind ≡ place_behind ks semicolon → place ≡ place_of (place_behind ks semicolon) t
+place_is place behind t ks semicolon ep eb = ep ∙ ap (λ z. place_of z t) eb
+
+before_is : (p p' q : Place) (r : ProofRefusal) (b v : Bool) → p ≡ p' → q ≡ place_refused r → b ≡ is_before p q → b ≡ v → is_before p' (place_refused r) ≡ v
+before_is p p' q r b v ep eq eb ev = sym (eb ∙ (ap (λ z. is_before z q) ep ∙ ap (λ z. is_before p' z) eq)) ∙ ev
+
+ground_is : (e : Environment) (c : Context) (n : ℕ) (p p' : Place) (t : SimpleTree) (o v : Option ProofRefusal) → p ≡ p' → o ≡ ungrounded e c n p t → o ≡ v → ungrounded e c n p' t ≡ v
+ground_is e c n p p' t o v ep eo ev = ap (λ z. ungrounded e c n z t) (sym ep) ∙ (sym eo ∙ ev)
+
+-- further sides
+pub told_sides_end : (e : Environment) (c : Context) (semicolon : Place) (n m : ℕ) (rest all : List EqualityStepTree) (r : ProofRefusal) → length rest ≡ 0 → told_of_sides e c semicolon n rest r ≡ told_of_sides e c semicolon m all r → r ≡ told_of_sides e c semicolon m all r
+told_sides_end e c semicolon n m rest all r er h = sym (ap (λ xs. told_of_sides e c semicolon n xs r) (empty rest er)) ∙ h
+
+pub told_side_stays : (e : Environment) (c : Context) (semicolon : Place) (n m : ℕ) (rest others all : List EqualityStepTree) (k : EqualityStepTree) (place behind q : Place) (b : Bool) (r : ProofRefusal) → rest ≡ k ∷ others → behind ≡ place_behind others semicolon → place ≡ place_of behind k.simple → q ≡ place_refused r → b ≡ is_before place q → b ≡ false →
+    told_of_sides e c semicolon n rest r ≡ told_of_sides e c semicolon m all r → r ≡ told_of_sides e c semicolon m all r
+told_side_stays e c semicolon n m rest others all k place behind q b r er eb ep eq ek ev h =
+    let at : place ≡ place_of (place_behind others semicolon) k.simple = place_is place behind k.simple others semicolon ep eb in
+    sym (told_behind-stays e c n (place_of (place_behind others semicolon) k.simple) k.simple (told_of_sides e c semicolon (n - 1) others r) r (before_is place _ q r b false at eq ek ev))
+    ∙ (sym (ap (λ xs. told_of_sides e c semicolon n xs r) er) ∙ h)
+
+pub told_side_told : (e : Environment) (c : Context) (semicolon : Place) (n m : ℕ) (rest others all : List EqualityStepTree) (k : EqualityStepTree) (place behind q : Place) (b : Bool) (r x : ProofRefusal) (o : Option ProofRefusal) → rest ≡ k ∷ others → behind ≡ place_behind others semicolon → place ≡ place_of behind k.simple → q ≡ place_refused r → b ≡ is_before place q → b ≡ true → o ≡ ungrounded e c n place k.simple → o ≡ Some x →
+    told_of_sides e c semicolon n rest r ≡ told_of_sides e c semicolon m all r → x ≡ told_of_sides e c semicolon m all r
+told_side_told e c semicolon n m rest others all k place behind q b r x o er eb ep eq ek ev eo ex h =
+    let at : place ≡ place_of (place_behind others semicolon) k.simple = place_is place behind k.simple others semicolon ep eb in
+    sym (told_behind-told e c n (place_of (place_behind others semicolon) k.simple) k.simple (told_of_sides e c semicolon (n - 1) others r) r x (before_is place _ q r b true at eq ek ev) (ground_is e c n place _ k.simple o (Some x) at eo ex))
+    ∙ (sym (ap (λ xs. told_of_sides e c semicolon n xs r) er) ∙ h)
+
+pub told_side_turn : (e : Environment) (c : Context) (semicolon : Place) (n n' m : ℕ) (rest others all : List EqualityStepTree) (k : EqualityStepTree) (place behind q : Place) (b : Bool) (r : ProofRefusal) (o : Option ProofRefusal) → rest ≡ k ∷ others → behind ≡ place_behind others semicolon → place ≡ place_of behind k.simple → q ≡ place_refused r → b ≡ is_before place q → b ≡ true → o ≡ ungrounded e c n place k.simple → o ≡ None → n' ≡ n - 1 →
+    told_of_sides e c semicolon n rest r ≡ told_of_sides e c semicolon m all r → told_of_sides e c semicolon n' others r ≡ told_of_sides e c semicolon m all r
+told_side_turn e c semicolon n n' m rest others all k place behind q b r o er eb ep eq ek ev eo en em h =
+    let at : place ≡ place_of (place_behind others semicolon) k.simple = place_is place behind k.simple others semicolon ep eb in
+    ap (λ z. told_of_sides e c semicolon z others r) em
+    ∙ (sym (told_behind-goes_on e c n (place_of (place_behind others semicolon) k.simple) k.simple (told_of_sides e c semicolon (n - 1) others r) r (before_is place _ q r b true at eq ek ev) (ground_is e c n place _ k.simple o None at eo en))
+    ∙ (sym (ap (λ xs. told_of_sides e c semicolon n xs r) er) ∙ h))
+
+pub ruleset side_rules = (told_sides_end, told_side_stays, told_side_told, told_side_turn)
+
+-- all of them
+pub told_first_stays : (e : Environment) (c : Context) (semicolon : Place) (n : ℕ) (t : SimpleTree) (ks : List EqualityStepTree) (place behind q : Place) (b : Bool) (r : ProofRefusal) → behind ≡ place_behind ks semicolon → place ≡ place_of behind t → q ≡ place_refused r → b ≡ is_before place q → b ≡ false → r ≡ told_first e c semicolon n (SimpleJust t) ks r
+told_first_stays e c semicolon n t ks place behind q b r eb ep eq ek ev =
+    sym (told_behind-stays e c n (place_of (place_behind ks semicolon) t) t (told_of_sides e c semicolon (n - 1) ks r) r (before_is place _ q r b false (place_is place behind t ks semicolon ep eb) eq ek ev))
+
+pub told_first_told : (e : Environment) (c : Context) (semicolon : Place) (n : ℕ) (t : SimpleTree) (ks : List EqualityStepTree) (place behind q : Place) (b : Bool) (r x : ProofRefusal) (o : Option ProofRefusal) → behind ≡ place_behind ks semicolon → place ≡ place_of behind t → q ≡ place_refused r → b ≡ is_before place q → b ≡ true → o ≡ ungrounded e c n place t → o ≡ Some x → x ≡ told_first e c semicolon n (SimpleJust t) ks r
+told_first_told e c semicolon n t ks place behind q b r x o eb ep eq ek ev eo ex =
+    let at : place ≡ place_of (place_behind ks semicolon) t = place_is place behind t ks semicolon ep eb in
+    sym (told_behind-told e c n (place_of (place_behind ks semicolon) t) t (told_of_sides e c semicolon (n - 1) ks r) r x (before_is place _ q r b true at eq ek ev) (ground_is e c n place _ t o (Some x) at eo ex))
+
+pub told_first_others : (e : Environment) (c : Context) (semicolon : Place) (n m : ℕ) (t : SimpleTree) (ks : List EqualityStepTree) (place behind q : Place) (b : Bool) (r x : ProofRefusal) (o : Option ProofRefusal) → behind ≡ place_behind ks semicolon → place ≡ place_of behind t → q ≡ place_refused r → b ≡ is_before place q → b ≡ true → o ≡ ungrounded e c n place t → o ≡ None → m ≡ n - 1 → x ≡ told_of_sides e c semicolon m ks r →
+    x ≡ told_first e c semicolon n (SimpleJust t) ks r
+told_first_others e c semicolon n m t ks place behind q b r x o eb ep eq ek ev eo en em ex =
+    let at : place ≡ place_of (place_behind ks semicolon) t = place_is place behind t ks semicolon ep eb in
+    ex ∙ (ap (λ z. told_of_sides e c semicolon z ks r) em
+    ∙ sym (told_behind-goes_on e c n (place_of (place_behind ks semicolon) t) t (told_of_sides e c semicolon (n - 1) ks r) r (before_is place _ q r b true at eq ek ev) (ground_is e c n place _ t o None at eo en)))
+
+pub ruleset first_rules = (told_first_stays, told_first_told, told_first_others)
+
+pub told_simple : {E : Type 0} (e : Environment) (c : Context) (semicolon : Place) (n : ℕ) (j : JustData) (t : SimpleTree) (ks : List EqualityStepTree) (r : ProofRefusal) (y : Result ProofRefusal E) → j ≡ SimpleJust t → IfOk y (λ x. x ≡ told_first e c semicolon n (SimpleJust t) ks r) → IfOk y (λ x. x ≡ told_first e c semicolon n j ks r)
+told_simple {E} e c semicolon n j t ks r y ej h = subst (λ z. IfOk y (λ x. x ≡ told_first e c semicolon n z ks r)) (sym ej) h
+
+pub told_proof : (e : Environment) (c : Context) (semicolon : Place) (n : ℕ) (j : JustData) (p end : Place) (ds : StepList) (ks : List EqualityStepTree) (r : ProofRefusal) → j ≡ ProofJust p ds end → r ≡ told_first e c semicolon n j ks r
+told_proof e c semicolon n j p end ds ks r ej = sym (ap (λ z. told_first e c semicolon n z ks r) ej)
+
+pub told_as : (told : ProofRefusal → ProofRefusal) (f : ProofFault) (r q : ProofRefusal) → f ≡ Refused r → q ≡ told r → ToldAs told f (Refused q)
+told_as told f r q ef eq = (r, ef, eq)
+
+pub ruleset fault_rules = (told_as)

@@ -1,0 +1,183 @@
+//! What is told of an iterative equality of which a side isn't read: the refusal of a justification in front of the side, where
+//! there is one.
+ghost use Rattle.std.specs.Prelude.{◌≡◌, IfOk};
+ghost use Rattle.mz_tree_proof.specs.Reasoning.{SimpleJust};
+ghost use Rattle.mz_walk.specs.Earlier.{is_before, place_unread, place_refused, ungrounded, told_of_sides, told_first};
+ghost use Rattle.mz_performing.specs.Begun.{ToldAs};
+
+use crate::sides::place_behind;
+use mz_base::place::Place;
+use mz_context::context::Context;
+use mz_environment::environment::Environment;
+use mz_justified::grounds::{cited, from_of, place_of};
+use mz_justified::proof_fault::{ProofFault, ProofRefusal};
+use mz_names::refusal::Refusal;
+use mz_tree_proof::equality_step::EqualityStepTree;
+use mz_tree_proof::reasoning::{JustNode, JustTree};
+use mz_tree_proof::references::SimpleTree;
+use std::alloc::{AllocError, Global};
+
+/// Whether the first place stands before the second.
+fn is_before(p: Place, q: Place) -> bool
+    ensures { result ≡ is_before p q }
+{
+    p.line < q.line || p.line == q.line && p.column < q.column
+}
+
+fn place_unread(r: Refusal) -> Place
+    ensures { result ≡ place_unread r }
+{
+    match r {
+        Refusal::UnknownSymbol(p) => p,
+        Refusal::NoNotation(p) => p,
+        Refusal::UnknownVariable(p) => p,
+        Refusal::Unregistered(p) => p,
+        Refusal::UnfitArgument(p) => p,
+        Refusal::TooLarge(p) => p,
+    }
+}
+
+fn place_refused(r: ProofRefusal) -> Place
+    ensures { result ≡ place_refused r }
+{
+    match r {
+        ProofRefusal::StepNoFit(p) => p,
+        ProofRefusal::ThesisLeft(p) => p,
+        ProofRefusal::UnknownLabel(p) => p,
+        ProofRefusal::Resolve(r) => place_unread(r),
+        ProofRefusal::TooManyObligations(p) => p,
+        ProofRefusal::NotBuilt(p) => p,
+    }
+}
+
+/// Why the justification at the place isn't taken, where the article has `count` obligations left.
+#[tactic(auto, using(crate::proofs::EarlierLemmas::ground_rules))]
+fn ungrounded(
+    alloc: Global,
+    env: &Environment,
+    ctx: &Context,
+    count: u32,
+    place: Place,
+    tree: &SimpleTree,
+) -> Result<Option<ProofRefusal>, AllocError>
+    ensures { IfOk result (λ o. o ≡ ungrounded env.now ctx.now count place tree.now) }
+{
+    if count == 0 {
+        return Ok(Some(ProofRefusal::TooManyObligations(place)));
+    }
+    if let Some(from) = from_of(tree) {
+        return Ok(Some(ProofRefusal::NotBuilt(from)));
+    }
+    match cited(alloc, env, ctx, tree)? {
+        Ok(_) => Ok(None),
+        Err(p) => Ok(Some(ProofRefusal::UnknownLabel(p))),
+    }
+}
+
+/// What is told among the justifications of further sides, one obligation for each.
+#[tactic(auto, using(crate::proofs::EarlierLemmas::side_rules))]
+fn told_of_sides(
+    alloc: Global,
+    env: &Environment,
+    ctx: &Context,
+    semicolon: Place,
+    count: u32,
+    sides: &[EqualityStepTree],
+    r: ProofRefusal,
+) -> Result<ProofRefusal, AllocError>
+    ensures { IfOk result (λ o. o ≡ told_of_sides env.now ctx.now semicolon count sides.now r) }
+{
+    let mut rest = sides;
+    let mut n = count;
+    while let Some((k, others)) = rest.split_first() {
+        let place = place_of(place_behind(others, semicolon), &k.simple);
+        if !is_before(place, place_refused(r)) {
+            return Ok(r);
+        }
+        match ungrounded(alloc, env, ctx, n, place, &k.simple)? {
+            Some(q) => return Ok(q),
+            None => {
+                rest = others;
+                n = n.saturating_sub(1);
+            }
+        }
+    }
+    Ok(r)
+}
+
+/// What is told among all justifications, where the first is this one, at the place.
+#[tactic(auto, using(crate::proofs::EarlierLemmas::first_rules))]
+fn told_from(
+    alloc: Global,
+    env: &Environment,
+    ctx: &Context,
+    semicolon: Place,
+    count: u32,
+    tree: &SimpleTree,
+    sides: &[EqualityStepTree],
+    r: ProofRefusal,
+) -> Result<ProofRefusal, AllocError>
+    ensures { IfOk result (λ o. o ≡ told_first env.now ctx.now semicolon count (SimpleJust tree.now) sides.now r) }
+{
+    let place = place_of(place_behind(sides, semicolon), tree);
+    if !is_before(place, place_refused(r)) {
+        return Ok(r);
+    }
+    match ungrounded(alloc, env, ctx, count, place, tree)? {
+        Some(q) => Ok(q),
+        None => told_of_sides(
+            alloc,
+            env,
+            ctx,
+            semicolon,
+            count.saturating_sub(1),
+            sides,
+            r,
+        ),
+    }
+}
+
+/// What is told where a compact statement isn't read, and the article had `count` obligations left before it: a refusal of a
+/// justification that stands before that of the reading, or this one.
+pub fn told_first(
+    alloc: Global,
+    env: &Environment,
+    ctx: &Context,
+    semicolon: Place,
+    count: u32,
+    just: &JustTree,
+    sides: &[EqualityStepTree],
+    r: ProofRefusal,
+) -> Result<ProofRefusal, AllocError>
+    ensures { IfOk result (λ o. o ≡ told_first env.now ctx.now semicolon count just.now sides.now r) }
+{
+    match &just.node {
+        JustNode::Simple(t) => told_from(alloc, env, ctx, semicolon, count, t, sides, r),
+        JustNode::Proof(..) => Ok(r),
+    }
+}
+
+/// The same of a fault.
+#[tactic(auto, using(crate::proofs::EarlierLemmas::fault_rules))]
+pub fn tell(
+    alloc: Global,
+    env: &Environment,
+    ctx: &Context,
+    semicolon: Place,
+    count: u32,
+    just: &JustTree,
+    sides: &[EqualityStepTree],
+    f: ProofFault,
+) -> ProofFault
+    ensures { ToldAs (told_first env.now ctx.now semicolon count just.now sides.now) f result }
+{
+    match f {
+        ProofFault::Memory => ProofFault::Memory,
+        ProofFault::Refused(r) => {
+            match told_first(alloc, env, ctx, semicolon, count, just, sides, r) {
+                Ok(q) => ProofFault::Refused(q),
+                Err(_) => ProofFault::Memory,
+            }
+        }
+    }
+}

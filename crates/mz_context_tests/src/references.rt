@@ -1,0 +1,3 @@
+//! What references cite.
+mod samples;
+mod tests;

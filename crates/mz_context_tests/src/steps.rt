@@ -1,0 +1,3 @@
+//! What a `now` states, and what steps do where they stand.
+mod samples;
+mod tests;

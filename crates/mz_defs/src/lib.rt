@@ -1,0 +1,4 @@
+//! Blocks of definitions and of notations, taken.
+#![tactic(auto)]
+
+pub mod defining;

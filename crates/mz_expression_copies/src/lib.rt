@@ -1,0 +1,4 @@
+//! Copies of the nodes of expressions.
+#![tactic(auto)]
+
+pub mod nodes;

@@ -1,0 +1,3 @@
+//! Tests of the check of derivations.
+mod tests;
+mod texts;

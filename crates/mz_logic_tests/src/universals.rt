@@ -1,0 +1,3 @@
+//! Tests of `mz_refute` on small disjuncts.
+mod tables;
+mod tests;

@@ -1,0 +1,4 @@
+//! Laws of orders and of made articles.
+#![tactic(auto)]
+
+pub mod laws;

@@ -1,0 +1,4 @@
+//! Tests of the parser of items.
+mod articles;
+mod blocks;
+mod clusters;

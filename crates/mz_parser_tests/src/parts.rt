@@ -1,0 +1,5 @@
+//! Tests of the parsers of proofs.
+mod justifications;
+mod propositions;
+mod steps;
+mod texts;

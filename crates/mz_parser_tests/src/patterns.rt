@@ -1,0 +1,3 @@
+//! Tests of the parsers of patterns and of headings.
+mod headings;
+mod patterns;

@@ -1,0 +1,4 @@
+//! Blocks of registrations, taken.
+#![tactic(auto)]
+
+pub mod registering;

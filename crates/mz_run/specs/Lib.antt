@@ -1,0 +1,5 @@
+pub mod Gathered
+pub mod Checked
+pub mod Run
+pub mod Laws
+pub mod Steps

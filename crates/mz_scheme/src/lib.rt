@@ -1,0 +1,4 @@
+//! Schemes, taken.
+#![tactic(auto)]
+
+pub mod stating;

@@ -1,0 +1,4 @@
+//! Laws of schemes.
+#![tactic(auto)]
+
+pub mod laws;

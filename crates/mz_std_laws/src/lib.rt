@@ -1,0 +1,2 @@
+//! Laws of the library's values: sums, options, truth values and lists.
+#![tactic(auto)]

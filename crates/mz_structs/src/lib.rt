@@ -1,0 +1,4 @@
+//! Structures, taken.
+#![tactic(auto)]
+
+pub mod structuring;

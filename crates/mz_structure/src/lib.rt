@@ -1,0 +1,4 @@
+//! What comes of a structure, and the call that takes it.
+#![tactic(auto)]
+
+pub mod struct_items;

@@ -1,0 +1,4 @@
+//! Laws of structures.
+#![tactic(auto)]
+
+pub mod laws;

@@ -1,0 +1,69 @@
+-- The refusal that is told of an iterative equality of which a side isn't read: that of a justification in front of the side comes
+-- first, since its place in the text is earlier.
+use Rattle.std.specs.Prelude.{ℕ, ◌-◌, Bool, ◌&&◌, ◌||◌, nat_lt, nat_eq, if◌then◌else◌, List, [], ◌∷◌, Option, Some, None, Result, Ok, Err}
+use Rattle.mz_base.specs.declared.place.Place.{Place}
+use Rattle.mz_core.specs.Statement.{Statement}
+use Rattle.mz_context.specs.declared.context.Context.{Context}
+use Rattle.mz_environment.specs.declared.environment.Environment.{Environment}
+use Rattle.mz_names.specs.declared.refusal.Refusal.{Refusal}
+use Rattle.mz_names.specs.declared.refusal.Refusal.TheVariants.{UnknownSymbol, NoNotation, UnknownVariable, Unregistered, UnfitArgument, TooLarge}
+use Rattle.mz_cited.specs.Cited.{cites}
+use Rattle.mz_tree_proof.specs.Reasoning.{JustData, SimpleJust, ProofJust}
+use Rattle.mz_tree_proof.specs.declared.equality_step.EqualityStepTree.{EqualityStepTree}
+use Rattle.mz_tree_proof.specs.declared.references.SimpleTree.{SimpleTree}
+use Rattle.mz_justified.specs.Justified.{place_of, references_of, from_of}
+use Rattle.mz_justified.specs.declared.proof_fault.ProofRefusal.{ProofRefusal}
+use Rattle.mz_justified.specs.declared.proof_fault.ProofRefusal.TheVariants.{StepNoFit, ThesisLeft, UnknownLabel, Resolve, TooManyObligations, NotBuilt}
+use Rattle.mz_walk.specs.Compact.{place_behind}
+
+-- the first place stands before the second
+abbrev pub is_before : Place → Place → Bool
+is_before p q = nat_lt p.line q.line || (nat_eq p.line q.line && nat_lt p.column q.column)
+
+-- where a refusal stands
+abbrev pub place_unread : Refusal → Place
+place_unread (UnknownSymbol p) = p
+place_unread (NoNotation p) = p
+place_unread (UnknownVariable p) = p
+place_unread (Unregistered p) = p
+place_unread (UnfitArgument p) = p
+place_unread (TooLarge p) = p
+
+abbrev pub place_refused : ProofRefusal → Place
+place_refused (StepNoFit p) = p
+place_refused (ThesisLeft p) = p
+place_refused (UnknownLabel p) = p
+place_refused (Resolve r) = place_unread r
+place_refused (TooManyObligations p) = p
+place_refused (NotBuilt p) = p
+
+-- why a justification isn't taken, where the article has so many obligations left: it has none, or the justification is by a
+-- scheme, which isn't built yet, or a reference cites nothing
+abbrev pub uncited : Result (List Statement) Place → Option ProofRefusal
+uncited (Ok ss) = None
+uncited (Err p) = Some (UnknownLabel p)
+
+abbrev pub unbuilt : Option Place → Option ProofRefusal → Option ProofRefusal
+unbuilt None r = r
+unbuilt (Some from) r = Some (NotBuilt from)
+
+abbrev pub ungrounded : Environment → Context → ℕ → Place → SimpleTree → Option ProofRefusal
+ungrounded e c n place t = if nat_eq n 0 then Some (TooManyObligations place) else unbuilt (from_of t) (uncited (cites e c (references_of t)))
+
+-- the one refusal, or else the other
+abbrev pub else_told : Option ProofRefusal → ProofRefusal → ProofRefusal
+else_told None r = r
+else_told (Some q) r = q
+
+-- a justification in front of the rest: where its place isn't before that of the refusal, the refusal is told
+abbrev pub told_behind : Environment → Context → ℕ → Place → SimpleTree → ProofRefusal → ProofRefusal → ProofRefusal
+told_behind e c n place t rest r = if is_before place (place_refused r) then else_told (ungrounded e c n place t) rest else r
+
+-- what is told among the justifications of further sides, one obligation for each, and of all
+abbrev pub told_of_sides : Environment → Context → Place → ℕ → List EqualityStepTree → ProofRefusal → ProofRefusal
+told_of_sides e c semicolon n [] r = r
+told_of_sides e c semicolon n (k ∷ ks) r = told_behind e c n (place_of (place_behind ks semicolon) k.simple) k.simple (told_of_sides e c semicolon (n - 1) ks r) r
+
+abbrev pub told_first : Environment → Context → Place → ℕ → JustData → List EqualityStepTree → ProofRefusal → ProofRefusal
+told_first e c semicolon n (SimpleJust t) ks r = told_behind e c n (place_of (place_behind ks semicolon) t) t (told_of_sides e c semicolon (n - 1) ks r) r
+told_first e c semicolon n (ProofJust p ds end) ks r = r
