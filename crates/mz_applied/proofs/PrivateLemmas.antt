@@ -1,7 +1,7 @@
 -- What the code of private functors, private predicates and letters tells.
 use Rattle.std.proofs.Common.{◌≡◌, ℕ, Bool, true, false, List, [], ◌∷◌, length, Option, Some, None, refl, sym, ap, ◌∙◌, subst, arith}
 use Rattle.std.specs.Prelude.{◌↔◌, IsTrue, nat_eq, Result, Err}
-use Rattle.std.proofs.lemmas.Bool.{eqb-true}
+use Rattle.std.proofs.lemmas.Bool.{eqb-true, false≢true}
 use Rattle.mz_base.specs.declared.place.Place.{Place}
 use Rattle.mz_logic.specs.Term.{Term}
 use Rattle.mz_logic.specs.Substitution.{substitute, argument_at}
@@ -26,9 +26,6 @@ use Rattle.mz_applied.specs.Within.{within}
 use Rattle.mz_applied.specs.Private as pr
 use Rattle.mz_applied.specs.Private.{PlacesFit, no_places, and_place, Admits, is_functor_usable, is_predicate_usable, term_of_letter, statement_of_letter, AppliesFunctor, AppliesPredicate}
 
-not_false : false ≡ true → ⊥
-not_false e = cc
-
 no_more : (cs : List Clause) (ks : List (Option Constant)) (t : Term) (ts : List Term) → PlacesFit cs ks [] (t ∷ ts) → ⊥
 no_more cs ks t ts f = elim f [ ]
 
@@ -51,14 +48,14 @@ told_no_places cs ks places ts b ep eb =
 
 pub told_too_few : (cs : List Clause) (ks : List (Option Constant)) (places tys : List SoftType) (ty : SoftType) (ts : List Term) → places ≡ ty ∷ tys → length ts ≡ 0 → IsTrue false ↔ PlacesFit cs ks places ts
 told_too_few cs ks places tys ty ts ep et =
-    (λ x. absurd (not_false x), λ f. absurd (no_fewer cs ks ty tys (subst (λ xs. PlacesFit cs ks (ty ∷ tys) xs) (empty _ et) (subst (λ xs. PlacesFit cs ks xs ts) ep f))))
+    (λ x. absurd (false≢true x), λ f. absurd (no_fewer cs ks ty tys (subst (λ xs. PlacesFit cs ks (ty ∷ tys) xs) (empty _ et) (subst (λ xs. PlacesFit cs ks xs ts) ep f))))
 
 both : (cs : List Clause) (ks : List (Option Constant)) (places tys : List SoftType) (ty : SoftType) (ts us : List Term) (t : Term) → places ≡ ty ∷ tys → ts ≡ t ∷ us → PlacesFit cs ks places ts → PlacesFit cs ks (ty ∷ tys) (t ∷ us)
 both cs ks places tys ty ts us t ep et f = subst (λ xs. PlacesFit cs ks (ty ∷ tys) xs) et (subst (λ xs. PlacesFit cs ks xs ts) ep f)
 
 pub told_one_unfit : (cs : List Clause) (ks : List (Option Constant)) (places tys : List SoftType) (ty : SoftType) (ts us : List Term) (t : Term) (b : Bool) → places ≡ ty ∷ tys → ts ≡ t ∷ us → IsTrue b ↔ TypeFits cs ks t ty → b ≡ false → IsTrue false ↔ PlacesFit cs ks places ts
 told_one_unfit cs ks places tys ty ts us t b ep et i eb =
-    (λ x. absurd (not_false x), λ f. absurd (not_both b eb (i.1 (first_of cs ks ty tys t us (both cs ks places tys ty ts us t ep et f)))))
+    (λ x. absurd (false≢true x), λ f. absurd (not_both b eb (i.1 (first_of cs ks ty tys t us (both cs ks places tys ty ts us t ep et f)))))
 
 pub told_others : (cs : List Clause) (ks : List (Option Constant)) (places tys : List SoftType) (ty : SoftType) (ts us : List Term) (t : Term) (b q : Bool) → places ≡ ty ∷ tys → ts ≡ t ∷ us → IsTrue b ↔ TypeFits cs ks t ty → b ≡ true → IsTrue q ↔ PlacesFit cs ks tys us → IsTrue q ↔ PlacesFit cs ks places ts
 told_others cs ks places tys ty ts us t b q ep et i eb j = (forward, λ f. j.1 (others_of cs ks ty tys t us (both cs ks places tys ty ts us t ep et f)))

@@ -21,6 +21,7 @@ use crate::fault::resolved;
 use mz_context::context::Context;
 use mz_formulas::sentence::Sentence;
 use mz_justified::proof_fault::ProofFault;
+use mz_justified::walker::{Opening, Walker};
 use mz_obligations::obligation::{Extent, Obligations};
 use mz_parts::propositions::stated_by;
 use mz_reserve::reserve::reserve;
@@ -111,14 +112,19 @@ fn justify<P: ProveSteps>(
     ensures made { OnMade result (Brings (JustifiesTheorem s.old t.now x.now s.old.left) s.new.left os.old os.new) }
     ensures same { OnOk result (s.new ≡ with_left s.old s.new.left) }
 {
-    let above = extent_of(s);
-    P::justify(
+    let walker = Walker {
         alloc,
-        &s.environment,
-        above,
+        env: &s.environment,
+        at: extent_of(s),
+    };
+    let opening = Opening {
+        first: t.theorem,
+        linked: false,
+    };
+    P::justify(
+        walker,
         &mut s.context,
-        t.theorem,
-        false,
+        opening,
         t.semicolon,
         &t.just,
         x,
@@ -168,15 +174,12 @@ fn take_statement<P: ProveSteps>(
     ensures made { OnMade result (λ o. (first : Place) × (first_place (spell_statement t.now) ≡ Some first) × Brings (States s.old.environment at (state s.old.context Proof s.old.left) first t.now) (state s.new.context Proof s.new.left) os.old os.new o) }
     ensures same { OnOk result (s.new ≡ with_left (with_context s.old s.new.context) s.new.left) }
 {
-    P::statement(
+    let walker = Walker {
         alloc,
-        &s.environment,
+        env: &s.environment,
         at,
-        &mut s.context,
-        t,
-        &mut s.left,
-        os,
-    )
+    };
+    P::statement(walker, &mut s.context, t, &mut s.left, os)
 }
 
 /// A statement of the article's own level.

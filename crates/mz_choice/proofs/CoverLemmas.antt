@@ -3,6 +3,8 @@ use Rattle.std.proofs.Common.{◌≡◌, ◌<◌, ◌+◌, ◌-◌, ◌⊎◌, i
 use Rattle.std.specs.Prelude.{◌↔◌, IsTrue, Contains, reverse}
 use Rattle.std.proofs.lemmas.List.{take_at, length_push, append-nil, append_assoc}
 use Rattle.std.proofs.lemmas.List.Elements.{Contains-append_left, Contains-append_right, Contains-append_cases, Contains-push_cases}
+use Rattle.std.proofs.lemmas.Bool.{false≢true}
+use Rattle.mz_std_laws.proofs.Sums.{either}
 use Rattle.mz_logic.specs.Sym.{same_sym}
 use Rattle.mz_logic.specs.Term.{Term, Const}
 use Rattle.mz_logic.specs.Abstraction.{term_over}
@@ -28,15 +30,8 @@ use Rattle.mz_choice.specs.Fresh.{fresh, with_fresh, keeping, Grown}
 use Rattle.mz_choice.specs.Cover as cv
 use Rattle.mz_choice.specs.Cover.{FitFresh, bare, with_loci, loci_constants, over_constants, IsRegisteredChain, registered_type, MemberMatches, Covers, SomeCovers, CoversByChain, HasCover, IsCovered}
 
-not_false : false ≡ true → ⊥
-not_false e = cc
-
 never : {A : Type 0} → (A → ⊥) → IsTrue false ↔ A
-never f = (λ x. absurd (not_false x), λ a. absurd (f a))
-
-either : {A B C : Type 0} → A ⊎ B → (A → C) → (B → C) → C
-either (inl a) f g = f a
-either (inr b) f g = g b
+never f = (λ x. absurd (false≢true x), λ a. absurd (f a))
 
 -- the context with these constants
 abbrev having : Context → List (Option Constant) → Context

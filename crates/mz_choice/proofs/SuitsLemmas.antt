@@ -2,6 +2,7 @@
 use Rattle.std.proofs.Common.{◌≡◌, ℕ, List, [], ◌∷◌, ◌++◌, refl, sym, ap, ◌∙◌, subst, Bool, true, false, length}
 use Rattle.std.specs.Prelude.{◌↔◌, IsTrue}
 use Rattle.std.specs.List.{list_any}
+use Rattle.std.proofs.lemmas.Bool.{false≢true}
 use Rattle.mz_logic.specs.declared.sym.Sym.{Sym}
 use Rattle.mz_logic.specs.declared.kind.Kind.TheVariants as kind
 use Rattle.mz_logic.specs.Term.{Term, Const}
@@ -17,11 +18,8 @@ use Rattle.mz_choice.specs.declared.choice.Wanted.TheVariants.{Anything, Adjecti
 use Rattle.mz_choice.specs.Choice as co
 use Rattle.mz_choice.specs.Choice.{EndsWith, EndsWithFresh, Suits}
 
-not_false : false ≡ true → ⊥
-not_false e = cc
-
 never : {A : Type 0} → (A → ⊥) → IsTrue false ↔ A
-never f = (λ x. absurd (not_false x), λ a. absurd (f a))
+never f = (λ x. absurd (false≢true x), λ a. absurd (f a))
 
 none_ends : (zs : List Term) (y : Term) → [] ≡ zs ++ y ∷ [] → ⊥
 none_ends [] y e = cc

@@ -1,6 +1,7 @@
 -- Units without formulas in them: behind which of them a list comma begins a longer one.
 use Rattle.std.specs.Prelude.{is_some}
 use Rattle.std.proofs.Common.{◌≡◌, ℕ, suc, ◌<◌, Bool, true, false, List, [], ◌∷◌, ◌++◌, length, refl, sym, ap, ◌∙◌, arith, Option, Some, None}
+use Rattle.std.proofs.lemmas.Bool.{false≢true}
 use Rattle.mz_base.specs.declared.place.Place.{Place}
 use Rattle.mz_base.specs.declared.token.MarkedToken.{MarkedToken}
 use Rattle.mz_forms.specs.Form.{nested}
@@ -54,9 +55,6 @@ tail_ends (is_tail p ads o) = predicated_ends o
 pub no_nil : (t : MarkedToken) (x : List MarkedToken) → [] ≡ t ∷ x → ⊥
 no_nil t x e = cc
 
-false_true : false ≡ true → ⊥
-false_true e = cc
-
 type_ends : (ads : List AdjectiveData) (k : Radix) → radix_ends k ≡ true → ends_in_terms (type_of_parts ads k) ≡ true
 type_ends ads ((false, w), None) g = cc
 type_ends ads ((true, w), None) g = cc
@@ -81,7 +79,7 @@ right_nil (s ∷ v) w f = cc
 
 module _ (field : Bool) (tok : MarkedToken) (comma : sign_of tok ≡ signs.ListComma) where
   no_terms : (ts : TermsData) (m : List MarkedToken) → AreTerms field ts → spell_terms ts ≡ tok ∷ m → ⊥
-  no_terms ts m is e = false_true (sym (ap begins_term comma) ∙ terms_first field ts [] tok m is (append_nil (spell_terms ts) ∙ e))
+  no_terms ts m is e = false≢true (sym (ap begins_term comma) ∙ terms_first field ts [] tok m is (append_nil (spell_terms ts) ∙ e))
 
   -- terms or nothing
   maybe_behind : (n : ℕ) → OnlyBehind tok n (maybe_terms_form field) is_some
@@ -117,7 +115,7 @@ module _ (field : Bool) (tok : MarkedToken) (comma : sign_of tok ≡ signs.ListC
 
   is_behind : (n : ℕ) → OnlyBehind tok n (is_form field) (λ k. predicated_ends k.1)
   is_behind n = behind_then tok n n (adjective_list_form field) (predicated field) (λ k. predicated_ends k.1) (λ ads k. predicated_ends k) (predicated_apart field) (list_one field n)
-      (λ a b k more less isa isb isk f e. absurd (false_true (excluded tok n (adjective_list_form field) (λ _. false) (list_one field n) (λ z isz. ap begins_adjective comma) a b more less isa isb e)))
+      (λ a b k more less isa isb isk f e. absurd (false≢true (excluded tok n (adjective_list_form field) (λ _. false) (list_one field n) (λ z isz. ap begins_adjective comma) a b more less isa isb e)))
       (predicated_behind n) (λ a k isa isk g. g) (λ a l isa h. omega (arith, h))
 
   -- what stands behind terms
@@ -147,7 +145,7 @@ module _ (field : Bool) (tok : MarkedToken) (comma : sign_of tok ≡ signs.ListC
   -- a predicate symbol with nothing before it
   pub predicate_behind : (n : ℕ) → OnlyBehind tok n (predicate_form field) (λ k. opening_ends (put_predicate k))
   predicate_behind n = behind_then tok n n (name signs.Predicate) (λ _. maybe_terms_form field) (λ k. opening_ends (put_predicate k)) (λ w o. is_some o) (apart_closed (name signs.Predicate) (λ _. maybe_terms_form field) (λ a t. refl)) (names n signs.Predicate refl)
-      (λ a b k more less isa isb isk f e. absurd (false_true (one_token tok n Word (named signs.Predicate) (λ _. false) a b more less isa isb e)))
+      (λ a b k more less isa isb isk f e. absurd (false≢true (one_token tok n Word (named signs.Predicate) (λ _. false) a b more less isa isb e)))
       (λ w. maybe_behind n) (λ w o isw iso g. ends w o g) (λ a l isa h. omega (arith, h))
     where
       ends : (w : Word) (o : Option TermsData) → is_some o ≡ true → unit_ends_in_terms (predicate_from w o) ≡ true
@@ -196,7 +194,7 @@ module _ (field : Bool) (tok : MarkedToken) (comma : sign_of tok ≡ signs.ListC
       both : (a b : Opening) → IsOpening field a → IsOpening field b → spell_opening a ≡ t ∷ m → spell_opening b ≡ spell_opening a ++ tok ∷ more → length (spell_opening a) < suc n → Begins field signs.Identifier a → Begins field signs.Identifier b → opening_ends a ≡ true
       both a b isa isb ea e less (quantified_first f s q g) v = cc
       both a b isa isb ea e less u (quantified_first f s q g) = cc
-      both a b isa isb ea e less (private_first f w p o q) (private_first f' w' p' o' q') = behind_same tok (suc n) (opening_form field) (private_form field) put_private opening_ends (λ _. false) (λ z is. private_spells field z.0 z.1.0 z.1.1.0 z.1.1.1) (λ z isz g. absurd (false_true g)) (private_behind (suc n)) a b more less
+      both a b isa isb ea e less (private_first f w p o q) (private_first f' w' p' o' q') = behind_same tok (suc n) (opening_form field) (private_form field) put_private opening_ends (λ _. false) (λ z is. private_spells field z.0 z.1.0 z.1.1.0 z.1.1.1) (λ z isz g. absurd (false≢true g)) (private_behind (suc n)) a b more less
           ((w, (p, (o, q))), (tt, (tt, (private_back field w p o q isa, tt))), refl) ((w', (p', (o', q'))), (tt, (tt, (private_back field w' p' o' q' isb, tt))), refl) e
       both a b isa isb ea e less (atom_first f s ts l g i j) (atom_first f' s' ts' l' g' i' j') = behind_same tok (suc n) (opening_form field) (atom_form field) make_atom opening_ends (λ z. opening_ends (make_atom z)) (λ z is. join_spells field z.0 z.1 is.1) (λ z isz g. g) (atom_behind n) a b more less
           ((ts, l), (i, j), refl) ((ts', l'), (i', j'), refl) e

@@ -9,8 +9,8 @@ use crate::earlier::tell;
 use mz_base::place::Place;
 use mz_context::context::Context;
 use mz_core::outcome::Left;
-use mz_environment::environment::Environment;
 use mz_justified::proof_fault::{ProofFault, ProofRefusal};
+use mz_justified::walker::{Opening, Walker};
 use mz_performing::begun::{Begun, step_of};
 use mz_performing::labels::stated_under;
 use mz_performing::linked::is_linked;
@@ -27,8 +27,7 @@ use std::mem;
 /// A compact statement that was read, where it fits.
 #[tactic(auto, using(crate::proofs::BegunLemmas::fitting_rules))]
 fn fit_compact(
-    alloc: Global,
-    env: &Environment,
+    walker: Walker<'_>,
     ctx: &Context,
     block: &Block,
     first: Place,
@@ -36,12 +35,12 @@ fn fit_compact(
     p: &PropositionTree,
     x: Box<Compact>,
 ) -> Result<Begun, ProofFault>
-    ensures { OnMade result (FitsCompact env.now ctx.now block.now first concluded p.now x.value) }
+    ensures { OnMade result (FitsCompact walker.env.now ctx.now block.now first concluded p.now x.value) }
 {
-    let stated = stated_under(alloc, &p.label, &x.said.states)?;
-    let step = step_of(alloc, concluded, &x.said.states)?;
-    let step = Box::new(alloc, step)?;
-    match fit(alloc, env, ctx, block, first, &step) {
+    let stated = stated_under(walker.alloc, &p.label, &x.said.states)?;
+    let step = step_of(walker.alloc, concluded, &x.said.states)?;
+    let step = Box::new(walker.alloc, step)?;
+    match fit(walker.alloc, walker.env, ctx, block, first, &step) {
         Ok(effect) => Ok(Begun {
             compact: Box::into_inner(x),
             step: Box::into_inner(step),
@@ -59,12 +58,10 @@ fn fit_compact(
 /// which those of the justifications in front of it come; then `StepNoFit` and `TooLarge` at the step.
 #[tactic(auto, using(crate::proofs::BegunLemmas::begin_rules))]
 pub fn begin(
-    alloc: Global,
-    env: &Environment,
+    walker: Walker<'_>,
     ctx: &mut Context,
     block: &Block,
-    first: Place,
-    linked: bool,
+    opening: Opening,
     concluded: bool,
     p: &PropositionTree,
     just: &JustTree,
@@ -72,19 +69,19 @@ pub fn begin(
     semicolon: Place,
     left: &mut Left,
 ) -> Result<Begun, ProofFault>
-    ensures begins { OnMade result (Begins env.now ctx.old block.now first linked concluded p.now just.now sides.now semicolon left.old left.new) }
+    ensures begins { OnMade result (Begins walker.env.now ctx.old block.now opening.first opening.linked concluded p.now just.now sides.now semicolon left.old left.new) }
     ensures same { ctx.new ≡ ctx.old }
 {
-    if !is_linked(linked, ctx) {
-        return Err(ProofFault::Refused(ProofRefusal::StepNoFit(first)));
+    if !is_linked(opening.linked, ctx) {
+        return Err(ProofFault::Refused(ProofRefusal::StepNoFit(opening.first)));
     }
     let count = left.obligations;
-    match read_compact(alloc, env, ctx, first, p, sides, left) {
+    match read_compact(walker, ctx, opening.first, p, sides, left) {
         Ok(x) => {
-            let x = Box::new(alloc, x)?;
-            fit_compact(alloc, env, ctx, block, first, concluded, p, x)
+            let x = Box::new(walker.alloc, x)?;
+            fit_compact(walker, ctx, block, opening.first, concluded, p, x)
         }
-        Err(f) => Err(tell(alloc, env, ctx, semicolon, count, just, sides, f)),
+        Err(f) => Err(tell(walker, ctx, semicolon, count, just, sides, f)),
     }
 }
 

@@ -8,9 +8,9 @@ use mz_base::place::Place;
 use mz_context::context::Context;
 use mz_core::outcome::Left;
 use mz_core::statements::Statements;
-use mz_environment::environment::Environment;
 use mz_formulas::sentence::Sentence;
 use mz_justified::proof_fault::ProofFault;
+use mz_justified::walker::Walker;
 use mz_parts::retyped::read_sides;
 use mz_performing::fault::resolved;
 use mz_resolve::calls::sentence;
@@ -34,21 +34,20 @@ fn plain(alloc: Global, s: Sentence) -> Result<Compact, AllocError>
 /// What is said by a sentence with further sides, which are all read before anything is made of them. The context is as before.
 #[tactic(auto, using(crate::proofs::CompactLemmas::equality_rules))]
 fn read_equality(
-    alloc: Global,
-    env: &Environment,
+    walker: Walker<'_>,
     ctx: &mut Context,
     first: Place,
     s: &Sentence,
     sides: &[EqualityStepTree],
     left: &mut Left,
 ) -> Result<Said, ProofFault>
-    ensures reads { OnMade result (λ o. EqualityRead env.now ctx.old first left.old s.now sides.now o left.new) }
+    ensures reads { OnMade result (λ o. EqualityRead walker.env.now ctx.old first left.old s.now sides.now o left.new) }
     ensures same { ctx.new ≡ ctx.old }
 {
-    match read_sides(alloc, env, ctx, 0, &s.variables, sides, left) {
+    match read_sides(walker.alloc, walker.env, ctx, 0, &s.variables, sides, left) {
         Ok(us) => {
             let n = next_number(ctx)?;
-            match equality_made(alloc, first, n, s, &us)? {
+            match equality_made(walker.alloc, first, n, s, &us)? {
                 Ok(said) => Ok(said),
                 Err(r) => Err(ProofFault::Refused(r)),
             }
@@ -60,18 +59,17 @@ fn read_equality(
 /// A compact statement with further sides.
 #[tactic(auto, using(crate::proofs::CompactLemmas::iterative_rules))]
 fn read_iterative(
-    alloc: Global,
-    env: &Environment,
+    walker: Walker<'_>,
     ctx: &mut Context,
     first: Place,
     s: Sentence,
     sides: &[EqualityStepTree],
     left: &mut Left,
 ) -> Result<Compact, ProofFault>
-    ensures reads { OnMade result (λ o. SaidBy env.now ctx.old first left.old s sides.now o left.new) }
+    ensures reads { OnMade result (λ o. SaidBy walker.env.now ctx.old first left.old s sides.now o left.new) }
     ensures same { ctx.new ≡ ctx.old }
 {
-    match read_equality(alloc, env, ctx, first, &s, sides, left) {
+    match read_equality(walker, ctx, first, &s, sides, left) {
         Ok(said) => Ok(Compact { sentence: s, said }),
         Err(f) => Err(f),
     }
@@ -83,24 +81,23 @@ fn read_iterative(
 /// is no equation, and `TooLarge` there where what is made of them is beyond the limits.
 #[tactic(auto, using(crate::proofs::CompactLemmas::compact_rules))]
 pub fn read_compact(
-    alloc: Global,
-    env: &Environment,
+    walker: Walker<'_>,
     ctx: &mut Context,
     first: Place,
     tree: &PropositionTree,
     sides: &[EqualityStepTree],
     left: &mut Left,
 ) -> Result<Compact, ProofFault>
-    ensures reads { OnMade result (λ o. CompactRead env.now ctx.old first left.old tree.now sides.now o left.new) }
+    ensures reads { OnMade result (λ o. CompactRead walker.env.now ctx.old first left.old tree.now sides.now o left.new) }
     ensures same { ctx.new ≡ ctx.old }
 {
-    match sentence(alloc, env, ctx, 0, &tree.formula, left) {
+    match sentence(walker.alloc, walker.env, ctx, 0, &tree.formula, left) {
         Ok(s) => match sides.split_first() {
             None => {
-                let x = plain(alloc, s)?;
+                let x = plain(walker.alloc, s)?;
                 Ok(x)
             }
-            Some(_) => read_iterative(alloc, env, ctx, first, s, sides, left),
+            Some(_) => read_iterative(walker, ctx, first, s, sides, left),
         },
         Err(f) => Err(resolved(f)),
     }

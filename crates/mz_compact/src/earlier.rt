@@ -8,14 +8,14 @@ ghost use Rattle.mz_performing.specs.Begun.{ToldAs};
 use crate::sides::place_behind;
 use mz_base::place::Place;
 use mz_context::context::Context;
-use mz_environment::environment::Environment;
 use mz_justified::grounds::{cited, from_of, place_of};
 use mz_justified::proof_fault::{ProofFault, ProofRefusal};
+use mz_justified::walker::Walker;
 use mz_names::refusal::Refusal;
 use mz_tree_proof::equality_step::EqualityStepTree;
 use mz_tree_proof::reasoning::{JustNode, JustTree};
 use mz_tree_proof::references::SimpleTree;
-use std::alloc::{AllocError, Global};
+use std::alloc::AllocError;
 
 /// Whether the first place stands before the second.
 fn is_before(p: Place, q: Place) -> bool
@@ -53,14 +53,13 @@ fn place_refused(r: ProofRefusal) -> Place
 /// Why the justification at the place isn't taken, where the article has `count` obligations left.
 #[tactic(auto, using(crate::proofs::EarlierLemmas::ground_rules))]
 fn ungrounded(
-    alloc: Global,
-    env: &Environment,
+    walker: Walker<'_>,
     ctx: &Context,
     count: u32,
     place: Place,
     tree: &SimpleTree,
 ) -> Result<Option<ProofRefusal>, AllocError>
-    ensures { IfOk result (λ o. o ≡ ungrounded env.now ctx.now count place tree.now) }
+    ensures { IfOk result (λ o. o ≡ ungrounded walker.env.now ctx.now count place tree.now) }
 {
     if count == 0 {
         return Ok(Some(ProofRefusal::TooManyObligations(place)));
@@ -68,7 +67,7 @@ fn ungrounded(
     if let Some(from) = from_of(tree) {
         return Ok(Some(ProofRefusal::NotBuilt(from)));
     }
-    match cited(alloc, env, ctx, tree)? {
+    match cited(walker.alloc, walker.env, ctx, tree)? {
         Ok(_) => Ok(None),
         Err(p) => Ok(Some(ProofRefusal::UnknownLabel(p))),
     }
@@ -77,15 +76,14 @@ fn ungrounded(
 /// What is told among the justifications of further sides, one obligation for each.
 #[tactic(auto, using(crate::proofs::EarlierLemmas::side_rules))]
 fn told_of_sides(
-    alloc: Global,
-    env: &Environment,
+    walker: Walker<'_>,
     ctx: &Context,
     semicolon: Place,
     count: u32,
     sides: &[EqualityStepTree],
     r: ProofRefusal,
 ) -> Result<ProofRefusal, AllocError>
-    ensures { IfOk result (λ o. o ≡ told_of_sides env.now ctx.now semicolon count sides.now r) }
+    ensures { IfOk result (λ o. o ≡ told_of_sides walker.env.now ctx.now semicolon count sides.now r) }
 {
     let mut rest = sides;
     let mut n = count;
@@ -94,7 +92,7 @@ fn told_of_sides(
         if !is_before(place, place_refused(r)) {
             return Ok(r);
         }
-        match ungrounded(alloc, env, ctx, n, place, &k.simple)? {
+        match ungrounded(walker, ctx, n, place, &k.simple)? {
             Some(q) => return Ok(q),
             None => {
                 rest = others;
@@ -108,8 +106,7 @@ fn told_of_sides(
 /// What is told among all justifications, where the first is this one, at the place.
 #[tactic(auto, using(crate::proofs::EarlierLemmas::first_rules))]
 fn told_from(
-    alloc: Global,
-    env: &Environment,
+    walker: Walker<'_>,
     ctx: &Context,
     semicolon: Place,
     count: u32,
@@ -117,31 +114,22 @@ fn told_from(
     sides: &[EqualityStepTree],
     r: ProofRefusal,
 ) -> Result<ProofRefusal, AllocError>
-    ensures { IfOk result (λ o. o ≡ told_first env.now ctx.now semicolon count (SimpleJust tree.now) sides.now r) }
+    ensures { IfOk result (λ o. o ≡ told_first walker.env.now ctx.now semicolon count (SimpleJust tree.now) sides.now r) }
 {
     let place = place_of(place_behind(sides, semicolon), tree);
     if !is_before(place, place_refused(r)) {
         return Ok(r);
     }
-    match ungrounded(alloc, env, ctx, count, place, tree)? {
+    match ungrounded(walker, ctx, count, place, tree)? {
         Some(q) => Ok(q),
-        None => told_of_sides(
-            alloc,
-            env,
-            ctx,
-            semicolon,
-            count.saturating_sub(1),
-            sides,
-            r,
-        ),
+        None => told_of_sides(walker, ctx, semicolon, count.saturating_sub(1), sides, r),
     }
 }
 
 /// What is told where a compact statement isn't read, and the article had `count` obligations left before it: a refusal of a
 /// justification that stands before that of the reading, or this one.
 pub fn told_first(
-    alloc: Global,
-    env: &Environment,
+    walker: Walker<'_>,
     ctx: &Context,
     semicolon: Place,
     count: u32,
@@ -149,10 +137,10 @@ pub fn told_first(
     sides: &[EqualityStepTree],
     r: ProofRefusal,
 ) -> Result<ProofRefusal, AllocError>
-    ensures { IfOk result (λ o. o ≡ told_first env.now ctx.now semicolon count just.now sides.now r) }
+    ensures { IfOk result (λ o. o ≡ told_first walker.env.now ctx.now semicolon count just.now sides.now r) }
 {
     match &just.node {
-        JustNode::Simple(t) => told_from(alloc, env, ctx, semicolon, count, t, sides, r),
+        JustNode::Simple(t) => told_from(walker, ctx, semicolon, count, t, sides, r),
         JustNode::Proof(..) => Ok(r),
     }
 }
@@ -160,8 +148,7 @@ pub fn told_first(
 /// The same of a fault.
 #[tactic(auto, using(crate::proofs::EarlierLemmas::fault_rules))]
 pub fn tell(
-    alloc: Global,
-    env: &Environment,
+    walker: Walker<'_>,
     ctx: &Context,
     semicolon: Place,
     count: u32,
@@ -169,12 +156,12 @@ pub fn tell(
     sides: &[EqualityStepTree],
     f: ProofFault,
 ) -> ProofFault
-    ensures { ToldAs (told_first env.now ctx.now semicolon count just.now sides.now) f result }
+    ensures { ToldAs (told_first walker.env.now ctx.now semicolon count just.now sides.now) f result }
 {
     match f {
         ProofFault::Memory => ProofFault::Memory,
         ProofFault::Refused(r) => {
-            match told_first(alloc, env, ctx, semicolon, count, just, sides, r) {
+            match told_first(walker, ctx, semicolon, count, just, sides, r) {
                 Ok(q) => ProofFault::Refused(q),
                 Err(_) => ProofFault::Memory,
             }

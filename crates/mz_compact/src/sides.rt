@@ -8,12 +8,11 @@ use mz_base::place::Place;
 use mz_context::context::Context;
 use mz_core::outcome::Left;
 use mz_core::statement::Statement;
-use mz_environment::environment::Environment;
 use mz_justified::justified::justify_simply;
 use mz_justified::proof_fault::ProofFault;
-use mz_obligations::obligation::{Extent, Obligations};
+use mz_justified::walker::{Opening, Walker};
+use mz_obligations::obligation::Obligations;
 use mz_tree_proof::equality_step::EqualityStepTree;
-use std::alloc::Global;
 
 /// The place of the token behind an equation: the sign before the next side, or the semicolon.
 pub fn place_behind(sides: &[EqualityStepTree], semicolon: Place) -> Place
@@ -28,9 +27,7 @@ pub fn place_behind(sides: &[EqualityStepTree], semicolon: Place) -> Place
 /// The equations of further sides, each justified behind its own one. The obligations are put behind the others.
 #[tactic(auto, using(crate::proofs::SideLemmas::side_rules))]
 pub fn justify_sides(
-    alloc: Global,
-    env: &Environment,
-    at: Extent,
+    walker: Walker<'_>,
     ctx: &Context,
     first: Place,
     semicolon: Place,
@@ -40,8 +37,12 @@ pub fn justify_sides(
     os: &mut Obligations,
 ) -> Result<(), ProofFault>
     requires { length ss.now ≡ length sides.now }
-    ensures { OnMade result (Brings (λ o. JustifiesSides env.now at ctx.now first semicolon sides.now ss.now left.old o) left.new os.old os.new) }
+    ensures { OnMade result (Brings (λ o. JustifiesSides walker.env.now walker.at ctx.now first semicolon sides.now ss.now left.old o) left.new os.old os.new) }
 {
+    let opening = Opening {
+        first,
+        linked: false,
+    };
     let mut rest = sides;
     let mut equations = ss;
     while let Some((k, others)) = rest.split_first() {
@@ -49,9 +50,7 @@ pub fn justify_sides(
             Some((s, more)) => {
                 let behind = place_behind(others, semicolon);
                 let simple = &k.simple;
-                match justify_simply(
-                    alloc, env, at, ctx, first, false, behind, simple, s, left, os,
-                ) {
+                match justify_simply(walker, ctx, opening, behind, simple, s, left, os) {
                     Ok(()) => {}
                     Err(f) => return Err(f),
                 }

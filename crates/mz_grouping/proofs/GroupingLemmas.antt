@@ -1,6 +1,6 @@
 -- The steps of a run, symbol by symbol.
 use Rattle.std.proofs.lemmas.List.{append-nil}
-use Rattle.std.proofs.lemmas.Bool.{lt-ltb, le-ltb, ltb-false, ltb-true, eqb-true, eq-eqb}
+use Rattle.std.proofs.lemmas.Bool.{lt-ltb, le-ltb, ltb-false, ltb-true, eqb-true, eq-eqb, false≢true}
 use Rattle.std.proofs.Common.{◌≡◌, ◌≤◌, ◌<◌, ◌+◌, ℕ, zero, suc, Bool, true, false, List, [], ◌∷◌, ◌++◌, refl, sym, ap, subst, ◌∙◌, arith, add-one, length, drop, Option, Some, None, get_or, nat_lt, append_assoc, slice_get}
 use Rattle.std.specs.Prelude.{◌&&◌, ◌||◌, nat_eq, if◌then◌else◌}
 use Rattle.mz_grouping.specs.Grouping.{Head, replaces, head_of_two, with_part, head_of, Grouped, nothing, operand, headed, neighbours_behind, has_neighbours}
@@ -18,9 +18,6 @@ lt_plus : (low m place : ℕ) → low + m ≡ place → nat_lt 0 m ≡ nat_lt lo
 lt_plus low zero place e = sym (le-ltb low place (omega (arith, e)))
 lt_plus low (suc m) place e = lt-ltb 0 (suc m) (omega arith) ∙ sym (lt-ltb low place (omega (arith, e)))
 
-false_true : false ≡ true → ⊥
-false_true e = cc
-
 -- a symbol that isn't the head in place of another has no less a rank, and stands directly after no operand where it has
 -- the same one
 stays_parts : (x y : ℕ) (b : Bool) → (nat_lt x y || (nat_eq x y && b)) ≡ false → (y ≤ x) × (x ≡ y → b ≡ false)
@@ -29,7 +26,7 @@ stays_parts x y b h =
     (ltb-false x y parts.0, λ e. sym (ap (λ t. t && b) (eq-eqb x y e)) ∙ parts.1)
   where
     not_or : (a c : Bool) → (a || c) ≡ false → (a ≡ false) × (c ≡ false)
-    not_or true c h = absurd (false_true (sym h))
+    not_or true c h = absurd (false≢true (sym h))
     not_or false c h = (refl, h)
 
 stays_from : (x y : ℕ) (b : Bool) → y ≤ x → (x ≡ y → b ≡ false) → (nat_lt x y || (nat_eq x y && b)) ≡ false
@@ -162,7 +159,7 @@ begins_at parts k low le high e = omega (arith, between-length low k parts le hi
 
 empty_run : (run : List Part) (b : Bool) → Ends run b → b ≡ false → run ≡ []
 empty_run run b no_part e = refl
-empty_run run b one_operand e = absurd (false_true (sym e))
+empty_run run b one_operand e = absurd (false≢true (sym e))
 
 at_part : (parts : List Part) (k : ℕ) (p : Part) → k < length parts → p ≡ get_or parts k p → slice_get parts k ≡ Some p
 at_part [] k p lt e = absurd (omega (arith, lt))
@@ -170,7 +167,7 @@ at_part (q ∷ ps) zero p lt e = ap Some (sym e)
 at_part (q ∷ ps) (suc k) p lt e = at_part ps k p (omega (arith, lt)) e
 
 operand_apart : (b c : Bool) → ((b && true) || c) ≡ false → (b ≡ false) × (c ≡ false)
-operand_apart true c h = absurd (false_true (sym h))
+operand_apart true c h = absurd (false≢true (sym h))
 operand_apart false c h = (refl, h)
 
 symbol_apart : (b c : Bool) → ((b && false) || c) ≡ false → c ≡ false

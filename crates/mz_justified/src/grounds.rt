@@ -8,6 +8,7 @@ ghost use Rattle.mz_justified.specs.Answers.{OnMade};
 ghost use Rattle.mz_justified.specs.Justified.{place_of, references_of, from_of, Grounds};
 
 use crate::proof_fault::{ProofFault, ProofRefusal};
+use crate::walker::{Opening, Walker};
 use mz_base::place::Place;
 use mz_cited::cited::cite;
 use mz_context::context::Context;
@@ -78,19 +79,17 @@ fn follows(linked: bool, ctx: &Context) -> bool
 /// justification; `NotBuilt` at the word `from`; `UnknownLabel` at the first reference that cites nothing.
 #[tactic(auto, using(crate::proofs::GroundLemmas::ground_rules))]
 pub fn ground(
-    alloc: Global,
-    env: &Environment,
+    walker: Walker<'_>,
     ctx: &Context,
-    first: Place,
-    linked: bool,
+    opening: Opening,
     behind: Place,
     tree: &SimpleTree,
     left: &mut Left,
 ) -> Result<Statements, ProofFault>
-    ensures { OnMade result (λ o. Grounds env.now ctx.now first linked behind tree.now left.old o left.new) }
+    ensures { OnMade result (λ o. Grounds walker.env.now ctx.now opening.first opening.linked behind tree.now left.old o left.new) }
 {
-    if !follows(linked, ctx) {
-        return Err(ProofFault::Refused(ProofRefusal::StepNoFit(first)));
+    if !follows(opening.linked, ctx) {
+        return Err(ProofFault::Refused(ProofRefusal::StepNoFit(opening.first)));
     }
     if !spend_obligation(left) {
         let place = place_of(behind, tree);
@@ -99,11 +98,11 @@ pub fn ground(
     if let Some(from) = from_of(tree) {
         return Err(ProofFault::Refused(ProofRefusal::NotBuilt(from)));
     }
-    match cited(alloc, env, ctx, tree)? {
+    match cited(walker.alloc, walker.env, ctx, tree)? {
         Err(place) => Err(ProofFault::Refused(ProofRefusal::UnknownLabel(place))),
-        Ok(ss) => match given(alloc, linked, ctx, ss)? {
+        Ok(ss) => match given(walker.alloc, opening.linked, ctx, ss)? {
             Some(all) => Ok(all),
-            None => Err(ProofFault::Refused(ProofRefusal::StepNoFit(first))),
+            None => Err(ProofFault::Refused(ProofRefusal::StepNoFit(opening.first))),
         },
     }
 }

@@ -6,6 +6,7 @@ ghost use Rattle.mz_justified.specs.Justified.{place_of, Owes, Justified, IsPut,
 
 use crate::grounds::{ground, place_of};
 use crate::proof_fault::ProofFault;
+use crate::walker::{Opening, Walker};
 use mz_base::place::Place;
 use mz_clauses::clauses_of::letter_clauses;
 use mz_context::context::Context;
@@ -13,9 +14,8 @@ use mz_context::letters::NamedLetters;
 use mz_core::outcome::Left;
 use mz_core::statement::Statement;
 use mz_core::statements::Statements;
-use mz_environment::environment::Environment;
 use mz_ground::clauses::Clauses;
-use mz_obligations::obligation::{Extent, Obligation, Obligations};
+use mz_obligations::obligation::{Obligation, Obligations};
 use mz_obligations::spend_obligation::obligation;
 use mz_tree_proof::references::SimpleTree;
 use mz_types::known::typing;
@@ -45,42 +45,40 @@ fn letters_clauses(alloc: Global, letters: &NamedLetters) -> Result<Clauses, All
 /// The obligation of the statement by what is given, at the place, where so much can be used.
 #[tactic(auto, using(crate::proofs::OweLemmas::owe_rules))]
 fn owed(
-    alloc: Global,
-    env: &Environment,
-    at: Extent,
+    walker: Walker<'_>,
     ctx: &Context,
     given: &Statements,
     s: &Statement,
     place: Place,
 ) -> Result<Obligation, AllocError>
-    ensures { IfOk result (λ o. Owes env.now at ctx.now given.now s.now place o) }
+    ensures { IfOk result (λ o. Owes walker.env.now walker.at ctx.now given.now s.now place o) }
 {
-    let letters = letters_clauses(alloc, &ctx.letters)?;
-    match typing(alloc, env, ctx)? {
+    let letters = letters_clauses(walker.alloc, &ctx.letters)?;
+    match typing(walker.alloc, walker.env, ctx)? {
         Some(clauses) => {
             let o = obligation(
-                alloc,
+                walker.alloc,
                 clauses.as_slice(),
-                &env.expansions,
+                &walker.env.expansions,
                 &ctx.constants,
                 given,
                 s,
                 place,
-                at,
+                walker.at,
                 &letters,
             )?;
             Ok(o)
         }
         None => {
             let o = obligation(
-                alloc,
-                env.typing.as_slice(),
-                &env.expansions,
+                walker.alloc,
+                walker.env.typing.as_slice(),
+                &walker.env.expansions,
                 &ctx.constants,
                 given,
                 s,
                 place,
-                at,
+                walker.at,
                 &letters,
             )?;
             Ok(o)
@@ -91,18 +89,16 @@ fn owed(
 /// Puts the obligation of the statement, by what is given, behind the others.
 #[tactic(auto, using(crate::proofs::OweLemmas::oblige_rules))]
 pub fn oblige(
-    alloc: Global,
-    env: &Environment,
-    at: Extent,
+    walker: Walker<'_>,
     ctx: &Context,
     given: &Statements,
     s: &Statement,
     place: Place,
     os: &mut Obligations,
 ) -> Result<(), AllocError>
-    ensures { OnOk result (IsPut (Owes env.now at ctx.now given.now s.now place) os.old os.new) }
+    ensures { OnOk result (IsPut (Owes walker.env.now walker.at ctx.now given.now s.now place) os.old os.new) }
 {
-    let o = owed(alloc, env, at, ctx, given, s, place)?;
+    let o = owed(walker, ctx, given, s, place)?;
     os.push(o)
 }
 
@@ -114,23 +110,20 @@ pub fn oblige(
 /// justification; `NotBuilt` at the word `from`; `UnknownLabel` at the first reference that cites nothing.
 #[tactic(auto, using(crate::proofs::OweLemmas::justify_rules))]
 pub fn justify_simply(
-    alloc: Global,
-    env: &Environment,
-    at: Extent,
+    walker: Walker<'_>,
     ctx: &Context,
-    first: Place,
-    linked: bool,
+    opening: Opening,
     behind: Place,
     tree: &SimpleTree,
     s: &Statement,
     left: &mut Left,
     os: &mut Obligations,
 ) -> Result<(), ProofFault>
-    ensures { OnMade result (Put (λ o. Justified env.now at ctx.now first linked behind tree.now s.now left.old o left.new) os.old os.new) }
+    ensures { OnMade result (Put (λ o. Justified walker.env.now walker.at ctx.now opening.first opening.linked behind tree.now s.now left.old o left.new) os.old os.new) }
 {
-    match ground(alloc, env, ctx, first, linked, behind, tree, left) {
+    match ground(walker, ctx, opening, behind, tree, left) {
         Ok(given) => {
-            oblige(alloc, env, at, ctx, &given, s, place_of(behind, tree), os)?;
+            oblige(walker, ctx, &given, s, place_of(behind, tree), os)?;
             Ok(())
         }
         Err(f) => Err(f),

@@ -4,3 +4,4 @@
 pub mod grounds;
 pub mod justified;
 pub mod proof_fault;
+pub mod walker;

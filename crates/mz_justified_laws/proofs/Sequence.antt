@@ -1,6 +1,7 @@
 -- Parts one after another: where each part has one value at most, so has the whole.
 use Rattle.std.proofs.Common.{◌≡◌, Bool, true, false, Option, Some, None, sym, ◌∙◌, subst}
 use Rattle.std.specs.Prelude.{Result, Ok, Err}
+use Rattle.std.proofs.lemmas.Bool.{false≢true}
 use Rattle.mz_core.specs.declared.outcome.Left.{Left}
 use Rattle.mz_justified_laws.specs.Determined.{AtMostOne, SameLeft, IsDetermined}
 
@@ -20,12 +21,9 @@ IfSo false A B = B
 true_false : true ≡ false → ⊥
 true_false e = cc
 
-false_true : false ≡ true → ⊥
-false_true e = cc
-
 pub if_so : (b : Bool) (A B : Type 0) → b ≡ true → A → IfSo b A B
 if_so true A B e h = h
-if_so false A B e h = absurd (false_true e)
+if_so false A B e h = absurd (false≢true e)
 
 pub if_not : (b : Bool) (A B : Type 0) → b ≡ false → B → IfSo b A B
 if_not true A B e h = absurd (true_false e)

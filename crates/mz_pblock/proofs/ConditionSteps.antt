@@ -2,6 +2,7 @@
 use Rattle.std.specs.Prelude.{if◌then◌else◌}
 use Rattle.std.specs.List.{flat_map}
 use Rattle.std.proofs.Common.{◌≡◌, ℕ, ◌+◌, ◌<◌, arith, length, length-append, Bool, true, false, ◌||◌, ◌&&◌, List, [], ◌∷◌, ◌++◌, refl, sym, ap, subst, ◌∙◌, append_assoc, is_some, Option, Some, None}
+use Rattle.std.proofs.lemmas.Bool.{or_left, or_right}
 use Rattle.mz_base.specs.declared.place.Place.{Place}
 use Rattle.mz_base.specs.declared.token.MarkedToken.{MarkedToken}
 use Rattle.mz_forms.specs.declared.refusal.Refusal.{Refusal}
@@ -164,14 +165,6 @@ as_either_condition b h = record {
 pub either_filled : (x : ConditionOrPropertyTree) → spell_condition_or_property x ≡ [] → ⊥
 either_filled (either_tree.Condition a) e = cc
 either_filled (either_tree.Property a) e = cc
-
-or_left : (p q : Bool) → p ≡ true → (p || q) ≡ true
-or_left true q h = refl
-or_left false q h = cc
-
-or_right : (p q : Bool) → q ≡ true → (p || q) ≡ true
-or_right true q h = refl
-or_right false q h = h
 
 pub either_first : (x : ConditionOrPropertyTree) (v : List MarkedToken) (t : MarkedToken) (m : List MarkedToken) → IsConditionOrProperty x → spell_condition_or_property x ++ v ≡ t ∷ m → begins_either t ≡ true
 either_first (either_tree.Condition a) v t m is e = ap begins_either (sym (head_of _ _ _ _ e)) ∙ or_right (begins_property (word_token (condition_word a.word) a.place)) (begins_condition (word_token (condition_word a.word) a.place)) (begins_own_condition a.word a.place is.0)

@@ -1,6 +1,7 @@
 -- The readings of blocks of registrations.
 use Rattle.std.specs.Prelude.{codes}
 use Rattle.std.proofs.Common.{◌≡◌, ℕ, Bool, true, false, ◌||◌, ◌&&◌, List, [], ◌∷◌, ◌++◌, refl, sym, ap, subst, ◌∙◌, append_assoc, Option, Some, None, Result, Ok, Err}
+use Rattle.std.proofs.lemmas.Bool.{or_left, or_right}
 use Rattle.mz_base.specs.declared.place.Place.{Place}
 use Rattle.mz_base.specs.declared.token.MarkedToken.{MarkedToken}
 use Rattle.mz_forms.specs.declared.refusal.Refusal.{Refusal}
@@ -143,14 +144,6 @@ gives_part room b (Ok x) after h f = shaped_found registration_part_form registe
 gives_part room b (Err e) after h f = shaped_refused registration_part_form registered_form put_registered room b (as_cluster_part b h) after e f
 
 -- A list of parts.
-or_left : (p q : Bool) → p ≡ true → (p || q) ≡ true
-or_left true q h = refl
-or_left false q h = cc
-
-or_right : (p q : Bool) → q ≡ true → (p || q) ≡ true
-or_right true q h = refl
-or_right false q h = h
-
 pub part_filled : (x : RegistrationPartTree) → IsRegistrationPart x → spell_registration_part x ≡ [] → ⊥
 part_filled (parts.Let a) is e = cc
 part_filled (parts.Cluster a cs) is e =

@@ -1,5 +1,6 @@
 -- The readings of the parts of clusters behind their premises, adjectives or term.
 use Rattle.std.proofs.Common.{◌≡◌, ℕ, Bool, true, false, ◌||◌, ◌&&◌, List, [], ◌∷◌, ◌++◌, refl, sym, ap, subst, ◌∙◌, Option, Some, None}
+use Rattle.std.proofs.lemmas.Bool.{or_left}
 use Rattle.mz_base.specs.declared.place.Place.{Place}
 use Rattle.mz_base.specs.declared.token.MarkedToken.{MarkedToken}
 use Rattle.mz_forms.specs.Form.{Form, Agrees, Found, is_empty, then}
@@ -275,10 +276,6 @@ only_bare (StructureType no_adjectives w) is = (((true, w), None), (tt, tt), ref
 only_bare (StructureType (more_adjectives a b) w) is = absurd is.1
 only_bare (StructureOverType no_adjectives w p ts) is = (((true, w), Some (p, ts)), (tt, (tt, is.0.1)), refl)
 only_bare (StructureOverType (more_adjectives a b) w p ts) is = absurd is.1
-
-or_left : (p q : Bool) → p ≡ true → (p || q) ≡ true
-or_left true q h = refl
-or_left false q h = cc
 
 pub as_bare : (b : List MarkedToken) → Reshapes bare_type_form (radix_form false) make_bare b
 as_bare b = record {

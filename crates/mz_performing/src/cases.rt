@@ -14,12 +14,12 @@ use mz_context::context::Context;
 use mz_context::labelled::LabelledStatements;
 use mz_core::statement::Statement;
 use mz_core::statements::Statements;
-use mz_environment::environment::Environment;
 use mz_justified::grounds::place_of;
 use mz_justified::justified::oblige;
 use mz_justified::proof_fault::{ProofFault, ProofRefusal};
+use mz_justified::walker::Walker;
 use mz_names::refusal::Refusal;
-use mz_obligations::obligation::{Extent, Obligations};
+use mz_obligations::obligation::Obligations;
 use mz_parts::joined::disjoin;
 use mz_steps::block::Outside;
 use mz_steps::changes::{begin_now, state};
@@ -72,9 +72,7 @@ fn end_thesis(ctx: &mut Context)
 /// others.
 #[tactic(auto, using(crate::proofs::CaseLemmas::oblige_rules))]
 fn oblige_cases(
-    alloc: Global,
-    env: &Environment,
-    at: Extent,
+    walker: Walker<'_>,
     ctx: &Context,
     tree: &SplitTree,
     given: &Statements,
@@ -82,10 +80,10 @@ fn oblige_cases(
     inner: Obligations,
     os: &mut Obligations,
 ) -> Result<(), AllocError>
-    ensures { OnOk result (IsPutFirst (Owes env.now at ctx.now given.now s.now (place_of tree.now.semicolon tree.now.simple)) inner os.old os.new) }
+    ensures { OnOk result (IsPutFirst (Owes walker.env.now walker.at ctx.now given.now s.now (place_of tree.now.semicolon tree.now.simple)) inner os.old os.new) }
 {
     let place = place_of(tree.semicolon, &tree.simple);
-    oblige(alloc, env, at, ctx, given, s, place, os)?;
+    oblige(walker, ctx, given, s, place, os)?;
     os.append(inner)
 }
 
@@ -93,9 +91,7 @@ fn oblige_cases(
 /// limits.
 #[tactic(auto, using(crate::proofs::CaseLemmas::split_rules))]
 pub fn end_split(
-    alloc: Global,
-    env: &Environment,
-    at: Extent,
+    walker: Walker<'_>,
     ctx: &mut Context,
     first: Place,
     tree: &SplitTree,
@@ -104,11 +100,11 @@ pub fn end_split(
     inner: Obligations,
     os: &mut Obligations,
 ) -> Result<(), ProofFault>
-    ensures { OnMade result (SplitEnds env.now at ctx.old ctx.new first tree.now given.now suppositions inner os.old os.new) }
+    ensures { OnMade result (SplitEnds walker.env.now walker.at ctx.old ctx.new first tree.now given.now suppositions inner os.old os.new) }
 {
-    match disjunction_of(alloc, first, suppositions)? {
+    match disjunction_of(walker.alloc, first, suppositions)? {
         Ok(s) => {
-            oblige_cases(alloc, env, at, ctx, tree, given, &s, inner, os)?;
+            oblige_cases(walker, ctx, tree, given, &s, inner, os)?;
             end_thesis(ctx);
             Ok(())
         }

@@ -23,12 +23,12 @@ use mz_core::outcome::Left;
 use mz_core::statement::Statement;
 use mz_core::statements::Statements;
 use mz_core::type_statements::is_of_type;
-use mz_environment::environment::Environment;
 use mz_justified::grounds::{ground, place_of};
 use mz_justified::justified::{justify_simply, oblige};
 use mz_justified::proof_fault::{ProofFault, ProofRefusal};
+use mz_justified::walker::{Opening, Walker};
 use mz_names::refusal::Refusal;
-use mz_obligations::obligation::{Extent, Obligations};
+use mz_obligations::obligation::Obligations;
 use mz_obligations::spend_obligation::spend_obligation;
 use mz_parts::definitions::Definitions;
 use mz_parts::described::{Description, describe};
@@ -64,20 +64,18 @@ fn spend_each(left: &mut Left, ss: &[Statement]) -> bool
 /// Puts the obligations of the statements, by what is given, behind the others.
 #[tactic(auto, using(crate::proofs::EachLemmas::oblige_rules))]
 fn oblige_each(
-    alloc: Global,
-    env: &Environment,
-    at: Extent,
+    walker: Walker<'_>,
     ctx: &Context,
     given: &Statements,
     ss: &[Statement],
     place: Place,
     os: &mut Obligations,
 ) -> Result<(), AllocError>
-    ensures { OnOk result (IsBrought (OwesEach env.now at ctx.now given.now place ss.now) os.old os.new) }
+    ensures { OnOk result (IsBrought (OwesEach walker.env.now walker.at ctx.now given.now place ss.now) os.old os.new) }
 {
     let mut rest = ss;
     while let Some((s, others)) = rest.split_first() {
-        oblige(alloc, env, at, ctx, given, s, place, os)?;
+        oblige(walker, ctx, given, s, place, os)?;
         rest = others;
     }
     Ok(())
@@ -89,19 +87,16 @@ fn oblige_each(
 /// those of the references.
 #[tactic(auto, using(crate::proofs::EachLemmas::justify_rules))]
 fn justify_each(
-    alloc: Global,
-    env: &Environment,
-    at: Extent,
+    walker: Walker<'_>,
     ctx: &Context,
-    first: Place,
-    linked: bool,
+    opening: Opening,
     behind: Place,
     tree: &SimpleTree,
     ss: &Statements,
     left: &mut Left,
     os: &mut Obligations,
 ) -> Result<(), ProofFault>
-    ensures { OnMade result (Brings (λ o. JustifiesEach env.now at ctx.now first linked behind tree.now ss.now left.old o) left.new os.old os.new) }
+    ensures { OnMade result (Brings (λ o. JustifiesEach walker.env.now walker.at ctx.now opening.first opening.linked behind tree.now ss.now left.old o) left.new os.old os.new) }
 {
     match ss.items.as_slice().split_first() {
         None => Ok(()),
@@ -110,10 +105,10 @@ fn justify_each(
                 let place = place_of(behind, tree);
                 return Err(ProofFault::Refused(ProofRefusal::TooManyObligations(place)));
             }
-            match ground(alloc, env, ctx, first, linked, behind, tree, left) {
+            match ground(walker, ctx, opening, behind, tree, left) {
                 Ok(given) => {
                     let place = place_of(behind, tree);
-                    oblige_each(alloc, env, at, ctx, &given, ss.items.as_slice(), place, os)?;
+                    oblige_each(walker, ctx, &given, ss.items.as_slice(), place, os)?;
                     Ok(())
                 }
                 Err(f) => Err(f),
@@ -125,9 +120,7 @@ fn justify_each(
 /// The obligation that there are such objects.
 #[tactic(auto, using(crate::proofs::ConsiderLemmas::existential_rules))]
 fn justify_existential(
-    alloc: Global,
-    env: &Environment,
-    at: Extent,
+    walker: Walker<'_>,
     ctx: &Context,
     first: Place,
     tree: &ConsiderTree,
@@ -135,48 +128,44 @@ fn justify_existential(
     left: &mut Left,
     os: &mut Obligations,
 ) -> Result<(), ProofFault>
-    ensures { OnMade result (Put (λ o. Justified env.now at ctx.now first (is_some tree.now.then) tree.now.semicolon tree.now.simple (there_are (next ctx.now) d.now.variables d.now.statement) left.old o left.new) os.old os.new) }
+    ensures { OnMade result (Put (λ o. Justified walker.env.now walker.at ctx.now first (is_some tree.now.then) tree.now.semicolon tree.now.simple (there_are (next ctx.now) d.now.variables d.now.statement) left.old o left.new) os.old os.new) }
 {
-    let s = existential(alloc, ctx, &d.variables, &d.statement)?;
-    let linked = tree.then.is_some();
-    let behind = tree.semicolon;
-    justify_simply(
-        alloc,
-        env,
-        at,
-        ctx,
+    let s = existential(walker.alloc, ctx, &d.variables, &d.statement)?;
+    let opening = Opening {
         first,
-        linked,
-        behind,
-        &tree.simple,
-        &s,
-        left,
-        os,
-    )
+        linked: tree.then.is_some(),
+    };
+    let behind = tree.semicolon;
+    justify_simply(walker, ctx, opening, behind, &tree.simple, &s, left, os)
 }
 
 /// `consider x being T such that A`, as it was read.
 #[tactic(auto, using(crate::proofs::SkeletonLemmas::given_step_rules))]
 fn consider(
-    alloc: Global,
-    env: &Environment,
+    walker: Walker<'_>,
     ctx: &mut Context,
     block: &mut Block,
     first: Place,
     d: Description,
 ) -> Result<(), ProofFault>
-    ensures { (l : Left) → OnMade result (λ o. Performs env.now first (state ctx.old block.old l) (read.Consider d.variables d.statement) d.propositions (reached o (state ctx.new block.new l))) }
+    ensures { (l : Left) → OnMade result (λ o. Performs walker.env.now first (state ctx.old block.old l) (read.Consider d.variables d.statement) d.propositions (reached o (state ctx.new block.new l))) }
 {
     let step = ReadStep::Consider(d.variables, d.statement);
-    perform(alloc, env, ctx, block, first, &step, &d.propositions)
+    perform(
+        walker.alloc,
+        walker.env,
+        ctx,
+        block,
+        first,
+        &step,
+        &d.propositions,
+    )
 }
 
 /// `consider x being T such that A`: it is read, it is justified that there is such an object, and then it is in force.
 #[tactic(auto, using(crate::proofs::ConsiderLemmas::consider_rules))]
 fn considers(
-    alloc: Global,
-    env: &Environment,
-    at: Extent,
+    walker: Walker<'_>,
     ctx: &mut Context,
     block: &mut Block,
     first: Place,
@@ -184,15 +173,15 @@ fn considers(
     left: &mut Left,
     os: &mut Obligations,
 ) -> Result<(), ProofFault>
-    ensures { OnMade result (Brings (λ o. Considers env.now at first (state ctx.old block.old left.old) tree.now o) (state ctx.new block.new left.new) os.old os.new) }
+    ensures { OnMade result (Brings (λ o. Considers walker.env.now walker.at first (state ctx.old block.old left.old) tree.now o) (state ctx.new block.new left.new) os.old os.new) }
 {
     if !is_linked(tree.then.is_some(), ctx) {
         return Err(ProofFault::Refused(ProofRefusal::StepNoFit(first)));
     }
     let propositions = &tree.such.propositions;
     match describe(
-        alloc,
-        env,
+        walker.alloc,
+        walker.env,
         ctx,
         0,
         first,
@@ -200,8 +189,8 @@ fn considers(
         propositions,
         left,
     ) {
-        Ok(d) => match justify_existential(alloc, env, at, ctx, first, tree, &d, left, os) {
-            Ok(()) => consider(alloc, env, ctx, block, first, d),
+        Ok(d) => match justify_existential(walker, ctx, first, tree, &d, left, os) {
+            Ok(()) => consider(walker, ctx, block, first, d),
             Err(f) => Err(f),
         },
         Err(f) => Err(resolved(f)),
@@ -230,9 +219,7 @@ fn types_owed(alloc: Global, ds: &Definitions) -> Result<Option<Statements>, All
 /// in force.
 #[tactic(auto, using(crate::proofs::ReconsiderLemmas::retype_rules))]
 fn reconsider(
-    alloc: Global,
-    env: &Environment,
-    at: Extent,
+    walker: Walker<'_>,
     ctx: &mut Context,
     block: &mut Block,
     first: Place,
@@ -241,29 +228,20 @@ fn reconsider(
     left: &mut Left,
     os: &mut Obligations,
 ) -> Result<(), ProofFault>
-    ensures { OnMade result (Brings (λ o. Retypes env.now at first (state ctx.old block.old left.old) tree.now ds.now o) (state ctx.new block.new left.new) os.old os.new) }
+    ensures { OnMade result (Brings (λ o. Retypes walker.env.now walker.at first (state ctx.old block.old left.old) tree.now ds.now o) (state ctx.new block.new left.new) os.old os.new) }
 {
-    match types_owed(alloc, ds)? {
+    match types_owed(walker.alloc, ds)? {
         None => Err(ProofFault::Refused(ProofRefusal::Resolve(Refusal::TooLarge(first)))),
         Some(ss) => {
-            let linked = tree.then.is_some();
-            let behind = tree.semicolon;
-            match justify_each(
-                alloc,
-                env,
-                at,
-                ctx,
+            let opening = Opening {
                 first,
-                linked,
-                behind,
-                &tree.simple,
-                &ss,
-                left,
-                os,
-            ) {
+                linked: tree.then.is_some(),
+            };
+            let behind = tree.semicolon;
+            match justify_each(walker, ctx, opening, behind, &tree.simple, &ss, left, os) {
                 Ok(()) => {
-                    let steps = reconsider_steps(alloc, ds)?;
-                    perform_all(alloc, env, ctx, block, first, &steps)
+                    let steps = reconsider_steps(walker.alloc, ds)?;
+                    perform_all(walker.alloc, walker.env, ctx, block, first, &steps)
                 }
                 Err(f) => Err(f),
             }
@@ -274,9 +252,7 @@ fn reconsider(
 /// `reconsider x = t as T`: all terms are read, then the type, and then it is justified for each name.
 #[tactic(auto, using(crate::proofs::ReconsiderLemmas::reconsider_rules))]
 fn reconsiders(
-    alloc: Global,
-    env: &Environment,
-    at: Extent,
+    walker: Walker<'_>,
     ctx: &mut Context,
     block: &mut Block,
     first: Place,
@@ -284,13 +260,21 @@ fn reconsiders(
     left: &mut Left,
     os: &mut Obligations,
 ) -> Result<(), ProofFault>
-    ensures { OnMade result (Brings (λ o. Reconsiders env.now at first (state ctx.old block.old left.old) tree.now o) (state ctx.new block.new left.new) os.old os.new) }
+    ensures { OnMade result (Brings (λ o. Reconsiders walker.env.now walker.at first (state ctx.old block.old left.old) tree.now o) (state ctx.new block.new left.new) os.old os.new) }
 {
     if !is_linked(tree.then.is_some(), ctx) {
         return Err(ProofFault::Refused(ProofRefusal::StepNoFit(first)));
     }
-    match read_reconsidered(alloc, env, ctx, 0, &tree.retyped, &tree.ty, left) {
-        Ok(ds) => reconsider(alloc, env, at, ctx, block, first, tree, &ds, left, os),
+    match read_reconsidered(
+        walker.alloc,
+        walker.env,
+        ctx,
+        0,
+        &tree.retyped,
+        &tree.ty,
+        left,
+    ) {
+        Ok(ds) => reconsider(walker, ctx, block, first, tree, &ds, left, os),
         Err(f) => Err(resolved(f)),
     }
 }
@@ -298,18 +282,24 @@ fn reconsiders(
 /// A name for a term.
 #[tactic(auto, using(crate::proofs::SetLemmas::set_rules))]
 fn set_one(
-    alloc: Global,
-    env: &Environment,
+    walker: Walker<'_>,
     ctx: &mut Context,
     block: &mut Block,
     first: Place,
     tree: &NamedTermTree,
     left: &mut Left,
 ) -> Result<(), ProofFault>
-    ensures { OnMade result (λ o. SetsOne env.now first (state ctx.old block.old left.old) tree.now (reached o (state ctx.new block.new left.new))) }
+    ensures { OnMade result (λ o. SetsOne walker.env.now first (state ctx.old block.old left.old) tree.now (reached o (state ctx.new block.new left.new))) }
 {
-    match read_named(alloc, env, ctx, 0, tree, left) {
-        Ok(d) => perform_alone(alloc, env, ctx, block, first, &ReadStep::Set(d)),
+    match read_named(walker.alloc, walker.env, ctx, 0, tree, left) {
+        Ok(d) => perform_alone(
+            walker.alloc,
+            walker.env,
+            ctx,
+            block,
+            first,
+            &ReadStep::Set(d),
+        ),
         Err(f) => Err(resolved(f)),
     }
 }
@@ -317,19 +307,18 @@ fn set_one(
 /// Further names, one by one.
 #[tactic(auto, using(crate::proofs::SetLemmas::each_rules))]
 fn set_each(
-    alloc: Global,
-    env: &Environment,
+    walker: Walker<'_>,
     ctx: &mut Context,
     block: &mut Block,
     first: Place,
     trees: &[Next<Comma, NamedTermTree>],
     left: &mut Left,
 ) -> Result<(), ProofFault>
-    ensures { OnMade result (λ o. OneByOne (SetsOne env.now first) (state ctx.old block.old left.old) (map tree_of trees.now) (reached o (state ctx.new block.new left.new))) }
+    ensures { OnMade result (λ o. OneByOne (SetsOne walker.env.now first) (state ctx.old block.old left.old) (map tree_of trees.now) (reached o (state ctx.new block.new left.new))) }
 {
     let mut rest = trees;
     while let Some((next, others)) = rest.split_first() {
-        match set_one(alloc, env, ctx, block, first, &next.tree, left) {
+        match set_one(walker, ctx, block, first, &next.tree, left) {
             Ok(()) => rest = others,
             Err(f) => return Err(f),
         }
@@ -340,26 +329,17 @@ fn set_each(
 /// All names, one by one.
 #[tactic(auto, using(crate::proofs::SetLemmas::all_rules))]
 fn set_all(
-    alloc: Global,
-    env: &Environment,
+    walker: Walker<'_>,
     ctx: &mut Context,
     block: &mut Block,
     first: Place,
     trees: &Separated<NamedTermTree>,
     left: &mut Left,
 ) -> Result<(), ProofFault>
-    ensures { OnMade result (λ o. OneByOne (SetsOne env.now first) (state ctx.old block.old left.old) (members trees.now) (reached o (state ctx.new block.new left.new))) }
+    ensures { OnMade result (λ o. OneByOne (SetsOne walker.env.now first) (state ctx.old block.old left.old) (members trees.now) (reached o (state ctx.new block.new left.new))) }
 {
-    match set_one(alloc, env, ctx, block, first, &trees.first, left) {
-        Ok(()) => set_each(
-            alloc,
-            env,
-            ctx,
-            block,
-            first,
-            trees.more.items.as_slice(),
-            left,
-        ),
+    match set_one(walker, ctx, block, first, &trees.first, left) {
+        Ok(()) => set_each(walker, ctx, block, first, trees.more.items.as_slice(), left),
         Err(f) => Err(f),
     }
 }
@@ -369,9 +349,7 @@ fn set_all(
 /// `NotBuilt` at their place.
 #[tactic(auto, using(crate::proofs::SetLemmas::introduce_rules))]
 pub fn introduce(
-    alloc: Global,
-    env: &Environment,
-    at: Extent,
+    walker: Walker<'_>,
     ctx: &mut Context,
     block: &mut Block,
     first: Place,
@@ -379,16 +357,12 @@ pub fn introduce(
     left: &mut Left,
     os: &mut Obligations,
 ) -> Result<(), ProofFault>
-    ensures { OnMade result (Brings (λ o. Introduces env.now at first (state ctx.old block.old left.old) tree.now o) (state ctx.new block.new left.new) os.old os.new) }
+    ensures { OnMade result (Brings (λ o. Introduces walker.env.now walker.at first (state ctx.old block.old left.old) tree.now o) (state ctx.new block.new left.new) os.old os.new) }
 {
     match tree {
-        IntroductionTree::Consider(t) => {
-            considers(alloc, env, at, ctx, block, first, t, left, os)
-        }
-        IntroductionTree::Reconsider(t) => {
-            reconsiders(alloc, env, at, ctx, block, first, t, left, os)
-        }
-        IntroductionTree::Set(t) => set_all(alloc, env, ctx, block, first, &t.named, left),
+        IntroductionTree::Consider(t) => { considers(walker, ctx, block, first, t, left, os) }
+        IntroductionTree::Reconsider(t) => { reconsiders(walker, ctx, block, first, t, left, os) }
+        IntroductionTree::Set(t) => set_all(walker, ctx, block, first, &t.named, left),
         IntroductionTree::Deffunc(_) => Err(ProofFault::Refused(ProofRefusal::NotBuilt(first))),
         IntroductionTree::Defpred(_) => Err(ProofFault::Refused(ProofRefusal::NotBuilt(first))),
     }

@@ -1,5 +1,6 @@
 -- Chains on which goes what goes on their last member: how one is read, and that two that spell the same are equal.
 use Rattle.std.proofs.Common.{◌≡◌, Bool, true, false, ◌||◌, ◌&&◌, List, [], ◌∷◌, ◌++◌, refl, sym, ap, subst, ◌∙◌, append_assoc, ℕ, suc, arith}
+use Rattle.std.proofs.lemmas.Bool.{or_left}
 use Rattle.mz_forms.specs.declared.refusal.Refusal.{Refusal}
 use Rattle.mz_forms.specs.Form.{Form, Agrees, Found, Leads, is_empty, then}
 use Rattle.mz_forms.specs.Reading.{Builds, Refuses}
@@ -11,10 +12,6 @@ use Rattle.mz_forms.proofs.Leads.{leads_by, leads_behind, beside, passes, first_
 use Rattle.mz_forms.proofs.Descend.{Descends, descends_here, descends_by, descends_on, descends_same, passes_down}
 use Rattle.mz_forms.proofs.One.{One, OneAt, one_then, at_by, at_token, one_from}
 use Rattle.mz_pformula.specs.Row.{last_goes, row}
-
-or_left : (p q : Bool) → p ≡ true → (p || q) ≡ true
-or_left true q e = refl
-or_left false q e = cc
 
 module _ {Token : Type 0} where
   -- Signs are told by their tokens, and go on a chain; no sign that may follow a member goes on it.

@@ -2,6 +2,7 @@
 use Rattle.std.specs.Prelude.{codes}
 use Rattle.std.proofs.Common.{◌≡◌, ℕ, Bool, true, false, ◌||◌, ◌&&◌, List, [], ◌∷◌, ◌++◌, refl, sym, ap, subst, ◌∙◌, is_some, Option, Some, None}
 use Rattle.std.specs.Str.{bytes_eq}
+use Rattle.std.proofs.lemmas.Bool.{or_left, or_right}
 use Rattle.mz_base.specs.declared.place.Place.{Place}
 use Rattle.mz_base.specs.declared.token.MarkedToken.{MarkedToken}
 use Rattle.mz_forms.specs.Form.{Form, Agrees, is_empty, then}
@@ -104,14 +105,6 @@ begun_directive t h =
     (some_directive w.0 t.token.place, behind_directive, (k.1, (refl, tt)), ap (λ z. z ∷ behind_directive) (sym (word_told (directive_word w.0) t k.0)))
 
 -- Items.
-or_left : (p q : Bool) → p ≡ true → (p || q) ≡ true
-or_left true q h = refl
-or_left false q h = cc
-
-or_right : (p q : Bool) → q ≡ true → (p || q) ≡ true
-or_right true q h = refl
-or_right false q h = h
-
 pub item_first : (x : ItemTree) (t : MarkedToken) (m : List MarkedToken) → IsItem x → spell_item x ≡ t ∷ m → begins_item t ≡ true
 item_first (trees.Reserve a) t m is e = or_left _ (begins_statement t) (ap is_some (kind_first (trees.Reserve a) t m is e))
 item_first (trees.Theorem a) t m is e = or_left _ (begins_statement t) (ap is_some (kind_first (trees.Theorem a) t m is e))

@@ -1,6 +1,7 @@
 -- The readings of blocks of definitions.
 use Rattle.std.specs.Prelude.{codes}
 use Rattle.std.proofs.Common.{◌≡◌, ℕ, Bool, true, false, ◌||◌, ◌&&◌, List, [], ◌∷◌, ◌++◌, refl, sym, ap, subst, ◌∙◌, is_none, is_some, Option, Some, None, Result, Ok, Err}
+use Rattle.std.proofs.lemmas.Bool.{or_left, or_right}
 use Rattle.mz_base.specs.declared.place.Place.{Place}
 use Rattle.mz_base.specs.declared.token.MarkedToken.{MarkedToken}
 use Rattle.mz_forms.specs.declared.refusal.Refusal.{Refusal}
@@ -218,14 +219,6 @@ gives_part room b (Ok x) after h f = shaped_found definition_part_form headed_fo
 gives_part room b (Err e) after h f = shaped_refused definition_part_form headed_form put_headed room b (as_heading_part b h) after e f
 
 -- A list of parts.
-or_left : (p q : Bool) → p ≡ true → (p || q) ≡ true
-or_left true q h = refl
-or_left false q h = cc
-
-or_right : (p q : Bool) → q ≡ true → (p || q) ≡ true
-or_right true q h = refl
-or_right false q h = h
-
 pub part_filled : (x : DefinitionPartTree) → spell_definition_part x ≡ [] → ⊥
 part_filled (parts.Let a) e = cc
 part_filled (parts.Heading a cs) e = heading_filled a _ e

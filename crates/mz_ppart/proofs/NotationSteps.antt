@@ -1,5 +1,6 @@
 -- The readings of parts of blocks of notations.
 use Rattle.std.proofs.Common.{◌≡◌, ℕ, Bool, true, false, ◌||◌, List, [], ◌∷◌, ◌++◌, refl, sym, ap, ◌∙◌, is_some, Option, Some, None, Result, Ok, Err}
+use Rattle.std.proofs.lemmas.Bool.{or_left, or_right}
 use Rattle.mz_base.specs.declared.place.Place.{Place}
 use Rattle.mz_base.specs.declared.token.MarkedToken.{MarkedToken}
 use Rattle.mz_forms.specs.declared.refusal.Refusal.{Refusal}
@@ -106,14 +107,6 @@ synonym_found room x b after h f = (leads_as notation_part_form synonym_form put
 part_filled : (x : NotationPartTree) → spell_notation_part x ≡ [] → ⊥
 part_filled (parts.Let a) e = cc
 part_filled (parts.Notation p w a q c r) e = cc
-
-or_right : (p q : Bool) → q ≡ true → (p || q) ≡ true
-or_right true q h = refl
-or_right false q h = h
-
-or_left : (p q : Bool) → p ≡ true → (p || q) ≡ true
-or_left true q h = refl
-or_left false q h = cc
 
 let_begins : (t : MarkedToken) → begins_let t ≡ true → begins_notation_part t ≡ true
 let_begins t h = or_right (is_some (first_of notation_word notations t)) (begins_let t) h

@@ -1,6 +1,7 @@
 -- The readings of structures and their parts, one behind another.
 use Rattle.std.specs.Prelude.{codes}
 use Rattle.std.proofs.Common.{◌≡◌, ℕ, suc, Bool, true, false, ◌||◌, ◌&&◌, List, [], ◌∷◌, ◌++◌, map, refl, sym, ap, ◌∙◌, append_assoc, Option, Some, None}
+use Rattle.std.proofs.lemmas.Bool.{or_left, or_right}
 use Rattle.mz_base.specs.declared.place.Place.{Place}
 use Rattle.mz_base.specs.declared.token.MarkedToken.{MarkedToken}
 use Rattle.mz_forms.specs.declared.refusal.Refusal.{Refusal}
@@ -72,14 +73,6 @@ ancestors_begun (Some x) t g = absurd (never g)
 
 abbrev loci_or : MarkedToken → Bool
 loci_or t = is_over (sign_of t) || goes_on_names (sign_of t)
-
-or_left : (p q : Bool) → p ≡ true → (p || q) ≡ true
-or_left true q h = refl
-or_left false q h = cc
-
-or_right : (p q : Bool) → q ≡ true → (p || q) ≡ true
-or_right true q h = refl
-or_right false q h = h
 
 structure_loci_on : (o : Option StructureLociTree) (t : MarkedToken) → optional_structure_loci.goes o t ≡ true → loci_or t ≡ true
 structure_loci_on None t g = or_left (is_over (sign_of t)) (goes_on_names (sign_of t)) g

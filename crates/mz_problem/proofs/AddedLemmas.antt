@@ -1,6 +1,7 @@
 -- What the code of definientia tells.
 use Rattle.std.proofs.Common.{◌≡◌, ◌<◌, ◌+◌, ℕ, zero, suc, List, [], ◌∷◌, ◌++◌, refl, sym, ap, ◌∙◌, subst, Bool, true, false, arith, append_assoc, length, take, get_or, Option, Some, None}
 use Rattle.std.proofs.lemmas.List.{append-nil}
+use Rattle.std.proofs.lemmas.Bool.{false≢true}
 use Rattle.mz_logic.specs.declared.sym.Sym.{Sym}
 use Rattle.mz_logic.specs.Term.{Term}
 use Rattle.mz_core.specs.Statement.{Statement, Truth, Eq, Atom, Not, And, For}
@@ -17,35 +18,32 @@ use Rattle.mz_problem.specs.Definientia.{is_atom, is_signed_atom, Adds, AllAdd}
 abbrev pub IsAdded : List Clause → List (Option Constant) → List Unfolding → Statement → List Statement → List Statement → Type 0
 IsAdded cs ks us s old new = (ds : List Statement) × Adds cs ks us s ds × (new ≡ old ++ ds)
 
-false_true : false ≡ true → ⊥
-false_true e = cc
-
 pub told_nothing : (cs : List Clause) (ks : List (Option Constant)) (us : List Unfolding) (b : Bool) (s : Statement) (old : List Statement) (o : Option Statement) → is_atom s ≡ true → UnfoldsTo cs ks us s o → o ≡ None → IsAdded cs ks us (signed b s) old old
-told_nothing cs ks us b Truth old o h u e = absurd (false_true h)
-told_nothing cs ks us b (Eq t v) old o h u e = absurd (false_true h)
+told_nothing cs ks us b Truth old o h u e = absurd (false≢true h)
+told_nothing cs ks us b (Eq t v) old o h u e = absurd (false≢true h)
 told_nothing cs ks us true (Atom s ts) old o h u e = ([], definientia.nothing s ts (subst (UnfoldsTo cs ks us (Atom s ts)) e u), sym (append-nil old))
 told_nothing cs ks us false (Atom s ts) old o h u e = ([], definientia.nothing_negated s ts (subst (UnfoldsTo cs ks us (Atom s ts)) e u), sym (append-nil old))
-told_nothing cs ks us b (Not s) old o h u e = absurd (false_true h)
-told_nothing cs ks us b (And s t) old o h u e = absurd (false_true h)
-told_nothing cs ks us b (For ty s) old o h u e = absurd (false_true h)
+told_nothing cs ks us b (Not s) old o h u e = absurd (false≢true h)
+told_nothing cs ks us b (And s t) old o h u e = absurd (false≢true h)
+told_nothing cs ks us b (For ty s) old o h u e = absurd (false≢true h)
 
 pub told_definiens : (cs : List Clause) (ks : List (Option Constant)) (us : List Unfolding) (b : Bool) (s d : Statement) (old new : List Statement) (o : Option Statement) → b ≡ true → is_atom s ≡ true → UnfoldsTo cs ks us s o → o ≡ Some d → new ≡ old ++ d ∷ [] → IsAdded cs ks us (signed b s) old new
-told_definiens cs ks us b Truth d old new o eb h u e en = absurd (false_true h)
-told_definiens cs ks us b (Eq t v) d old new o eb h u e en = absurd (false_true h)
+told_definiens cs ks us b Truth d old new o eb h u e en = absurd (false≢true h)
+told_definiens cs ks us b (Eq t v) d old new o eb h u e en = absurd (false≢true h)
 told_definiens cs ks us b (Atom s ts) d old new o eb h u e en =
     subst (λ x. IsAdded cs ks us (signed x (Atom s ts)) old new) (sym eb) (d ∷ [], definientia.definiens s ts d (subst (UnfoldsTo cs ks us (Atom s ts)) e u), en)
-told_definiens cs ks us b (Not s) d old new o eb h u e en = absurd (false_true h)
-told_definiens cs ks us b (And s t) d old new o eb h u e en = absurd (false_true h)
-told_definiens cs ks us b (For ty s) d old new o eb h u e en = absurd (false_true h)
+told_definiens cs ks us b (Not s) d old new o eb h u e en = absurd (false≢true h)
+told_definiens cs ks us b (And s t) d old new o eb h u e en = absurd (false≢true h)
+told_definiens cs ks us b (For ty s) d old new o eb h u e en = absurd (false≢true h)
 
 pub told_negated : (cs : List Clause) (ks : List (Option Constant)) (us : List Unfolding) (b : Bool) (s d n : Statement) (old new : List Statement) (o : Option Statement) → b ≡ false → is_atom s ≡ true → UnfoldsTo cs ks us s o → o ≡ Some d → n ≡ opposite d → new ≡ old ++ n ∷ [] → IsAdded cs ks us (signed b s) old new
-told_negated cs ks us b Truth d n old new o eb h u e ed en = absurd (false_true h)
-told_negated cs ks us b (Eq t v) d n old new o eb h u e ed en = absurd (false_true h)
+told_negated cs ks us b Truth d n old new o eb h u e ed en = absurd (false≢true h)
+told_negated cs ks us b (Eq t v) d n old new o eb h u e ed en = absurd (false≢true h)
 told_negated cs ks us b (Atom s ts) d n old new o eb h u e ed en =
     subst (λ x. IsAdded cs ks us (signed x (Atom s ts)) old new) (sym eb) (opposite d ∷ [], definientia.negated_definiens s ts d (subst (UnfoldsTo cs ks us (Atom s ts)) e u), en ∙ ap (λ x. old ++ x ∷ []) ed)
-told_negated cs ks us b (Not s) d n old new o eb h u e ed en = absurd (false_true h)
-told_negated cs ks us b (And s t) d n old new o eb h u e ed en = absurd (false_true h)
-told_negated cs ks us b (For ty s) d n old new o eb h u e ed en = absurd (false_true h)
+told_negated cs ks us b (Not s) d n old new o eb h u e ed en = absurd (false≢true h)
+told_negated cs ks us b (And s t) d n old new o eb h u e ed en = absurd (false≢true h)
+told_negated cs ks us b (For ty s) d n old new o eb h u e ed en = absurd (false≢true h)
 
 pub ruleset sign_rules = (told_nothing, told_definiens, told_negated)
 

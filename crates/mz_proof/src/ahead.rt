@@ -8,7 +8,6 @@ ghost use Rattle.mz_walk.specs.Walk.{nodes_alone, Foresees};
 ghost use Rattle.mz_proof.specs.Ahead.{ReadsCase, ReadsCases, told_ahead};
 
 use crate::parts::case_parts;
-use mz_base::place::Place;
 use mz_context::context::Context;
 use mz_context::labelled::LabelledStatements;
 use mz_core::items::Items;
@@ -16,8 +15,8 @@ use mz_core::outcome::Left;
 use mz_core::parts::conjunction;
 use mz_core::statement::Statement;
 use mz_core::statements::Statements;
-use mz_environment::environment::Environment;
 use mz_justified::proof_fault::{ProofFault, ProofRefusal};
+use mz_justified::walker::{Opening, Walker};
 use mz_parts::propositions::read_hypotheses;
 use mz_performing::cases::disjunction_of;
 use mz_performing::linked::is_linked;
@@ -37,20 +36,19 @@ fn joined(alloc: Global, ps: &LabelledStatements) -> Result<Statement, AllocErro
 /// Reads what a case supposes, and puts its conjunction behind those of other cases. Whether it could be read.
 #[tactic(auto, using(crate::proofs::AheadLemmas::case_rules))]
 fn read_case(
-    alloc: Global,
-    env: &Environment,
+    walker: Walker<'_>,
     ctx: &mut Context,
     tree: &SupposeTree,
     left: &mut Left,
     out: &mut Statements,
 ) -> Result<bool, AllocError>
-    ensures reads { IfOk result (λ b. ReadsCase env.now ctx.old tree.now left.old left.new out.old out.new b) }
+    ensures reads { IfOk result (λ b. ReadsCase walker.env.now ctx.old tree.now left.old left.new out.old out.new b) }
     ensures same { OnOk result (ctx.new ≡ ctx.old) }
 {
     let (_, hypotheses, _, _, _, _) = case_parts(tree);
-    match read_hypotheses(alloc, env, ctx, 0, hypotheses, left) {
+    match read_hypotheses(walker.alloc, walker.env, ctx, 0, hypotheses, left) {
         Ok(ps) => {
-            let s = joined(alloc, &ps)?;
+            let s = joined(walker.alloc, &ps)?;
             out.push(s)?;
             Ok(true)
         }
@@ -64,22 +62,21 @@ fn read_case(
 /// The same of all cases.
 #[tactic(auto, using(crate::proofs::AheadLemmas::reading_rules))]
 fn read_cases(
-    alloc: Global,
-    env: &Environment,
+    walker: Walker<'_>,
     ctx: &mut Context,
     case: &SupposeTree,
     more: &SupposeTrees,
     left: &mut Left,
     out: &mut Statements,
 ) -> Result<bool, AllocError>
-    ensures reads { IfOk result (λ b. ReadsCases env.now ctx.old (more_supposes case.now (supposes_of more.now)) left.old out.old out.new b) }
+    ensures reads { IfOk result (λ b. ReadsCases walker.env.now ctx.old (more_supposes case.now (supposes_of more.now)) left.old out.old out.new b) }
     ensures same { OnOk result (ctx.new ≡ ctx.old) }
 {
-    if !read_case(alloc, env, ctx, case, left, out)? {
+    if !read_case(walker, ctx, case, left, out)? {
         return Ok(false);
     }
     for t in &more.items {
-        if !read_case(alloc, env, ctx, t, left, out)? {
+        if !read_case(walker, ctx, t, left, out)? {
             return Ok(false);
         }
     }
@@ -99,19 +96,18 @@ fn nodes_alone(alloc: Global, left: &Left) -> Left
 
 /// What the cases suppose, read ahead of what they prove. Whether all of it could be read.
 fn read_ahead(
-    alloc: Global,
-    env: &Environment,
+    walker: Walker<'_>,
     ctx: &mut Context,
     case: &SupposeTree,
     more: &SupposeTrees,
     left: &Left,
     out: &mut Statements,
 ) -> Result<bool, AllocError>
-    ensures reads { IfOk result (λ b. ReadsCases env.now ctx.old (more_supposes case.now (supposes_of more.now)) (nodes_alone left.now) out.old out.new b) }
+    ensures reads { IfOk result (λ b. ReadsCases walker.env.now ctx.old (more_supposes case.now (supposes_of more.now)) (nodes_alone left.now) out.old out.new b) }
     ensures same { OnOk result (ctx.new ≡ ctx.old) }
 {
-    let mut ahead = nodes_alone(alloc, left);
-    read_cases(alloc, env, ctx, case, more, &mut ahead, out)
+    let mut ahead = nodes_alone(walker.alloc, left);
+    read_cases(walker, ctx, case, more, &mut ahead, out)
 }
 
 /// Sees whether something can be told of a split before its justification. The context is as before.
@@ -120,26 +116,24 @@ fn read_ahead(
 /// cases suppose can be read and their disjunction is beyond the limits.
 #[tactic(auto, using(crate::proofs::AheadLemmas::foresee_rules))]
 pub fn foresee(
-    alloc: Global,
-    env: &Environment,
+    walker: Walker<'_>,
     ctx: &mut Context,
-    first: Place,
-    linked: bool,
+    opening: Opening,
     case: &SupposeTree,
     more: &SupposeTrees,
     left: &Left,
 ) -> Result<(), ProofFault>
-    ensures foresees { OnMade result (λ o. Foresees env.now first ctx.old left.now linked (more_supposes case.now (supposes_of more.now)) (told_ahead o)) }
+    ensures foresees { OnMade result (λ o. Foresees walker.env.now opening.first ctx.old left.now opening.linked (more_supposes case.now (supposes_of more.now)) (told_ahead o)) }
     ensures same { OnOk result (ctx.new ≡ ctx.old) }
 {
-    if !is_linked(linked, ctx) {
-        return Err(ProofFault::Refused(ProofRefusal::StepNoFit(first)));
+    if !is_linked(opening.linked, ctx) {
+        return Err(ProofFault::Refused(ProofRefusal::StepNoFit(opening.first)));
     }
-    let mut supposed = Statements::new(alloc);
-    if !read_ahead(alloc, env, ctx, case, more, left, &mut supposed)? {
+    let mut supposed = Statements::new(walker.alloc);
+    if !read_ahead(walker, ctx, case, more, left, &mut supposed)? {
         return Ok(());
     }
-    match disjunction_of(alloc, first, supposed)? {
+    match disjunction_of(walker.alloc, opening.first, supposed)? {
         Ok(_) => Ok(()),
         Err(r) => Err(ProofFault::Refused(ProofRefusal::Resolve(r))),
     }

@@ -16,22 +16,19 @@ use mz_base::place::Place;
 use mz_context::context::Context;
 use mz_core::outcome::Left;
 use mz_core::statement::Statement;
-use mz_environment::environment::Environment;
 use mz_formulas::sentence::Sentence;
 use mz_justified::proof_fault::ProofFault;
-use mz_obligations::obligation::{Extent, Obligations};
+use mz_justified::walker::{Opening, Walker};
+use mz_obligations::obligation::Obligations;
 use mz_performing::blocks::leave;
 use mz_steps::block::Block;
 use mz_steps::changes::begin_proof;
 use mz_tree_proof::reasoning::{JustTree, StatementTree, Steps};
 use mz_walk::prove_steps::ProveSteps;
-use std::alloc::Global;
 
 /// Takes the steps of a proof of the thesis, behind which an `end` stands at the place. The context is as before.
 pub fn skeleton(
-    alloc: Global,
-    env: &Environment,
-    at: Extent,
+    walker: Walker<'_>,
     ctx: &mut Context,
     thesis: &Statement,
     steps: &Steps,
@@ -39,13 +36,13 @@ pub fn skeleton(
     left: &mut Left,
     os: &mut Obligations,
 ) -> Result<(), ProofFault>
-    ensures proves { OnMade result (Brings (Proves env.now at (at_start_of_proof ctx.old thesis.now) (steps_of steps.now) end left.old) left.new os.old os.new) }
+    ensures proves { OnMade result (Brings (Proves walker.env.now walker.at (at_start_of_proof ctx.old thesis.now) (steps_of steps.now) end left.old) left.new os.old os.new) }
     ensures same { OnOk result (ctx.new ≡ ctx.old) }
 {
-    let thesis = thesis.copy(alloc)?;
+    let thesis = thesis.copy(walker.alloc)?;
     let aside = begin_proof(ctx, thesis);
-    let outside = Box::new(alloc, aside)?;
-    match walk::prove(alloc, env, at, ctx, steps, end, left, os) {
+    let outside = Box::new(walker.alloc, aside)?;
+    match walk::prove(walker, ctx, steps, end, left, os) {
         Ok(()) => {
             leave(ctx, Box::into_inner(outside));
             Ok(())
@@ -56,19 +53,17 @@ pub fn skeleton(
 
 /// Takes a statement of the article's own level, and adds what it makes to the context.
 pub fn statement(
-    alloc: Global,
-    env: &Environment,
-    at: Extent,
+    walker: Walker<'_>,
     ctx: &mut Context,
     tree: &StatementTree,
     left: &mut Left,
     os: &mut Obligations,
 ) -> Result<(), ProofFault>
-    ensures { OnMade result (λ o. (first : Place) × (first_place (spell_statement tree.now) ≡ Some first) × Brings (States env.now at (state ctx.old Proof left.old) first tree.now) (state ctx.new Proof left.new) os.old os.new o) }
+    ensures { OnMade result (λ o. (first : Place) × (first_place (spell_statement tree.now) ≡ Some first) × Brings (States walker.env.now walker.at (state ctx.old Proof left.old) first tree.now) (state ctx.new Proof left.new) os.old os.new o) }
 {
     let first = tree.first_place();
     let mut block = Block::Proof;
-    walk::state(alloc, env, at, ctx, &mut block, first, tree, left, os)
+    walk::state(walker, ctx, &mut block, first, tree, left, os)
 }
 
 /// Takes reasonings.
@@ -76,9 +71,7 @@ pub struct Proving;
 
 impl ProveSteps for Proving {
     fn skeleton(
-        alloc: Global,
-        env: &Environment,
-        at: Extent,
+        walker: Walker<'_>,
         ctx: &mut Context,
         thesis: &Statement,
         steps: &Steps,
@@ -86,36 +79,29 @@ impl ProveSteps for Proving {
         left: &mut Left,
         os: &mut Obligations,
     ) -> Result<(), ProofFault> {
-        skeleton(alloc, env, at, ctx, thesis, steps, end, left, os)
+        skeleton(walker, ctx, thesis, steps, end, left, os)
     }
 
     fn justify(
-        alloc: Global,
-        env: &Environment,
-        at: Extent,
+        walker: Walker<'_>,
         ctx: &mut Context,
-        first: Place,
-        linked: bool,
+        opening: Opening,
         behind: Place,
         tree: &JustTree,
         x: &Sentence,
         left: &mut Left,
         os: &mut Obligations,
     ) -> Result<(), ProofFault> {
-        walk::justify(
-            alloc, env, at, ctx, first, linked, behind, tree, x, left, os,
-        )
+        walk::justify(walker, ctx, opening, behind, tree, x, left, os)
     }
 
     fn statement(
-        alloc: Global,
-        env: &Environment,
-        at: Extent,
+        walker: Walker<'_>,
         ctx: &mut Context,
         tree: &StatementTree,
         left: &mut Left,
         os: &mut Obligations,
     ) -> Result<(), ProofFault> {
-        statement(alloc, env, at, ctx, tree, left, os)
+        statement(walker, ctx, tree, left, os)
     }
 }

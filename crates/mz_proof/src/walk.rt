@@ -25,13 +25,13 @@ use mz_context::context::Context;
 use mz_core::outcome::Left;
 use mz_core::statement::Statement;
 use mz_core::statements::Statements;
-use mz_environment::environment::Environment;
 use mz_formulas::sentence::Sentence;
 use mz_justified::grounds::ground;
 use mz_justified::justified::justify_simply;
 use mz_justified::proof_fault::{ProofFault, ProofRefusal};
+use mz_justified::walker::{Opening, Walker};
 use mz_now::now_part::NowParts;
-use mz_obligations::obligation::{Extent, Obligations};
+use mz_obligations::obligation::Obligations;
 use mz_performing::begun::Begun;
 use mz_performing::blocks::{enter_proof, is_proved, leave};
 use mz_performing::cases::end_split;
@@ -46,35 +46,29 @@ use mz_tree_proof::reasoning::{
 };
 use mz_tree_proof::references::LabelTree;
 use mz_tree_proof::skeleton::SplitTree;
-use std::alloc::Global;
 
 /// The justification of a sentence: by references, of the closed sentence, or by a proof, in which its free reserved variables
 /// are constants. The context is as before.
 #[cycle(walk)]
 pub fn justify(
-    alloc: Global,
-    env: &Environment,
-    at: Extent,
+    walker: Walker<'_>,
     ctx: &mut Context,
-    first: Place,
-    linked: bool,
+    opening: Opening,
     behind: Place,
     tree: &JustTree,
     x: &Sentence,
     left: &mut Left,
     os: &mut Obligations,
 ) -> Result<(), ProofFault>
-    ensures justifies { OnMade result (Brings (Justifies env.now at ctx.old first linked behind tree.now x.now left.old) left.new os.old os.new) }
+    ensures justifies { OnMade result (Brings (Justifies walker.env.now walker.at ctx.old opening.first opening.linked behind tree.now x.now left.old) left.new os.old os.new) }
     ensures same { OnOk result (ctx.new ≡ ctx.old) }
 {
     match &tree.node {
-        JustNode::Simple(t) => justify_simply(
-            alloc, env, at, ctx, first, linked, behind, t, &x.closed, left, os,
-        ),
+        JustNode::Simple(t) => justify_simply(walker, ctx, opening, behind, t, &x.closed, left, os),
         JustNode::Proof(_, steps, end) => {
-            let aside = enter_proof(alloc, ctx, x)?;
-            let outside = Box::new(alloc, aside)?;
-            match prove(alloc, env, at, ctx, steps, *end, left, os) {
+            let aside = enter_proof(walker.alloc, ctx, x)?;
+            let outside = Box::new(walker.alloc, aside)?;
+            match prove(walker, ctx, steps, *end, left, os) {
                 Ok(()) => {
                     leave(ctx, Box::into_inner(outside));
                     Ok(())
@@ -88,20 +82,18 @@ pub fn justify(
 /// The steps of a proof of the context's thesis, behind which an `end` stands at the place. What they put into force stays.
 #[cycle(walk)]
 pub fn prove(
-    alloc: Global,
-    env: &Environment,
-    at: Extent,
+    walker: Walker<'_>,
     ctx: &mut Context,
     steps: &Steps,
     end: Place,
     left: &mut Left,
     os: &mut Obligations,
 ) -> Result<(), ProofFault>
-    ensures proves { OnMade result (Brings (Proves env.now at ctx.old (steps_of steps.now) end left.old) left.new os.old os.new) }
+    ensures proves { OnMade result (Brings (Proves walker.env.now walker.at ctx.old (steps_of steps.now) end left.old) left.new os.old os.new) }
     ensures grows { OnOk result (Grew ctx.old ctx.new) }
 {
     let mut block = Block::Proof;
-    match go_all(alloc, env, at, ctx, &mut block, steps, left, os) {
+    match go_all(walker, ctx, &mut block, steps, left, os) {
         Ok(()) => {}
         Err(f) => return Err(f),
     }
@@ -122,52 +114,45 @@ fn further_of(x: &Begun) -> &[Statement]
 /// A compact statement, which is linked where `then` or `hence` stands before it, and concluded behind `thus` and `hence`.
 #[cycle(walk)]
 fn say(
-    alloc: Global,
-    env: &Environment,
-    at: Extent,
+    walker: Walker<'_>,
     ctx: &mut Context,
     block: &mut Block,
-    first: Place,
-    linked: bool,
+    opening: Opening,
     concluded: bool,
     tree: &CompactTree,
     left: &mut Left,
     os: &mut Obligations,
 ) -> Result<(), ProofFault>
-    ensures { OnMade result (Brings (Says env.now at (state ctx.old block.old left.old) first linked concluded tree.now) (state ctx.new block.new left.new) os.old os.new) }
+    ensures { OnMade result (Brings (Says walker.env.now walker.at (state ctx.old block.old left.old) opening.first opening.linked concluded tree.now) (state ctx.new block.new left.new) os.old os.new) }
 {
     let (p, just, sides, semicolon) = stated_parts(tree);
     let ks = sides.items.as_slice();
     let begun = match begin(
-        alloc, env, ctx, block, first, linked, concluded, p, just, ks, semicolon, left,
+        walker, ctx, block, opening, concluded, p, just, ks, semicolon, left,
     ) {
         Ok(x) => x,
         Err(f) => return Err(f),
     };
-    let x = Box::new(alloc, begun)?;
+    let x = Box::new(walker.alloc, begun)?;
     let behind = place_behind(ks, semicolon);
     let s = &x.compact.sentence;
-    match justify(
-        alloc, env, at, ctx, first, linked, behind, just, s, left, os,
-    ) {
+    match justify(walker, ctx, opening, behind, just, s, left, os) {
         Ok(()) => {}
         Err(f) => return Err(f),
     }
     let ss = further_of(&x);
-    match justify_sides(alloc, env, at, ctx, first, semicolon, ks, ss, left, os) {
+    match justify_sides(walker, ctx, opening.first, semicolon, ks, ss, left, os) {
         Ok(()) => {}
         Err(f) => return Err(f),
     }
-    finish(alloc, ctx, block, Box::into_inner(x))?;
+    finish(walker.alloc, ctx, block, Box::into_inner(x))?;
     Ok(())
 }
 
 /// A `now` under the label, where one is written, or `hereby`, by which what its steps state is concluded.
 #[cycle(walk)]
 fn say_now(
-    alloc: Global,
-    env: &Environment,
-    at: Extent,
+    walker: Walker<'_>,
     ctx: &mut Context,
     block: &mut Block,
     first: Place,
@@ -177,26 +162,24 @@ fn say_now(
     left: &mut Left,
     os: &mut Obligations,
 ) -> Result<(), ProofFault>
-    ensures { OnMade result (Brings (SaysNow env.now at (state ctx.old block.old left.old) first concluded (label_in label.now) (steps_of steps.now)) (state ctx.new block.new left.new) os.old os.new) }
+    ensures { OnMade result (Brings (SaysNow walker.env.now walker.at (state ctx.old block.old left.old) first concluded (label_in label.now) (steps_of steps.now)) (state ctx.new block.new left.new) os.old os.new) }
 {
-    let aside = begin_now(alloc, ctx)?;
-    let outside = Box::new(alloc, aside)?;
-    let parts = NowParts::new(alloc);
+    let aside = begin_now(walker.alloc, ctx)?;
+    let outside = Box::new(walker.alloc, aside)?;
+    let parts = NowParts::new(walker.alloc);
     let mut inside = Block::Now(parts);
-    match go_all(alloc, env, at, ctx, &mut inside, steps, left, os) {
+    match go_all(walker, ctx, &mut inside, steps, left, os) {
         Ok(()) => {}
         Err(f) => return Err(f),
     }
     leave(ctx, Box::into_inner(outside));
-    state_now(alloc, env, ctx, block, first, concluded, label, &inside)
+    state_now(walker, ctx, block, first, concluded, label, &inside)
 }
 
 /// A statement.
 #[cycle(walk)]
 pub fn state(
-    alloc: Global,
-    env: &Environment,
-    at: Extent,
+    walker: Walker<'_>,
     ctx: &mut Context,
     block: &mut Block,
     first: Place,
@@ -204,41 +187,27 @@ pub fn state(
     left: &mut Left,
     os: &mut Obligations,
 ) -> Result<(), ProofFault>
-    ensures { OnMade result (Brings (States env.now at (state ctx.old block.old left.old) first tree.now) (state ctx.new block.new left.new) os.old os.new) }
+    ensures { OnMade result (Brings (States walker.env.now walker.at (state ctx.old block.old left.old) first tree.now) (state ctx.new block.new left.new) os.old os.new) }
 {
     match &tree.node {
         StatementNode::Compact(then, t) => {
-            say(
-                alloc,
-                env,
-                at,
-                ctx,
-                block,
+            let opening = Opening {
                 first,
-                then.is_some(),
-                false,
-                t,
-                left,
-                os,
-            )
+                linked: then.is_some(),
+            };
+            say(walker, ctx, block, opening, false, t, left, os)
         }
         StatementNode::Now(label, _, steps, _, _) => {
-            say_now(
-                alloc, env, at, ctx, block, first, false, label, steps, left, os,
-            )
+            say_now(walker, ctx, block, first, false, label, steps, left, os)
         }
-        StatementNode::Introduction(t) => {
-            introduce(alloc, env, at, ctx, block, first, t, left, os)
-        }
+        StatementNode::Introduction(t) => { introduce(walker, ctx, block, first, t, left, os) }
     }
 }
 
 /// A step.
 #[cycle(walk)]
 fn go(
-    alloc: Global,
-    env: &Environment,
-    at: Extent,
+    walker: Walker<'_>,
     ctx: &mut Context,
     block: &mut Block,
     first: Place,
@@ -246,23 +215,33 @@ fn go(
     left: &mut Left,
     os: &mut Obligations,
 ) -> Result<(), ProofFault>
-    ensures { OnMade result (Brings (Goes env.now at (state ctx.old block.old left.old) first tree.now) (state ctx.new block.new left.new) os.old os.new) }
+    ensures { OnMade result (Brings (Goes walker.env.now walker.at (state ctx.old block.old left.old) first tree.now) (state ctx.new block.new left.new) os.old os.new) }
 {
     match &tree.node {
-        StepNode::Statement(t) => state(alloc, env, at, ctx, block, first, t, left, os),
-        StepNode::Thus(_, t) => say(alloc, env, at, ctx, block, first, false, true, t, left, os),
-        StepNode::Hence(_, t) => say(alloc, env, at, ctx, block, first, true, true, t, left, os),
-        StepNode::Hereby(_, steps, _, _) => {
-            say_now(
-                alloc, env, at, ctx, block, first, true, &None, steps, left, os,
-            )
+        StepNode::Statement(t) => state(walker, ctx, block, first, t, left, os),
+        StepNode::Thus(_, t) => {
+            let opening = Opening {
+                first,
+                linked: false,
+            };
+            say(walker, ctx, block, opening, true, t, left, os)
         }
-        StepNode::Skeleton(t) => step_on(alloc, env, ctx, block, first, t, left),
+        StepNode::Hence(_, t) => {
+            let opening = Opening {
+                first,
+                linked: true,
+            };
+            say(walker, ctx, block, opening, true, t, left, os)
+        }
+        StepNode::Hereby(_, steps, _, _) => {
+            say_now(walker, ctx, block, first, true, &None, steps, left, os)
+        }
+        StepNode::Skeleton(t) => step_on(walker.alloc, walker.env, ctx, block, first, t, left),
         StepNode::Cases(t, u, us) => {
             if is_now(block) {
                 return Err(ProofFault::Refused(ProofRefusal::StepNoFit(first)));
             }
-            split(alloc, env, at, ctx, block, first, t, u, us, left, os)
+            split(walker, ctx, block, first, t, u, us, left, os)
         }
     }
 }
@@ -271,9 +250,7 @@ fn go(
 /// and then it is asked, before what they ask, that one of them holds.
 #[cycle(walk)]
 fn split(
-    alloc: Global,
-    env: &Environment,
-    at: Extent,
+    walker: Walker<'_>,
     ctx: &mut Context,
     block: &Block,
     first: Place,
@@ -283,45 +260,34 @@ fn split(
     left: &mut Left,
     os: &mut Obligations,
 ) -> Result<(), ProofFault>
-    ensures { OnMade result (Brings (Splits env.now at (state ctx.old block.now left.old) first tree.now (more_supposes case.now (supposes_of more.now))) (state ctx.new block.now left.new) os.old os.new) }
+    ensures { OnMade result (Brings (Splits walker.env.now walker.at (state ctx.old block.now left.old) first tree.now (more_supposes case.now (supposes_of more.now))) (state ctx.new block.now left.new) os.old os.new) }
 {
-    let linked = tree.then.is_some();
-    match foresee(alloc, env, ctx, first, linked, case, more, left) {
+    let opening = Opening {
+        first,
+        linked: tree.then.is_some(),
+    };
+    match foresee(walker, ctx, opening, case, more, left) {
         Ok(()) => {}
         Err(f) => return Err(f),
     }
     let behind = tree.semicolon;
-    let given = match ground(alloc, env, ctx, first, linked, behind, &tree.simple, left) {
+    let given = match ground(walker, ctx, opening, behind, &tree.simple, left) {
         Ok(ss) => ss,
         Err(f) => return Err(f),
     };
-    let mut asked = Obligations::new(alloc);
-    let mut supposed = Statements::new(alloc);
-    match suppose_all(
-        alloc,
-        env,
-        at,
-        ctx,
-        case,
-        more,
-        left,
-        &mut asked,
-        &mut supposed,
-    ) {
+    let mut asked = Obligations::new(walker.alloc);
+    let mut supposed = Statements::new(walker.alloc);
+    match suppose_all(walker, ctx, case, more, left, &mut asked, &mut supposed) {
         Ok(()) => {}
         Err(f) => return Err(f),
     }
-    end_split(
-        alloc, env, at, ctx, first, tree, &given, supposed, asked, os,
-    )
+    end_split(walker, ctx, first, tree, &given, supposed, asked, os)
 }
 
 /// The cases of a split. What they suppose is put behind the statements. The context is as before.
 #[cycle(walk)]
 fn suppose_all(
-    alloc: Global,
-    env: &Environment,
-    at: Extent,
+    walker: Walker<'_>,
     ctx: &mut Context,
     case: &SupposeTree,
     more: &SupposeTrees,
@@ -329,15 +295,15 @@ fn suppose_all(
     os: &mut Obligations,
     ss: &mut Statements,
 ) -> Result<(), ProofFault>
-    ensures supposes { OnMade result (TakesCases (Supposes env.now at ctx.old (more_supposes case.now (supposes_of more.now)) left.old) left.new ss.old ss.new os.old os.new) }
+    ensures supposes { OnMade result (TakesCases (Supposes walker.env.now walker.at ctx.old (more_supposes case.now (supposes_of more.now)) left.old) left.new ss.old ss.new os.old os.new) }
     ensures same { OnOk result (ctx.new ≡ ctx.old) }
 {
-    match suppose(alloc, env, at, ctx, case, left, os, ss) {
+    match suppose(walker, ctx, case, left, os, ss) {
         Ok(()) => {}
         Err(f) => return Err(f),
     }
     for t in &more.items {
-        match suppose(alloc, env, at, ctx, t, left, os, ss) {
+        match suppose(walker, ctx, t, left, os, ss) {
             Ok(()) => {}
             Err(f) => return Err(f),
         }
@@ -348,25 +314,23 @@ fn suppose_all(
 /// A case of a split. What it supposes is put behind the statements. The context is as before.
 #[cycle(walk)]
 fn suppose(
-    alloc: Global,
-    env: &Environment,
-    at: Extent,
+    walker: Walker<'_>,
     ctx: &mut Context,
     tree: &SupposeTree,
     left: &mut Left,
     os: &mut Obligations,
     ss: &mut Statements,
 ) -> Result<(), ProofFault>
-    ensures supposes { OnMade result (TakesCase env.now at ctx.old tree.now left.old left.new ss.old ss.new os.old os.new) }
+    ensures supposes { OnMade result (TakesCase walker.env.now walker.at ctx.old tree.now left.old left.new ss.old ss.new os.old os.new) }
     ensures same { OnOk result (ctx.new ≡ ctx.old) }
 {
     let (first, hypotheses, _, steps, end, _) = case_parts(tree);
-    let aside = match begin_case(alloc, env, ctx, first, hypotheses, left, ss) {
+    let aside = match begin_case(walker, ctx, first, hypotheses, left, ss) {
         Ok(o) => o,
         Err(f) => return Err(f),
     };
-    let aside = Box::new(alloc, aside)?;
-    match prove(alloc, env, at, ctx, steps, end, left, os) {
+    let aside = Box::new(walker.alloc, aside)?;
+    match prove(walker, ctx, steps, end, left, os) {
         Ok(()) => {
             leave(ctx, Box::into_inner(aside));
             Ok(())
@@ -378,20 +342,18 @@ fn suppose(
 /// Steps one after another.
 #[cycle(walk)]
 fn go_all(
-    alloc: Global,
-    env: &Environment,
-    at: Extent,
+    walker: Walker<'_>,
     ctx: &mut Context,
     block: &mut Block,
     steps: &Steps,
     left: &mut Left,
     os: &mut Obligations,
 ) -> Result<(), ProofFault>
-    ensures { OnMade result (Brings (GoesAll env.now at (state ctx.old block.old left.old) (steps_of steps.now)) (state ctx.new block.new left.new) os.old os.new) }
+    ensures { OnMade result (Brings (GoesAll walker.env.now walker.at (state ctx.old block.old left.old) (steps_of steps.now)) (state ctx.new block.new left.new) os.old os.new) }
 {
     for step in &steps.items {
         let first = step.first_place();
-        match go(alloc, env, at, ctx, block, first, step, left, os) {
+        match go(walker, ctx, block, first, step, left, os) {
             Ok(()) => {}
             Err(f) => return Err(f),
         }

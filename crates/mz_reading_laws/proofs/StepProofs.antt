@@ -1,10 +1,11 @@
 -- Contexts of steps stay whole, and what they say is of constants in force.
-use Rattle.std.proofs.Common.{◌≡◌, ◌<◌, ◌+◌, ◌⊎◌, inl, inr, ℕ, suc, Bool, true, false, List, [], ◌∷◌, ◌++◌, map, length, refl, sym, ap, ◌∙◌, subst, arith, Option, Some, None}
+use Rattle.std.proofs.Common.{◌≡◌, ◌<◌, ◌+◌, ℕ, suc, Bool, true, false, List, [], ◌∷◌, ◌++◌, map, length, refl, sym, ap, ◌∙◌, subst, arith, Option, Some, None}
 use Rattle.std.specs.Prelude.{◌&&◌, Contains, slice_get, flat_map}
 use Rattle.std.specs.List.{list_all}
 use Rattle.std.proofs.lemmas.Bool.{and_parts, and_from, lt-ltb, true≢false}
 use Rattle.std.proofs.lemmas.List.{map-append}
 use Rattle.std.proofs.lemmas.List.Elements.{Contains-append_cases}
+use Rattle.mz_std_laws.proofs.Sums.{either}
 use Rattle.mz_logic.specs.Term.{Term, Const}
 use Rattle.mz_logic.specs.Indices.{is_below}
 use Rattle.mz_logic.specs.Literal.{literal_formula}
@@ -52,10 +53,6 @@ use Rattle.mz_term_laws.specs.ChangeLaws.{AreUsable}
 use Rattle.mz_term_laws.proofs.UsableProofs.{next_further, numbered_below, statement_from-zero, usable_term_law, usable_type_law, usable_statement_law}
 use Rattle.mz_term_laws.proofs.ChangeProofs.{constant_law, variables_law, thesis_law, previous_law, usable_variable, labelled_usable}
 use Rattle.mz_reading_laws.specs.StepLaws.{IsUsableStep, LeavesUsable, AreUsableStatements, ContextAfterLaw, StartLaw, FactsInForceLaw, FactsClosedLaw, DeclaredInForceLaw}
-
-either : {A B C : Type 0} → A ⊎ B → (A → C) → (B → C) → C
-either (inl a) f g = f a
-either (inr b) f g = g b
 
 -- with a step's constants
 with_constants_whole : (least : ℕ) (c : Context) → IsWhole least c → (s : ReadStep) → IsUsableStep least c s → IsWhole least (with_constants c s)

@@ -6,29 +6,26 @@ use mz_base::place::Place;
 use mz_context::context::Context;
 use mz_core::outcome::Left;
 use mz_core::statement::Statement;
-use mz_environment::environment::Environment;
 use mz_formulas::sentence::Sentence;
 use mz_justified::proof_fault::ProofFault;
-use mz_obligations::obligation::{Extent, Obligations};
+use mz_justified::walker::{Opening, Walker};
+use mz_obligations::obligation::Obligations;
 use mz_tree_proof::reasoning::{JustTree, StatementTree, Steps};
 use mz_walk::prove_steps::ProveSteps;
-use std::alloc::Global;
 
 /// Takes the steps of a proof of the thesis. Gives its obligations: where they are met, the thesis derives.
 pub fn proof<P: ProveSteps>(
-    alloc: Global,
-    env: &Environment,
-    at: Extent,
+    walker: Walker<'_>,
     ctx: &mut Context,
     thesis: &Statement,
     steps: &Steps,
     end: Place,
     left: &mut Left,
 ) -> Result<Obligations, ProofFault>
-    ensures { IfOk result (λ os. IsProved env.now ctx.old thesis.now os) }
+    ensures { IfOk result (λ os. IsProved walker.env.now ctx.old thesis.now os) }
 {
-    let mut os = Obligations::new(alloc);
-    match P::skeleton(alloc, env, at, ctx, thesis, steps, end, left, &mut os) {
+    let mut os = Obligations::new(walker.alloc);
+    match P::skeleton(walker, ctx, thesis, steps, end, left, &mut os) {
         Ok(()) => Ok(os),
         Err(f) => Err(f),
     }
@@ -36,23 +33,18 @@ pub fn proof<P: ProveSteps>(
 
 /// Takes the justification of a sentence. Gives its obligations: where they are met, the sentence derives.
 pub fn justification<P: ProveSteps>(
-    alloc: Global,
-    env: &Environment,
-    at: Extent,
+    walker: Walker<'_>,
     ctx: &mut Context,
-    first: Place,
-    linked: bool,
+    opening: Opening,
     behind: Place,
     tree: &JustTree,
     x: &Sentence,
     left: &mut Left,
 ) -> Result<Obligations, ProofFault>
-    ensures { IfOk result (λ os. IsJustified env.now ctx.old x.now os) }
+    ensures { IfOk result (λ os. IsJustified walker.env.now ctx.old x.now os) }
 {
-    let mut os = Obligations::new(alloc);
-    match P::justify(
-        alloc, env, at, ctx, first, linked, behind, tree, x, left, &mut os,
-    ) {
+    let mut os = Obligations::new(walker.alloc);
+    match P::justify(walker, ctx, opening, behind, tree, x, left, &mut os) {
         Ok(()) => Ok(os),
         Err(f) => Err(f),
     }
@@ -61,17 +53,15 @@ pub fn justification<P: ProveSteps>(
 /// Takes a statement of an article's own level. Gives its obligations: where they are met, one may reason on behind it, and each
 /// statement of the constants before it that derives behind it derives before it.
 pub fn statement<P: ProveSteps>(
-    alloc: Global,
-    env: &Environment,
-    at: Extent,
+    walker: Walker<'_>,
     ctx: &mut Context,
     tree: &StatementTree,
     left: &mut Left,
 ) -> Result<Obligations, ProofFault>
-    ensures { IfOk result (λ os. IsStated env.now ctx.old ctx.new os) }
+    ensures { IfOk result (λ os. IsStated walker.env.now ctx.old ctx.new os) }
 {
-    let mut os = Obligations::new(alloc);
-    match P::statement(alloc, env, at, ctx, tree, left, &mut os) {
+    let mut os = Obligations::new(walker.alloc);
+    match P::statement(walker, ctx, tree, left, &mut os) {
         Ok(()) => Ok(os),
         Err(f) => Err(f),
     }

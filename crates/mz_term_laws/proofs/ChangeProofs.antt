@@ -1,8 +1,9 @@
 -- Contexts stay whole.
-use Rattle.std.proofs.Common.{◌≡◌, ◌≤◌, ◌<◌, ◌⊎◌, inl, inr, ℕ, zero, suc, true, List, [], ◌∷◌, ◌++◌, refl, sym, ap, ◌∙◌, subst, arith, length, Option, Some, None}
+use Rattle.std.proofs.Common.{◌≡◌, ◌≤◌, ◌<◌, ℕ, zero, suc, true, List, [], ◌∷◌, ◌++◌, refl, sym, ap, ◌∙◌, subst, arith, length, Option, Some, None}
 use Rattle.std.specs.Prelude.{Contains}
 use Rattle.std.specs.List.{list_all}
 use Rattle.std.proofs.lemmas.List.Elements.{Contains-append_cases}
+use Rattle.mz_std_laws.proofs.Sums.{either}
 use Rattle.mz_logic.specs.Term.{Term}
 use Rattle.mz_core.specs.Statement.{Statement}
 use Rattle.mz_core.specs.declared.soft_type.SoftType.{SoftType}
@@ -27,10 +28,6 @@ use Rattle.mz_term_laws.specs.Usable.{is_usable, term_usable, type_usable, state
 use Rattle.mz_term_laws.specs.Whole.{IsUsableConstant, IsWhole}
 use Rattle.mz_term_laws.specs.ChangeLaws.{EmptyLaw, WholeFromLaw, AreUsable, ConstantLaw, VariablesLaw, StatementLaw, ThesisLaw, PreviousLaw, ReservedLaw, FunctorLaw, PredicateLaw, LetterLaw}
 use Rattle.mz_term_laws.proofs.UsableProofs.{numbered_last, numbered_below, usable_parts, usable_from, usable_more, term_from-zero, type_from-zero, statement_from-zero, term_known-with, type_known-with, statement_known-with}
-
-either : {A B C : Type 0} → A ⊎ B → (A → C) → (B → C) → C
-either (inl a) f g = f a
-either (inr b) f g = g b
 
 -- what a list has that has one element more
 one_only : {X : Type 0} (x y : X) → Contains (x ∷ []) y → x ≡ y

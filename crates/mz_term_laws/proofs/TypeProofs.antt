@@ -2,7 +2,8 @@
 use Rattle.std.proofs.Common.{◌≡◌, ◌<◌, arith, ◌⊎◌, inl, inr, ℕ, Bool, true, false, List, [], ◌∷◌, ◌++◌, refl, sym, ◌∙◌, subst, Some}
 use Rattle.std.specs.Prelude.{◌||◌, nat_eq, Result, Ok, Err}
 use Rattle.std.specs.List.{list_all, list_any}
-use Rattle.std.proofs.lemmas.Bool.{and_parts, and_from, eqb-true, eq-eqb, true≢false}
+use Rattle.std.proofs.lemmas.Bool.{and_parts, and_from, eqb-true, eq-eqb, true≢false, or_right}
+use Rattle.mz_std_laws.proofs.Sums.{either}
 use Rattle.mz_logic.specs.Term.{Term, Const}
 use Rattle.mz_logic.specs.Constants.{occurs}
 use Rattle.mz_core.specs.declared.adjective.Adjective.{Adjective}
@@ -80,10 +81,6 @@ or_left : (a b : Bool) → a ≡ true → (a || b) ≡ true
 or_left true b h = refl
 or_left false b h = absurd (true≢false (sym h))
 
-or_right : (a b : Bool) → b ≡ true → (a || b) ≡ true
-or_right true b h = refl
-or_right false b h = h
-
 or_apart : (a b : Bool) → (a || b) ≡ true → b ≡ false → a ≡ true
 or_apart true b h k = refl
 or_apart false b h k = absurd (true≢false (sym h ∙ k))
@@ -91,10 +88,6 @@ or_apart false b h k = absurd (true≢false (sym h ∙ k))
 or_either : (a b : Bool) → (a || b) ≡ true → (a ≡ true) ⊎ (b ≡ true)
 or_either true b h = inl refl
 or_either false b h = inr h
-
-either : {A B C : Type 0} → A ⊎ B → (A → C) → (B → C) → C
-either (inl a) f g = f a
-either (inr b) f g = g b
 
 old_one : (from : ℕ) (c : Context) (n : ℕ) (k : Constant) → constant_at c n ≡ Some k → or_number (is_usable from c) (next c) n ≡ true → is_usable from c n ≡ true
 old_one from c n k j h =

@@ -2,6 +2,7 @@
 use Rattle.std.proofs.Common.{◌≡◌, ◌<◌, ◌-◌, ℕ, zero, suc, List, [], ◌∷◌, refl, sym, ap, ◌∙◌, subst, Bool, true, false, arith, Option, Some, None}
 use Rattle.std.specs.Prelude.{◌↔◌, IsTrue, nat_eq}
 use Rattle.std.proofs.lemmas.Bool.{eqb-true, eqb-false}
+use Rattle.mz_std_laws.proofs.Truth.{not_both}
 use Rattle.mz_core.specs.Statement.{Statement}
 use Rattle.mz_context.specs.declared.constants.Constant.{Constant}
 use Rattle.mz_ground.specs.declared.clause.Clause.{Clause}
@@ -11,10 +12,6 @@ use Rattle.mz_thesis.specs.Rows.{Admits, thesis_after}
 use Rattle.mz_thesis.specs.Applied as applied
 use Rattle.mz_thesis.specs.Applied.{first_part, with_first_part, Unfolded, Applied}
 use Rattle.mz_thesis.specs.declared.step.Step.{Step}
-
-not_both : (b : Bool) → b ≡ false → b ≡ true → ⊥
-not_both true e h = cc
-not_both false e h = cc
 
 pub told_unfolded : (cs : List Clause) (ks : List (Option Constant)) (us : List Unfolding) (thesis d s : Statement) (o : Option Statement) → UnfoldsTo cs ks us (first_part thesis) o → o ≡ Some d → s ≡ with_first_part d thesis → Unfolded cs ks us thesis (Some s)
 told_unfolded cs ks us thesis d s o h eo same =

@@ -1,17 +1,12 @@
 -- What the code of parts tells.
 use Rattle.std.proofs.Common.{◌≡◌, ◌≤◌, ◌<◌, ◌+◌, ℕ, zero, suc, List, [], ◌∷◌, refl, sym, ap, ◌∙◌, subst, Bool, true, false, arith, length, drop, get_or}
 use Rattle.std.specs.Prelude.{◌↔◌, IsTrue}
+use Rattle.std.proofs.lemmas.Bool.{false≢true}
+use Rattle.mz_std_laws.proofs.Truth.{not_both}
 use Rattle.mz_logic.specs.Same.{IsSame}
 use Rattle.mz_core.specs.Statement.{Statement}
 use Rattle.mz_core.specs.Erasure.{erase}
 use Rattle.mz_thesis.specs.Rows.{BeginSame}
-
-false_true : false ≡ true → ⊥
-false_true e = cc
-
-not_both : (b : Bool) → b ≡ false → b ≡ true → ⊥
-not_both true e h = cc
-not_both false e h = cc
 
 drop-split : (xs : List Statement) (i : ℕ) (x : Statement) → i < length xs → x ≡ get_or xs i x → drop i xs ≡ x ∷ drop (i + 1) xs
 drop-split xs i x lt at = let e : (i + 1) ≡ suc i = omega arith in inner xs i lt at ∙ ap (λ n. x ∷ drop n xs) (sym e)
@@ -28,7 +23,7 @@ shorter (s ∷ ss) (t ∷ ts) h = let le : length ss ≤ length ts = shorter ss 
 
 pub told_longer : (ss ts : List Statement) (n m : ℕ) → n ≡ length ss → m ≡ length ts → m < n → IsTrue false ↔ BeginSame ss ts
 told_longer ss ts n m en em lt =
-    (λ x. absurd (false_true x), λ h. let le : length ss ≤ length ts = shorter ss ts h in absurd (omega (arith, le, en, em, lt)))
+    (λ x. absurd (false≢true x), λ h. let le : length ss ≤ length ts = shorter ss ts h in absurd (omega (arith, le, en, em, lt)))
 
 -- the lists from a place on begin the same exactly where the lists do
 abbrev pub Agree : List Statement → List Statement → ℕ → Type 0
@@ -53,7 +48,7 @@ told_next ss ts i n m s t b en em le lt es et same eb so =
 pub told_differ : (ss ts : List Statement) (i n m : ℕ) (s t : Statement) (b : Bool) → n ≡ length ss → m ≡ length ts → n ≤ m → i < n → s ≡ get_or ss i s → t ≡ get_or ts i t → IsTrue b ↔ IsSame (erase s) (erase t) → b ≡ false → Agree ss ts i → IsTrue false ↔ BeginSame ss ts
 told_differ ss ts i n m s t b en em le lt es et same eb so =
     let p : BeginSame (drop i ss) (drop i ts) ↔ (IsSame (erase s) (erase t) × BeginSame (drop (i + 1) ss) (drop (i + 1) ts)) = at_place ss ts i s t (omega (arith, en, lt)) (omega (arith, en, em, le, lt)) es et in
-    (λ x. absurd (false_true x), λ h. absurd (not_both b eb (same.1 (p.0 (so.1 h)).0)))
+    (λ x. absurd (false≢true x), λ h. absurd (not_both b eb (same.1 (p.0 (so.1 h)).0)))
 
 drop-past : (xs : List Statement) (i : ℕ) → length xs ≤ i → drop i xs ≡ []
 drop-past [] zero le = refl

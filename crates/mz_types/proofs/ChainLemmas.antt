@@ -4,6 +4,7 @@ use Rattle.std.specs.Prelude.{reverse, Contains, IsTrue, ◌↔◌, nat_le, find
 use Rattle.std.proofs.lemmas.List.{append-nil, reverse-append, reverse-reverse}
 use Rattle.std.proofs.Math.Nat.{suc-mul}
 use Rattle.std.proofs.lemmas.Bool.{leb-true, leb-false}
+use Rattle.mz_std_laws.proofs.Sums.{either}
 use Rattle.mz_logic.specs.declared.sym.Sym.{Sym}
 use Rattle.mz_logic.specs.declared.kind.Kind.{Kind}
 use Rattle.mz_logic.specs.declared.kind.Kind.TheVariants as kind
@@ -94,10 +95,6 @@ find_step s y ys x h = tested (is_structure s y) refl
     tested : (b : Bool) → is_structure s y ≡ b → (y ≡ x) ⊎ (structure_of ys s ≡ Some x)
     tested true e = inl (some-inj y x (sym (ap (λ (c : Bool). if c then Some y else structure_of ys s) e) ∙ h))
     tested false e = inr (sym (ap (λ (c : Bool). if c then Some y else structure_of ys s) e) ∙ h)
-
-either : {A B C : Type 0} → A ⊎ B → (A → C) → (B → C) → C
-either (inl a) f g = f a
-either (inr b) f g = g b
 
 few_ancestors : (all : List Structure) (s : Sym) (x : Structure) → structure_of all s ≡ Some x → length x.ancestors ≤ ancestor_count all
 few_ancestors [] s x h = absurd (none_some x h)

@@ -2,6 +2,7 @@
 use Rattle.std.proofs.Common.{◌≡◌, ◌≤◌, ◌<◌, ◌+◌, ℕ, zero, suc, List, [], ◌∷◌, ◌++◌, refl, sym, ap, ◌∙◌, subst, Bool, true, false, arith, length, Option, Some, None, take, drop, map}
 use Rattle.std.specs.Prelude.{◌↔◌, IsTrue, nat_eq, find, reverse}
 use Rattle.std.proofs.lemmas.Bool.{eqb-true}
+use Rattle.std.proofs.lemmas.Bool.{false≢true}
 use Rattle.mz_logic.specs.declared.sym.Sym.{Sym}
 use Rattle.mz_logic.specs.Term.{Term}
 use Rattle.mz_core.specs.declared.structure.Field.{Field}
@@ -64,9 +65,6 @@ no_more cs ks values z zs f = elim f [ ]
 no_fewer : (cs : List Clause) (ks : List (Option Constant)) (values : List Term) (f : Field) (fs : List Field) → FieldsFit cs ks values (f ∷ fs) [] → ⊥
 no_fewer cs ks values f fs h = elim h [ ]
 
-not_false : false ≡ true → ⊥
-not_false e = cc
-
 at_end : (cs : List Clause) (ks : List (Option Constant)) (values zs : List Term) → IsTrue (nat_eq (length zs) 0) ↔ FieldsFit cs ks values [] zs
 at_end cs ks values [] = (λ x. no_fields, λ f. refl)
 at_end cs ks values (z ∷ zs) = (λ x. let e : length (z ∷ zs) ≡ 0 = eqb-true (length (z ∷ zs)) 0 x in absurd (omega (arith, e)), λ f. absurd (no_more cs ks values z zs f))
@@ -79,7 +77,7 @@ told_end cs ks values zs ts fields fs e w =
 
 pub told_fewer : (cs : List Clause) (ks : List (Option Constant)) (values zs ts : List Term) (fields fs more : List Field) (f : Field) → fs ≡ f ∷ more → length ts ≡ 0 → FieldsFit cs ks values fs ts ↔ FieldsFit cs ks values fields zs → IsTrue false ↔ FieldsFit cs ks values fields zs
 told_fewer cs ks values zs ts fields fs more f ef et w =
-    (λ x. absurd (not_false x), λ h. absurd (no_fewer cs ks values f more (subst (λ us. FieldsFit cs ks values (f ∷ more) us) (empty _ et) (subst (λ gs. FieldsFit cs ks values gs ts) ef (w.1 h)))))
+    (λ x. absurd (false≢true x), λ h. absurd (no_fewer cs ks values f more (subst (λ us. FieldsFit cs ks values (f ∷ more) us) (empty _ et) (subst (λ gs. FieldsFit cs ks values gs ts) ef (w.1 h)))))
 
 at_first : (cs : List Clause) (ks : List (Option Constant)) (values zs ts us : List Term) (fields fs more : List Field) (f : Field) (z : Term) → fs ≡ f ∷ more → ts ≡ z ∷ us → FieldsFit cs ks values fs ts ↔ FieldsFit cs ks values fields zs → FieldsFit cs ks values (f ∷ more) (z ∷ us) ↔ FieldsFit cs ks values fields zs
 at_first cs ks values zs ts us fields fs more f z ef et w =
@@ -88,7 +86,7 @@ at_first cs ks values zs ts us fields fs more f z ef et w =
 pub told_field_unfit : (cs : List Clause) (ks : List (Option Constant)) (values zs ts us : List Term) (fields fs more : List Field) (f : Field) (z : Term) (at : SoftType) (b : Bool) → fs ≡ f ∷ more → ts ≡ z ∷ us → at ≡ type_at values f.ty → IsTrue b ↔ TypeFits cs ks z at → b ≡ false → FieldsFit cs ks values fs ts ↔ FieldsFit cs ks values fields zs → IsTrue false ↔ FieldsFit cs ks values fields zs
 told_field_unfit cs ks values zs ts us fields fs more f z at b ef et ea i eb w =
     let v : FieldsFit cs ks values (f ∷ more) (z ∷ us) ↔ FieldsFit cs ks values fields zs = at_first cs ks values zs ts us fields fs more f z ef et w in
-    (λ x. absurd (not_false x), λ h. absurd (not_both b eb (i.1 (subst (TypeFits cs ks z) (sym ea) (first_fits cs ks values f more z us (v.1 h))))))
+    (λ x. absurd (false≢true x), λ h. absurd (not_both b eb (i.1 (subst (TypeFits cs ks z) (sym ea) (first_fits cs ks values f more z us (v.1 h))))))
 
 pub told_field_fits : (cs : List Clause) (ks : List (Option Constant)) (values zs ts us : List Term) (fields fs more : List Field) (f : Field) (z : Term) (at : SoftType) (b : Bool) → fs ≡ f ∷ more → ts ≡ z ∷ us → at ≡ type_at values f.ty → IsTrue b ↔ TypeFits cs ks z at → b ≡ true → FieldsFit cs ks values fs ts ↔ FieldsFit cs ks values fields zs → FieldsFit cs ks values more us ↔ FieldsFit cs ks values fields zs
 told_field_fits cs ks values zs ts us fields fs more f z at b ef et ea i eb w =
@@ -103,7 +101,7 @@ pub ruleset fields_rules = (told_end, told_fewer, told_field_unfit, told_field_f
 pub told_args_unfit : (cs : List Clause) (ks : List (Option Constant)) (x : Structure) (args ls : List Term) (tys : List SoftType) (n : ℕ) (b : Bool) → n ≡ length x.loci → ls ≡ take n args → tys ≡ x.loci → IsTrue b ↔ LociFit cs ks [] tys ls → b ≡ false → IsTrue false ↔ AggregateFits cs ks x args
 told_args_unfit cs ks x args ls tys n b en el et i eb =
     let e : take (length x.loci) args ≡ ls = ap (λ m. take m args) (sym en) ∙ sym el in
-    (λ h. absurd (not_false h), λ f. absurd (not_both b eb (i.1 (subst (λ (us : List SoftType). LociFit cs ks [] us ls) (sym et) (subst (λ (us : List Term). LociFit cs ks [] x.loci us) e f.loci)))))
+    (λ h. absurd (false≢true h), λ f. absurd (not_both b eb (i.1 (subst (λ (us : List SoftType). LociFit cs ks [] us ls) (sym et) (subst (λ (us : List Term). LociFit cs ks [] x.loci us) e f.loci)))))
 
 pub told_args_fit : (cs : List Clause) (ks : List (Option Constant)) (x : Structure) (args ls zs values : List Term) (tys : List SoftType) (fs : List Field) (n m : ℕ) (a b : Bool) → n ≡ length x.loci → m ≡ length x.loci → ls ≡ take n args → zs ≡ drop m args → tys ≡ x.loci → fs ≡ x.fields → values ≡ given_values x args → IsTrue a ↔ LociFit cs ks [] tys ls → a ≡ true → IsTrue b ↔ FieldsFit cs ks values fs zs → IsTrue b ↔ AggregateFits cs ks x args
 told_args_fit cs ks x args ls zs values tys fs n m a b en em el ez et ef ev i ea j =

@@ -15,12 +15,11 @@ use mz_base::place::Place;
 use mz_context::context::Context;
 use mz_core::outcome::Left;
 use mz_core::statement::Statement;
-use mz_environment::environment::Environment;
 use mz_formulas::sentence::Sentence;
 use mz_justified::proof_fault::ProofFault;
-use mz_obligations::obligation::{Extent, Obligations};
+use mz_justified::walker::{Opening, Walker};
+use mz_obligations::obligation::Obligations;
 use mz_tree_proof::reasoning::{JustTree, StatementTree, Steps};
-use std::alloc::Global;
 
 /// Calls that take reasonings, of which `at` says how much stood above them. Each puts the obligations that it makes behind the
 /// others, in the order of the text, and lowers what the article has left. After a refusal nothing is said of the context, of
@@ -31,9 +30,7 @@ use std::alloc::Global;
 pub trait ProveSteps {
     /// Takes the steps of a proof of the thesis, behind which an `end` stands at the place. The context is as before.
     fn skeleton(
-        alloc: Global,
-        env: &Environment,
-        at: Extent,
+        walker: Walker<'_>,
         ctx: &mut Context,
         thesis: &Statement,
         steps: &Steps,
@@ -41,37 +38,32 @@ pub trait ProveSteps {
         left: &mut Left,
         os: &mut Obligations,
     ) -> Result<(), ProofFault>
-        ensures proves { OnMade result (Brings (Proves env.now at (at_start_of_proof ctx.old thesis.now) (steps_of steps.now) end left.old) left.new os.old os.new) }
+        ensures proves { OnMade result (Brings (Proves walker.env.now walker.at (at_start_of_proof ctx.old thesis.now) (steps_of steps.now) end left.old) left.new os.old os.new) }
         ensures same { OnOk result (ctx.new ≡ ctx.old) };
 
     /// Takes the justification of a sentence, a simple one or a proof, in which its free reserved variables are constants.
     /// `first` is the place of the step's first token, and `behind` that of the token behind the sentence; where it is linked,
     /// the statement just before is in front of what is cited. The context is as before.
     fn justify(
-        alloc: Global,
-        env: &Environment,
-        at: Extent,
+        walker: Walker<'_>,
         ctx: &mut Context,
-        first: Place,
-        linked: bool,
+        opening: Opening,
         behind: Place,
         tree: &JustTree,
         x: &Sentence,
         left: &mut Left,
         os: &mut Obligations,
     ) -> Result<(), ProofFault>
-        ensures justifies { OnMade result (Brings (Justifies env.now at ctx.old first linked behind tree.now x.now left.old) left.new os.old os.new) }
+        ensures justifies { OnMade result (Brings (Justifies walker.env.now walker.at ctx.old opening.first opening.linked behind tree.now x.now left.old) left.new os.old os.new) }
         ensures same { OnOk result (ctx.new ≡ ctx.old) };
 
     /// Takes a statement of the article's own level, and adds what it makes to the context.
     fn statement(
-        alloc: Global,
-        env: &Environment,
-        at: Extent,
+        walker: Walker<'_>,
         ctx: &mut Context,
         tree: &StatementTree,
         left: &mut Left,
         os: &mut Obligations,
     ) -> Result<(), ProofFault>
-        ensures { OnMade result (λ o. (first : Place) × (first_place (spell_statement tree.now) ≡ Some first) × Brings (States env.now at (state ctx.old Proof left.old) first tree.now) (state ctx.new Proof left.new) os.old os.new o) };
+        ensures { OnMade result (λ o. (first : Place) × (first_place (spell_statement tree.now) ≡ Some first) × Brings (States walker.env.now walker.at (state ctx.old Proof left.old) first tree.now) (state ctx.new Proof left.new) os.old os.new o) };
 }

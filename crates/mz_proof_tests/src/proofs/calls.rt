@@ -7,6 +7,7 @@ use mz_context::context::Context;
 use mz_environment::environment::Environment;
 use mz_formulas::sentence::Sentence;
 use mz_justified::proof_fault::ProofFault;
+use mz_justified::walker::{Opening, Walker};
 use mz_names::variable::Variables;
 use mz_obligations::obligation::Obligations;
 use mz_pproof::forms::{ProofForm, ProofTree};
@@ -61,17 +62,12 @@ fn walk_steps(
     let tree = steps(rt, alloc, &tokens);
     let mut left = left_of(alloc, AMPLE);
     let end = tokens.end;
-    let done = Proving::skeleton(
+    let walker = Walker {
         alloc,
         env,
-        NOTHING_ABOVE,
-        ctx,
-        &thesis,
-        &tree,
-        end,
-        &mut left,
-        os,
-    );
+        at: NOTHING_ABOVE,
+    };
+    let done = Proving::skeleton(walker, ctx, &thesis, &tree, end, &mut left, os);
     forget(tokens);
     forget(thesis);
     forget(tree);
@@ -152,13 +148,15 @@ fn walk_justification(
     let mut left = left_of(alloc, AMPLE);
     let first = Place { line: 1, column: 7 };
     let behind = tokens.end;
-    let done = Proving::justify(
+    let walker = Walker {
         alloc,
         env,
-        NOTHING_ABOVE,
+        at: NOTHING_ABOVE,
+    };
+    let done = Proving::justify(
+        walker,
         ctx,
-        first,
-        linked,
+        Opening { first, linked },
         behind,
         &tree,
         &x,

@@ -7,6 +7,7 @@ use mz_core::items::Items;
 use mz_core::outcome::Left;
 use mz_environment::environment::Environment;
 use mz_justified::proof_fault::{ProofFault, ProofRefusal};
+use mz_justified::walker::Walker;
 use mz_logic::texts::push_formula;
 use mz_names::refusal::Refusal;
 use mz_nf::problem::Problem;
@@ -131,7 +132,12 @@ fn walk_one(
     assert!(rt; at <= tokens.items.len());
     let (tree, behind) = proof(alloc, tokens, at, ProofForm::Statement).expect(rt, "a statement");
     let tree = as_statement(rt, tree);
-    let done = Proving::statement(alloc, env, NOTHING_ABOVE, ctx, &tree, left, os);
+    let walker = Walker {
+        alloc,
+        env,
+        at: NOTHING_ABOVE,
+    };
+    let done = Proving::statement(walker, ctx, &tree, left, os);
     forget(tree);
     match done {
         Ok(()) => Ok(behind),
