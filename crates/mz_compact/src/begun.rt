@@ -35,7 +35,7 @@ fn fit_compact(
     p: &PropositionTree,
     x: Box<Compact>,
 ) -> Result<Begun, ProofFault>
-    ensures { OnMade result (FitsCompact walker.env.now ctx.now block.now first concluded p.now x.value) }
+    ensures { OnMade result (FitsCompact walker.entry.env.now ctx.now block.now first concluded p.now x.value) }
 {
     let stated = stated_under(walker.alloc, &p.label, &x.said.states)?;
     let step = step_of(walker.alloc, concluded, &x.said.states)?;
@@ -69,7 +69,7 @@ pub fn begin(
     semicolon: Place,
     left: &mut Left,
 ) -> Result<Begun, ProofFault>
-    ensures begins { OnMade result (Begins walker.env.now ctx.old block.now opening.first opening.linked concluded p.now just.now sides.now semicolon left.old left.new) }
+    ensures begins { OnMade result (Begins walker.entry.env.now ctx.old block.now opening.first opening.linked concluded p.now just.now sides.now semicolon left.old left.new) }
     ensures same { ctx.new ≡ ctx.old }
 {
     if !is_linked(opening.linked, ctx) {

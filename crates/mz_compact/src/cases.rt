@@ -26,7 +26,7 @@ pub fn begin_case(
     left: &mut Left,
     suppositions: &mut Statements,
 ) -> Result<Outside, ProofFault>
-    ensures { OnMade result (Supposing walker.env.now ctx.old ctx.new first tree.now left.old left.new suppositions.old suppositions.new) }
+    ensures { OnMade result (Supposing walker.entry.env.now ctx.old ctx.new first tree.now left.old left.new suppositions.old suppositions.new) }
 {
     match read_hypotheses(walker.alloc, walker.env, ctx, 0, tree, left) {
         Ok(ps) => match join(walker.alloc, first, &ps)? {

@@ -41,7 +41,7 @@ fn read_equality(
     sides: &[EqualityStepTree],
     left: &mut Left,
 ) -> Result<Said, ProofFault>
-    ensures reads { OnMade result (λ o. EqualityRead walker.env.now ctx.old first left.old s.now sides.now o left.new) }
+    ensures reads { OnMade result (λ o. EqualityRead walker.entry.env.now ctx.old first left.old s.now sides.now o left.new) }
     ensures same { ctx.new ≡ ctx.old }
 {
     match read_sides(walker.alloc, walker.env, ctx, 0, &s.variables, sides, left) {
@@ -66,7 +66,7 @@ fn read_iterative(
     sides: &[EqualityStepTree],
     left: &mut Left,
 ) -> Result<Compact, ProofFault>
-    ensures reads { OnMade result (λ o. SaidBy walker.env.now ctx.old first left.old s sides.now o left.new) }
+    ensures reads { OnMade result (λ o. SaidBy walker.entry.env.now ctx.old first left.old s sides.now o left.new) }
     ensures same { ctx.new ≡ ctx.old }
 {
     match read_equality(walker, ctx, first, &s, sides, left) {
@@ -88,7 +88,7 @@ pub fn read_compact(
     sides: &[EqualityStepTree],
     left: &mut Left,
 ) -> Result<Compact, ProofFault>
-    ensures reads { OnMade result (λ o. CompactRead walker.env.now ctx.old first left.old tree.now sides.now o left.new) }
+    ensures reads { OnMade result (λ o. CompactRead walker.entry.env.now ctx.old first left.old tree.now sides.now o left.new) }
     ensures same { ctx.new ≡ ctx.old }
 {
     match sentence(walker.alloc, walker.env, ctx, 0, &tree.formula, left) {

@@ -59,7 +59,7 @@ fn ungrounded(
     place: Place,
     tree: &SimpleTree,
 ) -> Result<Option<ProofRefusal>, AllocError>
-    ensures { IfOk result (λ o. o ≡ ungrounded walker.env.now ctx.now count place tree.now) }
+    ensures { IfOk result (λ o. o ≡ ungrounded walker.entry.env.now ctx.now count place tree.now) }
 {
     if count == 0 {
         return Ok(Some(ProofRefusal::TooManyObligations(place)));
@@ -83,7 +83,7 @@ fn told_of_sides(
     sides: &[EqualityStepTree],
     r: ProofRefusal,
 ) -> Result<ProofRefusal, AllocError>
-    ensures { IfOk result (λ o. o ≡ told_of_sides walker.env.now ctx.now semicolon count sides.now r) }
+    ensures { IfOk result (λ o. o ≡ told_of_sides walker.entry.env.now ctx.now semicolon count sides.now r) }
 {
     let mut rest = sides;
     let mut n = count;
@@ -114,7 +114,7 @@ fn told_from(
     sides: &[EqualityStepTree],
     r: ProofRefusal,
 ) -> Result<ProofRefusal, AllocError>
-    ensures { IfOk result (λ o. o ≡ told_first walker.env.now ctx.now semicolon count (SimpleJust tree.now) sides.now r) }
+    ensures { IfOk result (λ o. o ≡ told_first walker.entry.env.now ctx.now semicolon count (SimpleJust tree.now) sides.now r) }
 {
     let place = place_of(place_behind(sides, semicolon), tree);
     if !is_before(place, place_refused(r)) {
@@ -137,7 +137,7 @@ pub fn told_first(
     sides: &[EqualityStepTree],
     r: ProofRefusal,
 ) -> Result<ProofRefusal, AllocError>
-    ensures { IfOk result (λ o. o ≡ told_first walker.env.now ctx.now semicolon count just.now sides.now r) }
+    ensures { IfOk result (λ o. o ≡ told_first walker.entry.env.now ctx.now semicolon count just.now sides.now r) }
 {
     match &just.node {
         JustNode::Simple(t) => told_from(walker, ctx, semicolon, count, t, sides, r),
@@ -156,7 +156,7 @@ pub fn tell(
     sides: &[EqualityStepTree],
     f: ProofFault,
 ) -> ProofFault
-    ensures { ToldAs (told_first walker.env.now ctx.now semicolon count just.now sides.now) f result }
+    ensures { ToldAs (told_first walker.entry.env.now ctx.now semicolon count just.now sides.now) f result }
 {
     match f {
         ProofFault::Memory => ProofFault::Memory,

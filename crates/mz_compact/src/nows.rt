@@ -34,7 +34,7 @@ fn say(
     label: &Option<LabelTree>,
     s: &Statement,
 ) -> Result<(), ProofFault>
-    ensures { (l : Left) → OnMade result (λ o. Performs walker.env.now first (state ctx.old block.old l) (step_of concluded s.now) (stated_under (label_in label.now) s.now ∷ []) (reached o (state ctx.new block.new l))) }
+    ensures { (l : Left) → OnMade result (λ o. Performs walker.entry.env.now first (state ctx.old block.old l) (step_of concluded s.now) (stated_under (label_in label.now) s.now ∷ []) (reached o (state ctx.new block.new l))) }
 {
     let stated = stated_under(walker.alloc, label, s)?;
     let step = step_of(walker.alloc, concluded, s)?;
@@ -53,7 +53,7 @@ pub fn state_now(
     label: &Option<LabelTree>,
     inside: &Block,
 ) -> Result<(), ProofFault>
-    ensures { (l : Left) → OnMade result (λ o. StatesNow walker.env.now first (state ctx.old block.old l) concluded (label_in label.now) inside.now (reached o (state ctx.new block.new l))) }
+    ensures { (l : Left) → OnMade result (λ o. StatesNow walker.entry.env.now first (state ctx.old block.old l) concluded (label_in label.now) inside.now (reached o (state ctx.new block.new l))) }
 {
     match stated_in(walker.alloc, inside)? {
         None => Err(ProofFault::Refused(ProofRefusal::Resolve(Refusal::TooLarge(first)))),

@@ -37,7 +37,7 @@ pub fn justify_sides(
     os: &mut Obligations,
 ) -> Result<(), ProofFault>
     requires { length ss.now ≡ length sides.now }
-    ensures { OnMade result (Brings (λ o. JustifiesSides walker.env.now walker.at ctx.now first semicolon sides.now ss.now left.old o) left.new os.old os.new) }
+    ensures { OnMade result (Brings (λ o. JustifiesSides walker.entry.env.now walker.entry.at ctx.now first semicolon sides.now ss.now left.old o) left.new os.old os.new) }
 {
     let opening = Opening {
         first,

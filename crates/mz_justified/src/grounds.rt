@@ -86,7 +86,7 @@ pub fn ground(
     tree: &SimpleTree,
     left: &mut Left,
 ) -> Result<Statements, ProofFault>
-    ensures { OnMade result (λ o. Grounds walker.env.now ctx.now opening.first opening.linked behind tree.now left.old o left.new) }
+    ensures { OnMade result (λ o. Grounds walker.entry.env.now ctx.now opening.first opening.linked behind tree.now left.old o left.new) }
 {
     if !follows(opening.linked, ctx) {
         return Err(ProofFault::Refused(ProofRefusal::StepNoFit(opening.first)));

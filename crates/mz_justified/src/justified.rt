@@ -51,7 +51,7 @@ fn owed(
     s: &Statement,
     place: Place,
 ) -> Result<Obligation, AllocError>
-    ensures { IfOk result (λ o. Owes walker.env.now walker.at ctx.now given.now s.now place o) }
+    ensures { IfOk result (λ o. Owes walker.entry.env.now walker.entry.at ctx.now given.now s.now place o) }
 {
     let letters = letters_clauses(walker.alloc, &ctx.letters)?;
     match typing(walker.alloc, walker.env, ctx)? {
@@ -96,7 +96,7 @@ pub fn oblige(
     place: Place,
     os: &mut Obligations,
 ) -> Result<(), AllocError>
-    ensures { OnOk result (IsPut (Owes walker.env.now walker.at ctx.now given.now s.now place) os.old os.new) }
+    ensures { OnOk result (IsPut (Owes walker.entry.env.now walker.entry.at ctx.now given.now s.now place) os.old os.new) }
 {
     let o = owed(walker, ctx, given, s, place)?;
     os.push(o)
@@ -119,7 +119,7 @@ pub fn justify_simply(
     left: &mut Left,
     os: &mut Obligations,
 ) -> Result<(), ProofFault>
-    ensures { OnMade result (Put (λ o. Justified walker.env.now walker.at ctx.now opening.first opening.linked behind tree.now s.now left.old o left.new) os.old os.new) }
+    ensures { OnMade result (Put (λ o. Justified walker.entry.env.now walker.entry.at ctx.now opening.first opening.linked behind tree.now s.now left.old o left.new) os.old os.new) }
 {
     match ground(walker, ctx, opening, behind, tree, left) {
         Ok(given) => {

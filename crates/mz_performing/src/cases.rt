@@ -80,7 +80,7 @@ fn oblige_cases(
     inner: Obligations,
     os: &mut Obligations,
 ) -> Result<(), AllocError>
-    ensures { OnOk result (IsPutFirst (Owes walker.env.now walker.at ctx.now given.now s.now (place_of tree.now.semicolon tree.now.simple)) inner os.old os.new) }
+    ensures { OnOk result (IsPutFirst (Owes walker.entry.env.now walker.entry.at ctx.now given.now s.now (place_of tree.now.semicolon tree.now.simple)) inner os.old os.new) }
 {
     let place = place_of(tree.semicolon, &tree.simple);
     oblige(walker, ctx, given, s, place, os)?;
@@ -100,7 +100,7 @@ pub fn end_split(
     inner: Obligations,
     os: &mut Obligations,
 ) -> Result<(), ProofFault>
-    ensures { OnMade result (SplitEnds walker.env.now walker.at ctx.old ctx.new first tree.now given.now suppositions inner os.old os.new) }
+    ensures { OnMade result (SplitEnds walker.entry.env.now walker.entry.at ctx.old ctx.new first tree.now given.now suppositions inner os.old os.new) }
 {
     match disjunction_of(walker.alloc, first, suppositions)? {
         Ok(s) => {

@@ -71,7 +71,7 @@ fn oblige_each(
     place: Place,
     os: &mut Obligations,
 ) -> Result<(), AllocError>
-    ensures { OnOk result (IsBrought (OwesEach walker.env.now walker.at ctx.now given.now place ss.now) os.old os.new) }
+    ensures { OnOk result (IsBrought (OwesEach walker.entry.env.now walker.entry.at ctx.now given.now place ss.now) os.old os.new) }
 {
     let mut rest = ss;
     while let Some((s, others)) = rest.split_first() {
@@ -96,7 +96,7 @@ fn justify_each(
     left: &mut Left,
     os: &mut Obligations,
 ) -> Result<(), ProofFault>
-    ensures { OnMade result (Brings (λ o. JustifiesEach walker.env.now walker.at ctx.now opening.first opening.linked behind tree.now ss.now left.old o) left.new os.old os.new) }
+    ensures { OnMade result (Brings (λ o. JustifiesEach walker.entry.env.now walker.entry.at ctx.now opening.first opening.linked behind tree.now ss.now left.old o) left.new os.old os.new) }
 {
     match ss.items.as_slice().split_first() {
         None => Ok(()),
@@ -128,7 +128,7 @@ fn justify_existential(
     left: &mut Left,
     os: &mut Obligations,
 ) -> Result<(), ProofFault>
-    ensures { OnMade result (Put (λ o. Justified walker.env.now walker.at ctx.now first (is_some tree.now.then) tree.now.semicolon tree.now.simple (there_are (next ctx.now) d.now.variables d.now.statement) left.old o left.new) os.old os.new) }
+    ensures { OnMade result (Put (λ o. Justified walker.entry.env.now walker.entry.at ctx.now first (is_some tree.now.then) tree.now.semicolon tree.now.simple (there_are (next ctx.now) d.now.variables d.now.statement) left.old o left.new) os.old os.new) }
 {
     let s = existential(walker.alloc, ctx, &d.variables, &d.statement)?;
     let opening = Opening {
@@ -148,7 +148,7 @@ fn consider(
     first: Place,
     d: Description,
 ) -> Result<(), ProofFault>
-    ensures { (l : Left) → OnMade result (λ o. Performs walker.env.now first (state ctx.old block.old l) (read.Consider d.variables d.statement) d.propositions (reached o (state ctx.new block.new l))) }
+    ensures { (l : Left) → OnMade result (λ o. Performs walker.entry.env.now first (state ctx.old block.old l) (read.Consider d.variables d.statement) d.propositions (reached o (state ctx.new block.new l))) }
 {
     let step = ReadStep::Consider(d.variables, d.statement);
     perform(
@@ -173,7 +173,7 @@ fn considers(
     left: &mut Left,
     os: &mut Obligations,
 ) -> Result<(), ProofFault>
-    ensures { OnMade result (Brings (λ o. Considers walker.env.now walker.at first (state ctx.old block.old left.old) tree.now o) (state ctx.new block.new left.new) os.old os.new) }
+    ensures { OnMade result (Brings (λ o. Considers walker.entry.env.now walker.entry.at first (state ctx.old block.old left.old) tree.now o) (state ctx.new block.new left.new) os.old os.new) }
 {
     if !is_linked(tree.then.is_some(), ctx) {
         return Err(ProofFault::Refused(ProofRefusal::StepNoFit(first)));
@@ -228,7 +228,7 @@ fn reconsider(
     left: &mut Left,
     os: &mut Obligations,
 ) -> Result<(), ProofFault>
-    ensures { OnMade result (Brings (λ o. Retypes walker.env.now walker.at first (state ctx.old block.old left.old) tree.now ds.now o) (state ctx.new block.new left.new) os.old os.new) }
+    ensures { OnMade result (Brings (λ o. Retypes walker.entry.env.now walker.entry.at first (state ctx.old block.old left.old) tree.now ds.now o) (state ctx.new block.new left.new) os.old os.new) }
 {
     match types_owed(walker.alloc, ds)? {
         None => Err(ProofFault::Refused(ProofRefusal::Resolve(Refusal::TooLarge(first)))),
@@ -260,7 +260,7 @@ fn reconsiders(
     left: &mut Left,
     os: &mut Obligations,
 ) -> Result<(), ProofFault>
-    ensures { OnMade result (Brings (λ o. Reconsiders walker.env.now walker.at first (state ctx.old block.old left.old) tree.now o) (state ctx.new block.new left.new) os.old os.new) }
+    ensures { OnMade result (Brings (λ o. Reconsiders walker.entry.env.now walker.entry.at first (state ctx.old block.old left.old) tree.now o) (state ctx.new block.new left.new) os.old os.new) }
 {
     if !is_linked(tree.then.is_some(), ctx) {
         return Err(ProofFault::Refused(ProofRefusal::StepNoFit(first)));
@@ -289,7 +289,7 @@ fn set_one(
     tree: &NamedTermTree,
     left: &mut Left,
 ) -> Result<(), ProofFault>
-    ensures { OnMade result (λ o. SetsOne walker.env.now first (state ctx.old block.old left.old) tree.now (reached o (state ctx.new block.new left.new))) }
+    ensures { OnMade result (λ o. SetsOne walker.entry.env.now first (state ctx.old block.old left.old) tree.now (reached o (state ctx.new block.new left.new))) }
 {
     match read_named(walker.alloc, walker.env, ctx, 0, tree, left) {
         Ok(d) => perform_alone(
@@ -314,7 +314,7 @@ fn set_each(
     trees: &[Next<Comma, NamedTermTree>],
     left: &mut Left,
 ) -> Result<(), ProofFault>
-    ensures { OnMade result (λ o. OneByOne (SetsOne walker.env.now first) (state ctx.old block.old left.old) (map tree_of trees.now) (reached o (state ctx.new block.new left.new))) }
+    ensures { OnMade result (λ o. OneByOne (SetsOne walker.entry.env.now first) (state ctx.old block.old left.old) (map tree_of trees.now) (reached o (state ctx.new block.new left.new))) }
 {
     let mut rest = trees;
     while let Some((next, others)) = rest.split_first() {
@@ -336,7 +336,7 @@ fn set_all(
     trees: &Separated<NamedTermTree>,
     left: &mut Left,
 ) -> Result<(), ProofFault>
-    ensures { OnMade result (λ o. OneByOne (SetsOne walker.env.now first) (state ctx.old block.old left.old) (members trees.now) (reached o (state ctx.new block.new left.new))) }
+    ensures { OnMade result (λ o. OneByOne (SetsOne walker.entry.env.now first) (state ctx.old block.old left.old) (members trees.now) (reached o (state ctx.new block.new left.new))) }
 {
     match set_one(walker, ctx, block, first, &trees.first, left) {
         Ok(()) => set_each(walker, ctx, block, first, trees.more.items.as_slice(), left),
@@ -357,7 +357,7 @@ pub fn introduce(
     left: &mut Left,
     os: &mut Obligations,
 ) -> Result<(), ProofFault>
-    ensures { OnMade result (Brings (λ o. Introduces walker.env.now walker.at first (state ctx.old block.old left.old) tree.now o) (state ctx.new block.new left.new) os.old os.new) }
+    ensures { OnMade result (Brings (λ o. Introduces walker.entry.env.now walker.entry.at first (state ctx.old block.old left.old) tree.now o) (state ctx.new block.new left.new) os.old os.new) }
 {
     match tree {
         IntroductionTree::Consider(t) => { considers(walker, ctx, block, first, t, left, os) }

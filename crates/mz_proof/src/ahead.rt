@@ -42,7 +42,7 @@ fn read_case(
     left: &mut Left,
     out: &mut Statements,
 ) -> Result<bool, AllocError>
-    ensures reads { IfOk result (λ b. ReadsCase walker.env.now ctx.old tree.now left.old left.new out.old out.new b) }
+    ensures reads { IfOk result (λ b. ReadsCase walker.entry.env.now ctx.old tree.now left.old left.new out.old out.new b) }
     ensures same { OnOk result (ctx.new ≡ ctx.old) }
 {
     let (_, hypotheses, _, _, _, _) = case_parts(tree);
@@ -69,7 +69,7 @@ fn read_cases(
     left: &mut Left,
     out: &mut Statements,
 ) -> Result<bool, AllocError>
-    ensures reads { IfOk result (λ b. ReadsCases walker.env.now ctx.old (more_supposes case.now (supposes_of more.now)) left.old out.old out.new b) }
+    ensures reads { IfOk result (λ b. ReadsCases walker.entry.env.now ctx.old (more_supposes case.now (supposes_of more.now)) left.old out.old out.new b) }
     ensures same { OnOk result (ctx.new ≡ ctx.old) }
 {
     if !read_case(walker, ctx, case, left, out)? {
@@ -103,7 +103,7 @@ fn read_ahead(
     left: &Left,
     out: &mut Statements,
 ) -> Result<bool, AllocError>
-    ensures reads { IfOk result (λ b. ReadsCases walker.env.now ctx.old (more_supposes case.now (supposes_of more.now)) (nodes_alone left.now) out.old out.new b) }
+    ensures reads { IfOk result (λ b. ReadsCases walker.entry.env.now ctx.old (more_supposes case.now (supposes_of more.now)) (nodes_alone left.now) out.old out.new b) }
     ensures same { OnOk result (ctx.new ≡ ctx.old) }
 {
     let mut ahead = nodes_alone(walker.alloc, left);
@@ -123,7 +123,7 @@ pub fn foresee(
     more: &SupposeTrees,
     left: &Left,
 ) -> Result<(), ProofFault>
-    ensures foresees { OnMade result (λ o. Foresees walker.env.now opening.first ctx.old left.now opening.linked (more_supposes case.now (supposes_of more.now)) (told_ahead o)) }
+    ensures foresees { OnMade result (λ o. Foresees walker.entry.env.now opening.first ctx.old left.now opening.linked (more_supposes case.now (supposes_of more.now)) (told_ahead o)) }
     ensures same { OnOk result (ctx.new ≡ ctx.old) }
 {
     if !is_linked(opening.linked, ctx) {

@@ -36,7 +36,7 @@ pub fn skeleton(
     left: &mut Left,
     os: &mut Obligations,
 ) -> Result<(), ProofFault>
-    ensures proves { OnMade result (Brings (Proves walker.env.now walker.at (at_start_of_proof ctx.old thesis.now) (steps_of steps.now) end left.old) left.new os.old os.new) }
+    ensures proves { OnMade result (Brings (Proves walker.entry.env.now walker.entry.at (at_start_of_proof ctx.old thesis.now) (steps_of steps.now) end left.old) left.new os.old os.new) }
     ensures same { OnOk result (ctx.new ≡ ctx.old) }
 {
     let thesis = thesis.copy(walker.alloc)?;
@@ -59,7 +59,7 @@ pub fn statement(
     left: &mut Left,
     os: &mut Obligations,
 ) -> Result<(), ProofFault>
-    ensures { OnMade result (λ o. (first : Place) × (first_place (spell_statement tree.now) ≡ Some first) × Brings (States walker.env.now walker.at (state ctx.old Proof left.old) first tree.now) (state ctx.new Proof left.new) os.old os.new o) }
+    ensures { OnMade result (λ o. (first : Place) × (first_place (spell_statement tree.now) ≡ Some first) × Brings (States walker.entry.env.now walker.entry.at (state ctx.old Proof left.old) first tree.now) (state ctx.new Proof left.new) os.old os.new o) }
 {
     let first = tree.first_place();
     let mut block = Block::Proof;

@@ -60,7 +60,7 @@ pub fn justify(
     left: &mut Left,
     os: &mut Obligations,
 ) -> Result<(), ProofFault>
-    ensures justifies { OnMade result (Brings (Justifies walker.env.now walker.at ctx.old opening.first opening.linked behind tree.now x.now left.old) left.new os.old os.new) }
+    ensures justifies { OnMade result (Brings (Justifies walker.entry.env.now walker.entry.at ctx.old opening.first opening.linked behind tree.now x.now left.old) left.new os.old os.new) }
     ensures same { OnOk result (ctx.new ≡ ctx.old) }
 {
     match &tree.node {
@@ -89,7 +89,7 @@ pub fn prove(
     left: &mut Left,
     os: &mut Obligations,
 ) -> Result<(), ProofFault>
-    ensures proves { OnMade result (Brings (Proves walker.env.now walker.at ctx.old (steps_of steps.now) end left.old) left.new os.old os.new) }
+    ensures proves { OnMade result (Brings (Proves walker.entry.env.now walker.entry.at ctx.old (steps_of steps.now) end left.old) left.new os.old os.new) }
     ensures grows { OnOk result (Grew ctx.old ctx.new) }
 {
     let mut block = Block::Proof;
@@ -123,7 +123,7 @@ fn say(
     left: &mut Left,
     os: &mut Obligations,
 ) -> Result<(), ProofFault>
-    ensures { OnMade result (Brings (Says walker.env.now walker.at (state ctx.old block.old left.old) opening.first opening.linked concluded tree.now) (state ctx.new block.new left.new) os.old os.new) }
+    ensures { OnMade result (Brings (Says walker.entry.env.now walker.entry.at (state ctx.old block.old left.old) opening.first opening.linked concluded tree.now) (state ctx.new block.new left.new) os.old os.new) }
 {
     let (p, just, sides, semicolon) = stated_parts(tree);
     let ks = sides.items.as_slice();
@@ -162,7 +162,7 @@ fn say_now(
     left: &mut Left,
     os: &mut Obligations,
 ) -> Result<(), ProofFault>
-    ensures { OnMade result (Brings (SaysNow walker.env.now walker.at (state ctx.old block.old left.old) first concluded (label_in label.now) (steps_of steps.now)) (state ctx.new block.new left.new) os.old os.new) }
+    ensures { OnMade result (Brings (SaysNow walker.entry.env.now walker.entry.at (state ctx.old block.old left.old) first concluded (label_in label.now) (steps_of steps.now)) (state ctx.new block.new left.new) os.old os.new) }
 {
     let aside = begin_now(walker.alloc, ctx)?;
     let outside = Box::new(walker.alloc, aside)?;
@@ -187,7 +187,7 @@ pub fn state(
     left: &mut Left,
     os: &mut Obligations,
 ) -> Result<(), ProofFault>
-    ensures { OnMade result (Brings (States walker.env.now walker.at (state ctx.old block.old left.old) first tree.now) (state ctx.new block.new left.new) os.old os.new) }
+    ensures { OnMade result (Brings (States walker.entry.env.now walker.entry.at (state ctx.old block.old left.old) first tree.now) (state ctx.new block.new left.new) os.old os.new) }
 {
     match &tree.node {
         StatementNode::Compact(then, t) => {
@@ -215,7 +215,7 @@ fn go(
     left: &mut Left,
     os: &mut Obligations,
 ) -> Result<(), ProofFault>
-    ensures { OnMade result (Brings (Goes walker.env.now walker.at (state ctx.old block.old left.old) first tree.now) (state ctx.new block.new left.new) os.old os.new) }
+    ensures { OnMade result (Brings (Goes walker.entry.env.now walker.entry.at (state ctx.old block.old left.old) first tree.now) (state ctx.new block.new left.new) os.old os.new) }
 {
     match &tree.node {
         StepNode::Statement(t) => state(walker, ctx, block, first, t, left, os),
@@ -260,7 +260,7 @@ fn split(
     left: &mut Left,
     os: &mut Obligations,
 ) -> Result<(), ProofFault>
-    ensures { OnMade result (Brings (Splits walker.env.now walker.at (state ctx.old block.now left.old) first tree.now (more_supposes case.now (supposes_of more.now))) (state ctx.new block.now left.new) os.old os.new) }
+    ensures { OnMade result (Brings (Splits walker.entry.env.now walker.entry.at (state ctx.old block.now left.old) first tree.now (more_supposes case.now (supposes_of more.now))) (state ctx.new block.now left.new) os.old os.new) }
 {
     let opening = Opening {
         first,
@@ -295,7 +295,7 @@ fn suppose_all(
     os: &mut Obligations,
     ss: &mut Statements,
 ) -> Result<(), ProofFault>
-    ensures supposes { OnMade result (TakesCases (Supposes walker.env.now walker.at ctx.old (more_supposes case.now (supposes_of more.now)) left.old) left.new ss.old ss.new os.old os.new) }
+    ensures supposes { OnMade result (TakesCases (Supposes walker.entry.env.now walker.entry.at ctx.old (more_supposes case.now (supposes_of more.now)) left.old) left.new ss.old ss.new os.old os.new) }
     ensures same { OnOk result (ctx.new ≡ ctx.old) }
 {
     match suppose(walker, ctx, case, left, os, ss) {
@@ -321,7 +321,7 @@ fn suppose(
     os: &mut Obligations,
     ss: &mut Statements,
 ) -> Result<(), ProofFault>
-    ensures supposes { OnMade result (TakesCase walker.env.now walker.at ctx.old tree.now left.old left.new ss.old ss.new os.old os.new) }
+    ensures supposes { OnMade result (TakesCase walker.entry.env.now walker.entry.at ctx.old tree.now left.old left.new ss.old ss.new os.old os.new) }
     ensures same { OnOk result (ctx.new ≡ ctx.old) }
 {
     let (first, hypotheses, _, steps, end, _) = case_parts(tree);
@@ -349,7 +349,7 @@ fn go_all(
     left: &mut Left,
     os: &mut Obligations,
 ) -> Result<(), ProofFault>
-    ensures { OnMade result (Brings (GoesAll walker.env.now walker.at (state ctx.old block.old left.old) (steps_of steps.now)) (state ctx.new block.new left.new) os.old os.new) }
+    ensures { OnMade result (Brings (GoesAll walker.entry.env.now walker.entry.at (state ctx.old block.old left.old) (steps_of steps.now)) (state ctx.new block.new left.new) os.old os.new) }
 {
     for step in &steps.items {
         let first = step.first_place();

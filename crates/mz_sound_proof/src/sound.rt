@@ -22,7 +22,7 @@ pub fn proof<P: ProveSteps>(
     end: Place,
     left: &mut Left,
 ) -> Result<Obligations, ProofFault>
-    ensures { IfOk result (λ os. IsProved walker.env.now ctx.old thesis.now os) }
+    ensures { IfOk result (λ os. IsProved walker.entry.env.now ctx.old thesis.now os) }
 {
     let mut os = Obligations::new(walker.alloc);
     match P::skeleton(walker, ctx, thesis, steps, end, left, &mut os) {
@@ -41,7 +41,7 @@ pub fn justification<P: ProveSteps>(
     x: &Sentence,
     left: &mut Left,
 ) -> Result<Obligations, ProofFault>
-    ensures { IfOk result (λ os. IsJustified walker.env.now ctx.old x.now os) }
+    ensures { IfOk result (λ os. IsJustified walker.entry.env.now ctx.old x.now os) }
 {
     let mut os = Obligations::new(walker.alloc);
     match P::justify(walker, ctx, opening, behind, tree, x, left, &mut os) {
@@ -58,7 +58,7 @@ pub fn statement<P: ProveSteps>(
     tree: &StatementTree,
     left: &mut Left,
 ) -> Result<Obligations, ProofFault>
-    ensures { IfOk result (λ os. IsStated walker.env.now ctx.old ctx.new os) }
+    ensures { IfOk result (λ os. IsStated walker.entry.env.now ctx.old ctx.new os) }
 {
     let mut os = Obligations::new(walker.alloc);
     match P::statement(walker, ctx, tree, left, &mut os) {

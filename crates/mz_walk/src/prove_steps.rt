@@ -38,7 +38,7 @@ pub trait ProveSteps {
         left: &mut Left,
         os: &mut Obligations,
     ) -> Result<(), ProofFault>
-        ensures proves { OnMade result (Brings (Proves walker.env.now walker.at (at_start_of_proof ctx.old thesis.now) (steps_of steps.now) end left.old) left.new os.old os.new) }
+        ensures proves { OnMade result (Brings (Proves walker.entry.env.now walker.entry.at (at_start_of_proof ctx.old thesis.now) (steps_of steps.now) end left.old) left.new os.old os.new) }
         ensures same { OnOk result (ctx.new ≡ ctx.old) };
 
     /// Takes the justification of a sentence, a simple one or a proof, in which its free reserved variables are constants.
@@ -54,7 +54,7 @@ pub trait ProveSteps {
         left: &mut Left,
         os: &mut Obligations,
     ) -> Result<(), ProofFault>
-        ensures justifies { OnMade result (Brings (Justifies walker.env.now walker.at ctx.old opening.first opening.linked behind tree.now x.now left.old) left.new os.old os.new) }
+        ensures justifies { OnMade result (Brings (Justifies walker.entry.env.now walker.entry.at ctx.old opening.first opening.linked behind tree.now x.now left.old) left.new os.old os.new) }
         ensures same { OnOk result (ctx.new ≡ ctx.old) };
 
     /// Takes a statement of the article's own level, and adds what it makes to the context.
@@ -65,5 +65,5 @@ pub trait ProveSteps {
         left: &mut Left,
         os: &mut Obligations,
     ) -> Result<(), ProofFault>
-        ensures { OnMade result (λ o. (first : Place) × (first_place (spell_statement tree.now) ≡ Some first) × Brings (States walker.env.now walker.at (state ctx.old Proof left.old) first tree.now) (state ctx.new Proof left.new) os.old os.new o) };
+        ensures { OnMade result (λ o. (first : Place) × (first_place (spell_statement tree.now) ≡ Some first) × Brings (States walker.entry.env.now walker.entry.at (state ctx.old Proof left.old) first tree.now) (state ctx.new Proof left.new) os.old os.new o) };
 }
