@@ -1,0 +1,4 @@
+pub mod FollowLemmas
+pub mod InstanceMaps
+pub mod InForce
+pub mod Letterless
