@@ -1,0 +1,3 @@
+pub mod SwapLemmas
+pub mod BackLemmas
+pub mod ClosingProofs

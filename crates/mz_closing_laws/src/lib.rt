@@ -1,0 +1,4 @@
+//! Laws of what is stated at loci.
+#![tactic(auto)]
+
+pub mod laws;

@@ -1,0 +1,4 @@
+//! The conditions that an item owes.
+#![tactic(auto)]
+
+pub mod owed;
