@@ -131,10 +131,8 @@ fn justify_existential(
     ensures { OnMade result (Put (λ o. Justified walker.entry.env.now walker.entry.at ctx.now first (is_some tree.now.then) tree.now.semicolon tree.now.simple (there_are (next ctx.now) d.now.variables d.now.statement) left.old o left.new) os.old os.new) }
 {
     let s = existential(walker.alloc, ctx, &d.variables, &d.statement)?;
-    let opening = Opening {
-        first,
-        linked: tree.then.is_some(),
-    };
+    let linked = tree.then.is_some();
+    let opening = Opening { first, linked };
     let behind = tree.semicolon;
     justify_simply(walker, ctx, opening, behind, &tree.simple, &s, left, os)
 }
@@ -233,10 +231,8 @@ fn reconsider(
     match types_owed(walker.alloc, ds)? {
         None => Err(ProofFault::Refused(ProofRefusal::Resolve(Refusal::TooLarge(first)))),
         Some(ss) => {
-            let opening = Opening {
-                first,
-                linked: tree.then.is_some(),
-            };
+            let linked = tree.then.is_some();
+            let opening = Opening { first, linked };
             let behind = tree.semicolon;
             match justify_each(walker, ctx, opening, behind, &tree.simple, &ss, left, os) {
                 Ok(()) => {

@@ -262,10 +262,8 @@ fn split(
 ) -> Result<(), ProofFault>
     ensures { OnMade result (Brings (Splits walker.entry.env.now walker.entry.at (state ctx.old block.now left.old) first tree.now (more_supposes case.now (supposes_of more.now))) (state ctx.new block.now left.new) os.old os.new) }
 {
-    let opening = Opening {
-        first,
-        linked: tree.then.is_some(),
-    };
+    let linked = tree.then.is_some();
+    let opening = Opening { first, linked };
     match foresee(walker, ctx, opening, case, more, left) {
         Ok(()) => {}
         Err(f) => return Err(f),

@@ -36,7 +36,7 @@ abbrev pub decreases-go_all : goal.decreases-go_all
 decreases-go_all l = 4 * step_sizes l.steps.now
 
 abbrev pub invariant-go_all-loop-step : goal.invariant-go_all-loop-step
-invariant-go_all-loop-step l = Going l.env l.at (state l.ctx l.block l.left) (drop l.step-index l.step-items) l.os (state l.fn.ctx l.fn.block l.fn.left) l.steps l.fn.os
+invariant-go_all-loop-step l = Going l.walker.env.now l.walker.at (state l.ctx l.block l.left) (drop l.step-index l.step-items) l.os (state l.fn.ctx l.fn.block l.fn.left) l.steps l.fn.os
 
 abbrev pub invariant-suppose_all-loop-t : goal.invariant-suppose_all-loop-t
-invariant-suppose_all-loop-t l = CasingAt l.env l.at l.ctx (drop l.t-index l.t-items) l.left l.ss l.os l.fn.ctx (more_supposes l.case (supposes_of l.more)) l.fn.left l.fn.ss l.fn.os
+invariant-suppose_all-loop-t l = CasingAt l.walker.env.now l.walker.at l.ctx (drop l.t-index l.t-items) l.left l.ss l.os l.fn.ctx (more_supposes l.case (supposes_of l.more)) l.fn.left l.fn.ss l.fn.os
