@@ -97,3 +97,22 @@ pub visible_good : (least : ℕ) (ks : List (Option Constant)) (left right : Lis
 visible_good least ks left right v e =
     wanted_good least ks (both_sides (loci_named ks left) (loci_named ks right)) v
     (λ u is. sides_within (length ks) (loci_named ks left) (loci_named ks right) u (named_within ks left) (named_within ks right) is) e
+
+-- where one identifier stands behind the symbol, one place does
+
+alone_so : (o : Option ℕ) (ns : List ℕ) → place_behind o (Some []) ≡ Some ns → (n : ℕ) × (ns ≡ n ∷ [])
+alone_so None ns e = absurd (none_some ns e)
+alone_so (Some n) ns e = (n, sym (some-inj (n ∷ []) ns e))
+
+right_so : (l r : Option (List ℕ)) (v : Visible) → both_sides l r ≡ Some v → r ≡ Some v.right
+right_so None r v e = absurd (none_some v e)
+right_so (Some ls) None v e = absurd (none_some v e)
+right_so (Some ls) (Some rs) v e = ap (λ (u : Visible). some_of u.right) (some-inj (visible ls rs) v e)
+
+wanted_so : (least : ℕ) (ks : List (Option Constant)) (o : Option Visible) (v : Visible) → if_wanted least ks o ≡ Some v → o ≡ Some v
+wanted_so least ks None v e = absurd (none_some v e)
+wanted_so least ks (Some u) v e = ap some_of (chosen (are_wanted least ks (u.left ++ u.right)) u v e).1
+
+pub one_behind : (least : ℕ) (ks : List (Option Constant)) (left : List IdentifierTree) (w : IdentifierTree) (v : Visible) → visible_loci least ks left (w ∷ []) ≡ Some v → (n : ℕ) × (v.right ≡ n ∷ [])
+one_behind least ks left w v e =
+    alone_so (locus_named ks w.name.spelling) v.right (right_so (loci_named ks left) (loci_named ks (w ∷ [])) v (wanted_so least ks (both_sides (loci_named ks left) (loci_named ks (w ∷ []))) v e))

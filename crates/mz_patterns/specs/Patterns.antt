@@ -8,13 +8,28 @@ use Rattle.mz_cited.specs.Cited.{members}
 use Rattle.mz_items.specs.Closed.{are_distinct}
 use Rattle.mz_loci.specs.Loci.{locus_named, are_fixed}
 use Rattle.mz_tree.specs.declared.lists.Separated.{Separated}
+use Rattle.mz_tree.specs.declared.word.Word.{Word}
 use Rattle.mz_tree_heading.specs.declared.patterns.IdentifierTree.{IdentifierTree}
+use Rattle.mz_tree_heading.specs.declared.patterns.LociTree.{LociTree}
+use Rattle.mz_tree_heading.specs.declared.patterns.LociTree.TheVariants.{One, Several}
 use Rattle.mz_patterns.specs.declared.visible.Visible.{Visible}
 
 -- the identifiers on one side of a symbol
 abbrev pub identifiers_in : Option (Separated IdentifierTree) → List IdentifierTree
 identifiers_in None = []
 identifiers_in (Some ws) = members ws
+
+-- a word as an identifier, and the identifiers beside a symbol
+abbrev pub identifier : Word → IdentifierTree
+identifier w = record { name = w }
+
+abbrev pub identifiers_of : LociTree → List IdentifierTree
+identifiers_of (One w) = identifier w ∷ []
+identifiers_of (Several left ws right) = members ws
+
+abbrev pub identifiers_beside : Option LociTree → List IdentifierTree
+identifiers_beside None = []
+identifiers_beside (Some t) = identifiers_of t
 
 -- places behind those before them, where there are both
 abbrev pub behind : List ℕ → Option (List ℕ) → Option (List ℕ)
