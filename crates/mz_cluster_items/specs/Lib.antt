@@ -1,0 +1,2 @@
+pub mod OverLoci
+pub mod Items
