@@ -2,6 +2,7 @@ pub mod AscendingLemmas
 pub mod ContainsLemmas
 pub mod CyclicLemmas
 pub mod DependentsLemmas
+pub mod FailedLemmas
 pub mod FoundLemmas
 pub mod GatherLemmas
 pub mod MadeLemmas

@@ -3,6 +3,7 @@ pub mod Ascending
 pub mod Corpus
 pub mod Dependents
 pub mod Directives
+pub mod Failed
 pub mod Fit
 pub mod Found
 pub mod Gather

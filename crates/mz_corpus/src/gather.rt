@@ -3,6 +3,7 @@ ghost use Rattle.std.specs.Prelude.{◌≡◌, ◌≤◌, ℕ, List, Some, Ok, I
 ghost use Rattle.mz_io.specs.Count.{Rose};
 ghost use Rattle.mz_io.specs.declared.file.File.{File};
 ghost use Rattle.mz_corpus.specs.Fit.{IsFit};
+ghost use Rattle.mz_corpus.specs.Failed.{FailsEarly};
 ghost use Rattle.mz_corpus.specs.Gather.{Gathers, IsGatherAnswer, OnAnswer, OnRead};
 ghost use Rattle.mz_corpus.specs.Rise.{HasRisen, IsLarge, OnLimit, OnTooLong};
 
@@ -20,6 +21,7 @@ fn gathered<S: Shelf>(alloc: Global, shelf: &mut S, names: &Names) -> Result<Gat
     ensures unchanged { S.contents shelf.new ≡ S.contents shelf.old }
     ensures never_fall { S.faults shelf.old ≤ S.faults shelf.new }
     ensures read { OnRead result (Rose (S.faults shelf.old) (S.faults shelf.new)) }
+    ensures fails { (files : List File) → S.contents shelf.old ≡ Some files → OnRead result (FailsEarly files names.now (S.amount shelf.old) (S.amount shelf.new)) }
     ensures rises { S.amount shelf.old ≤ S.amount shelf.new }
     ensures limits { OnLimit result (IsLarge (length names.now) (S.amount shelf.old) (S.amount shelf.new)) }
     ensures too_long { OnTooLong result (HasRisen (S.amount shelf.old) (S.amount shelf.new) 1048577) }
@@ -46,7 +48,8 @@ fn gathered<S: Shelf>(alloc: Global, shelf: &mut S, names: &Names) -> Result<Gat
 /// dependencies.
 ///
 /// # Errors
-/// `Read` only where a fetch failed. Else the first limit that is passed: the sum of bytes is compared with 16,777,216 after
+/// `Read` only where a fetch failed, and before a limit was passed: where the shelf tells its contents, the amount rose by the
+/// bytes of the texts that the gathering has at a fetch which it makes before it passes a limit. Else the first limit that is passed: the sum of bytes is compared with 16,777,216 after
 /// each fetch, the number of article names with 512 at the start and after those of an article are queued, and the number of
 /// vocabularies with 512 before each fetch of one. `Memory` where memory ran out.
 ///
@@ -58,6 +61,7 @@ pub fn gather<S: Shelf>(alloc: Global, shelf: &mut S, names: &Names) -> Result<C
     ensures unchanged { S.contents shelf.new ≡ S.contents shelf.old }
     ensures never_fall { S.faults shelf.old ≤ S.faults shelf.new }
     ensures read { OnRead result (Rose (S.faults shelf.old) (S.faults shelf.new)) }
+    ensures fails { (files : List File) → S.contents shelf.old ≡ Some files → OnRead result (FailsEarly files names.now (S.amount shelf.old) (S.amount shelf.new)) }
     ensures rises { S.amount shelf.old ≤ S.amount shelf.new }
     ensures limits { OnLimit result (IsLarge (length names.now) (S.amount shelf.old) (S.amount shelf.new)) }
     ensures too_long { OnTooLong result (HasRisen (S.amount shelf.old) (S.amount shelf.new) 1048577) }

@@ -1,5 +1,5 @@
 //! What is gathered so far, and how it goes on.
-ghost use Rattle.std.specs.Prelude.{◌≡◌, ◌≢◌, ◌≤◌, ◌+◌, ◌++◌, ◌∷◌, [], ℕ, List, Some, Err, IfOk, OnOk, length};
+ghost use Rattle.std.specs.Prelude.{◌≡◌, ◌≢◌, ◌<◌, ◌≤◌, ◌+◌, ◌++◌, ◌∷◌, [], ℕ, false, List, Some, Err, IfOk, OnOk, length};
 ghost use Rattle.std.specs.Option.{option_map};
 ghost use Rattle.std.specs.Arc.{arc_value};
 ghost use Rattle.mz_io.specs.Count.{Rose};
@@ -9,7 +9,8 @@ ghost use Rattle.mz_corpus.specs.Fit.{AreApart, IsFit};
 ghost use Rattle.mz_corpus.specs.Orderly.{IsOrderly};
 ghost use Rattle.mz_corpus.specs.declared.gather_fault.GatherFault.TheVariants.{Read};
 ghost use Rattle.mz_corpus.specs.Rise.{IsCharged, Raises, IsPaid, Pays};
-ghost use Rattle.mz_corpus.specs.Gather.{IsFetched, HasDirectives, TakesArticle, Tells, OnRead, is_fetched, next_name, IsCorpusOf, IsBegun, with_vocabulary, with_vocabularies, with_source, queued};
+ghost use Rattle.mz_corpus.specs.Failed.{Gave, ComesToOne, ComesTo};
+ghost use Rattle.mz_corpus.specs.Gather.{Gathered, IsFetched, HasDirectives, TakesArticle, Tells, OnRead, is_fetched, next_name, IsCorpusOf, IsBegun, with_vocabulary, with_vocabularies, with_source, queued};
 
 use crate::corpus::Corpus;
 use crate::directives::{dependencies_of, vocabulary_names_of};
@@ -69,6 +70,8 @@ fn fetched<S: Shelf>(
     ensures told { (files : List File) → S.contents shelf.old ≡ Some files → IsFetched (lookup files kind name.now) name.now bytes result }
     ensures charged { IsCharged (S.amount shelf.old) (S.amount shelf.new) bytes result }
     ensures amount { Raises (S.amount shelf.old) (S.amount shelf.new) result }
+    ensures gave { IfOk result (λ r. Gave (S.amount shelf.old) (S.amount shelf.new) bytes r.1) }
+    ensures still { OnRead result (S.amount shelf.new ≡ S.amount shelf.old) }
     ensures within { IfOk result (λ r. r.1 ≤ 16777216) }
     ensures unchanged { S.contents shelf.new ≡ S.contents shelf.old }
     ensures never_fall { S.faults shelf.old ≤ S.faults shelf.new }
@@ -194,6 +197,8 @@ impl Gathering {
         name: &Name,
     ) -> Result<(), GatherFault>
         ensures told { (files : List File) → S.contents shelf.old ≡ Some files → Tells (λ r. r ≡ with_vocabulary files self.old name.now) result self.new }
+        ensures gave { OnOk result (Gave (S.amount shelf.old) (S.amount shelf.new) self.old.bytes self.new.bytes) }
+        ensures fails { OnRead result ((S.amount shelf.new ≡ S.amount shelf.old) × (is_fetched self.old.vocabularies name.now ≡ false) × (length self.old.vocabularies < 512)) }
         ensures paid { (names start spare : ℕ) → IsPaid names start (S.amount shelf.old) (spare + 1) self.old → Pays names start (S.amount shelf.new) spare self.new result }
         ensures amount { Raises (S.amount shelf.old) (S.amount shelf.new) result }
         ensures sources { self.new.sources ≡ self.old.sources }
@@ -223,6 +228,8 @@ impl Gathering {
         names: &Names,
     ) -> Result<(), GatherFault>
         ensures told { (files : List File) → S.contents shelf.old ≡ Some files → Tells (λ r. r ≡ with_vocabularies files self.old names.now) result self.new }
+        ensures gave { OnOk result (Gave (S.amount shelf.old) (S.amount shelf.new) self.old.bytes self.new.bytes) }
+        ensures fails { (files : List File) → S.contents shelf.old ≡ Some files → OnRead result ((h : Gathered) × ComesToOne files self.old names.now h × Gave (S.amount shelf.old) (S.amount shelf.new) self.old.bytes h.bytes) }
         ensures paid { (handed start spare : ℕ) → IsPaid handed start (S.amount shelf.old) (spare + length names.now) self.old → Pays handed start (S.amount shelf.new) spare self.new result }
         ensures amount { Raises (S.amount shelf.old) (S.amount shelf.new) result }
         ensures sources { self.new.sources ≡ self.old.sources }
@@ -263,6 +270,8 @@ impl Gathering {
         name: Name,
     ) -> Result<(), GatherFault>
         ensures told { (files : List File) → S.contents shelf.old ≡ Some files → Tells (TakesArticle files self.old name) result self.new }
+        ensures gave { OnOk result (Gave (S.amount shelf.old) (S.amount shelf.new) self.old.bytes self.new.bytes) }
+        ensures fails { (files : List File) → S.contents shelf.old ≡ Some files → next_name self.old ≡ Some name → OnRead result ((h : Gathered) × ComesTo files self.old h × Gave (S.amount shelf.old) (S.amount shelf.new) self.old.bytes h.bytes) }
         ensures paid { (names start : ℕ) → IsPaid names start (S.amount shelf.old) 0 self.old → Pays names start (S.amount shelf.new) 0 self.new result }
         ensures amount { Raises (S.amount shelf.old) (S.amount shelf.new) result }
         ensures grows { OnOk result (length self.new.sources ≡ length self.old.sources + 1) }

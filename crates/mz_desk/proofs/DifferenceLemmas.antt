@@ -10,7 +10,7 @@ use Rattle.mz_core.specs.declared.outcome.Export.{Export}
 use Rattle.mz_axioms.specs.Library.{AreInOrder}
 use Rattle.mz_axioms.proofs.AddedLemmas.{here, there}
 use Rattle.mz_corpus.specs.Article.{Article}
-use Rattle.mz_corpus.specs.Corpus.{Corpus, IsCorpus}
+use Rattle.mz_corpus.specs.Corpus.{Corpus, IsAscending, IsCorpus}
 use Rattle.mz_turns.specs.Row.{Row}
 use Rattle.mz_turns.specs.Library.{library_of, is_used_by, environment}
 use Rattle.mz_turns.proofs.NameLemmas.{contained}
@@ -169,6 +169,9 @@ pub article_texts : (k : Corpus) → IsCorpus k → (r : ℕ) (a : Article) → 
 article_texts k corpus r a at =
     let is = corpus.each a (contained k.articles r a at) in
     (rising_from number_of_text a.vocabularies is.found.ascending, values_from text_of a.vocabularies (λ v h. (is.found.fetched v h).1))
+
+pub article_reach : (k : Corpus) → IsCorpus k → (r : ℕ) (a : Article) → slice_get k.articles r ≡ Some a → IsAscending a.reach
+article_reach k corpus r a at = (corpus.each a (contained k.articles r a at)).reach.ascending
 
 pub environment_rising : (rows : List Row) (a : Article) → AreInOrder (library_of rows) → AreRising number_of_export (environment rows a)
 environment_rising rows a h = rising_from number_of_export (environment rows a) (filter_in_order (is_used_by a) (library_of rows) h)

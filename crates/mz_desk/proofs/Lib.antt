@@ -1,4 +1,5 @@
 pub mod DifferenceLemmas
+pub mod SearchLemmas
 pub mod InputLemmas
 pub mod DeskLemmas
 pub mod LookLemmas

@@ -2,6 +2,8 @@
 ghost use Rattle.std.specs.Prelude.{◌≡◌, ◌↔◌, map, MatchOption, IsTrue};
 ghost use Rattle.std.specs.Arc.{arc_value};
 ghost use Rattle.std.specs.List.{filter};
+ghost use Rattle.mz_corpus.specs.Corpus.{IsAscending};
+ghost use Rattle.mz_corpus.specs.Names.{is_among};
 ghost use Rattle.mz_turns.specs.Library.{is_used_by};
 ghost use Rattle.mz_desk.specs.Difference.{text_named, export_named, number_of_export, IsFirstDifference, AreRising, AreTexts};
 
@@ -10,7 +12,6 @@ use mz_base::vocabularies::VocabularyText;
 use mz_compare::items::export_equal;
 use mz_core::outcome::Export;
 use mz_corpus::article::Article;
-use mz_rows::table::has_name;
 use std::sync::Arc;
 
 /// Whether the bytes of two vocabularies are the same.
@@ -54,11 +55,27 @@ pub fn vocabularies_differ(own: &[VocabularyText], others: &[VocabularyText]) ->
     }
 }
 
+/// Whether the name is among these, which are in the order of names.
+fn has_ascending(names: &[Name], name: &Name) -> bool
+    requires { IsAscending names.now }
+    ensures { result ≡ is_among names.now name.now }
+{
+    names
+        .binary_search_by_key(
+            &name.number,
+            |other: &Name| -> u64
+                ensures { result ≡ other.now.number }
+            { other.number },
+        )
+        .is_ok()
+}
+
 /// Whether the article is checked from the export: it is built in, or that of a dependency.
 pub fn is_used_by(article: &Article, export: &Export) -> bool
+    requires { IsAscending article.now.reach }
     ensures { result ≡ is_used_by article.now export.now }
 {
-    export.name.is_built_in() || has_name(article.reach.as_slice(), &export.name)
+    export.name.is_built_in() || has_ascending(article.reach.as_slice(), &export.name)
 }
 
 /// The first name, in the order of names, at which exports differ from those of a library from which the
@@ -68,6 +85,7 @@ pub fn exports_differ(
     library: &[Arc<Export>],
     others: &[Arc<Export>],
 ) -> Option<Name>
+    requires reach { IsAscending article.now.reach }
     requires own { AreRising number_of_export (filter (is_used_by article.now) (map arc_value library.now)) }
     requires others { AreRising number_of_export (map arc_value others.now) }
     ensures { MatchOption result (filter (is_used_by article.now) (map arc_value library.now) ≡ map arc_value others.now) (λ n. IsFirstDifference (export_named (filter (is_used_by article.now) (map arc_value library.now))) (export_named (map arc_value others.now)) n.number) }

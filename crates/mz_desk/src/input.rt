@@ -2,6 +2,7 @@
 ghost use Rattle.std.specs.Prelude.{◌≡◌, ◌<◌, ◌↔◌, List, length, Some, None, map, IfOk, IsTrue, MatchOption};
 ghost use Rattle.std.specs.List.{filter};
 ghost use Rattle.std.specs.Arc.{arc_value};
+ghost use Rattle.mz_corpus.specs.Corpus.{IsAscending};
 ghost use Rattle.mz_turns.specs.Row.{Row};
 ghost use Rattle.mz_turns.specs.Library.{library_of, is_used_by};
 ghost use Rattle.mz_axioms.specs.Library.{AreInOrder};
@@ -60,6 +61,7 @@ fn environment_of(
     article: &Article,
     library: &[Arc<Export>],
 ) -> Result<Exports, AllocError>
+    requires { IsAscending article.now.reach }
     ensures { IfOk result (λ es. es ≡ filter (is_used_by article.now) (map arc_value library.now)) }
 {
     let mut out = Exports::new(alloc)?;
@@ -81,6 +83,7 @@ fn job_from(
     text: Arc<Text>,
 ) -> Result<Job, AllocError>
     requires vocabularies { AreTexts article.now.vocabularies }
+    requires reach { IsAscending article.now.reach }
     requires library { AreRising number_of_export (filter (is_used_by article.now) (map arc_value library.now)) }
     ensures row { IfOk result (λ j. (j.row ≡ row) × (j.worker ≡ worker) × (j.name ≡ article.now.name)) }
     ensures input { IfOk result (λ j. (j.text ≡ arc_value text) × (j.vocabularies ≡ article.now.vocabularies) × (j.exports ≡ filter (is_used_by article.now) (map arc_value library.now))) }
@@ -129,6 +132,7 @@ fn has_text(article: &Article, bytes: &[u8]) -> bool
 /// The first part of the job's input that isn't the article's own.
 fn differing_input(article: &Article, library: &[Arc<Export>], job: &Job) -> Option<Why>
     requires vocabularies { AreTexts article.now.vocabularies }
+    requires reach { IsAscending article.now.reach }
     requires library { AreRising number_of_export (filter (is_used_by article.now) (map arc_value library.now)) }
     ensures { (rows : List Row) → map arc_value library.now ≡ library_of rows → MatchOption result (IsInputOf rows article.now job.now) (λ why. DiffersIn rows article.now job.now why) }
 {

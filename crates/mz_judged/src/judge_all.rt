@@ -1,4 +1,4 @@
-//! Obligations judged, each by itself, on as many threads as there are processors.
+//! Obligations judged, each by itself, in several threads where there are many.
 ghost use Rattle.std.specs.Prelude.{◌≡◌, ◌++◌, IfOk, OnOk, flat_map};
 ghost use Rattle.std.specs.List.{list_all};
 ghost use Rattle.mz_judged.specs.Found.{is_found, fault_in, AreFound};
@@ -12,6 +12,18 @@ use rayon::prelude::*;
 use std::alloc::{AllocError, Global};
 use std::thread::Threads;
 
+/// How few obligations are worth a thread of their own.
+const FEW: usize = 8;
+
+/// Into how many pieces the obligations of an article are divided at most, so that articles which are checked at once have
+/// a bounded number of threads.
+const MOST_PIECES: usize = 8;
+
+/// How many obligations a piece has at the least, of so many.
+fn least_piece(count: usize) -> usize {
+    (count / MOST_PIECES).max(FEW)
+}
+
 /// What is found of each, in their order.
 fn find_each(
     rt: &(impl Threads + Sync),
@@ -23,6 +35,7 @@ fn find_each(
 {
     obligations
         .par_iter()
+        .with_min_len(least_piece(obligations.len()))
         .map(
             |obligation: &Obligation| -> Result<Option<Fault>, AllocError>
                 ensures { IfOk result (IsJudged clauses.entry.now obligation.now) }

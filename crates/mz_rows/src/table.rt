@@ -3,7 +3,6 @@ ghost use Rattle.std.specs.Prelude.{◌≡◌, ◌<◌, map, length, false, Some
 ghost use Rattle.std.specs.Arc.{arc_value};
 ghost use Rattle.mz_axioms.specs.Library.{added};
 ghost use Rattle.mz_turns.specs.Row.{Waiting, Claimed, Accepted, Rejected, Blocked, is_settled, is_waiting, is_claimed, is_accepted, freed, row_at};
-ghost use Rattle.mz_corpus.specs.Names.{is_among};
 ghost use Rattle.mz_turns.specs.Dependencies.{start_row, direct_rows};
 ghost use Rattle.mz_turns.specs.Library.{library_of, IsFreshIn};
 ghost use Rattle.mz_core.specs.declared.verdict.Verdict.TheVariants.{Accepted as accepted, Rejected as rejected};
@@ -53,14 +52,6 @@ impl Model for Table {
     ghost view = { λ t. record { corpus = arc_value t.corpus; rows = rows_from t.standings.items t.verdicts } };
 
     ghost invariant = { λ t. IsStored (arc_value t.corpus).articles t.links t.standings.items t.verdicts t.library };
-}
-
-/// Whether the name is among these.
-pub fn has_name(names: &[Name], name: &Name) -> bool
-    ensures { result ≡ is_among names.now name.now }
-{
-    let number = name.number;
-    names.iter().any(|m| number == m.number)
 }
 
 /// How an article stands before any is checked.

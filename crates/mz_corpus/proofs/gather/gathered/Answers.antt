@@ -1,9 +1,11 @@
 use Rattle.std.proofs.Common.{◌≡◌, ◌≤◌, ◌∙◌, arith, Ok, Err, length, refl, sym, subst}
 use Rattle.mz_io.specs.Count.{Rose}
+use Rattle.mz_corpus.specs.Failed.{Gave, later}
 use Rattle.mz_corpus.specs.Gather.{Gathered, Goes, Gathers, TakesArticle, whole, passed, goes_on}
 use Rattle.mz_corpus.specs.Orderly.{IsOrderly}
 use Rattle.mz_corpus.specs.Rise.{HasRisen, IsLarge}
-use Rattle.mz_corpus.proofs.GatherLemmas.{gathers_from, answer_passed, begin_refused, begin_unread, next_within}
+use Rattle.mz_corpus.proofs.FailedLemmas.{Gave-none, Gave-on, fails_early}
+use Rattle.mz_corpus.proofs.GatherLemmas.{gathers_from, read_same, answer_passed, begin_refused, begin_unread, next_within}
 use Rattle.mz_corpus.proofs.OrderlyLemmas.{IsOrderly-begun, IsFit-gathered}
 use Rattle.mz_corpus.proofs.RiseLemmas.{Raises-none, Raises-on, begun_paid, begin_large, limit_same, long_same, risen_before}
 use Rattle.mz_corpus.proofs.gather.gathered.Goals as goal
@@ -22,6 +24,10 @@ loop-name-init g c = record {
   never_fall = omega arith;
   amount = Raises-none {X = Unit {0}} (g.S.Shelf.amount c.args.shelf.now) tt;
   paid = begun_paid c.args.names.now (g.S.Shelf.amount c.args.shelf.now) c.in-Ok.gathering c.in-Ok.ensures.0;
+  gave =
+      subst (λ x. Gave (g.S.Shelf.amount c.args.shelf.now) (g.S.Shelf.amount c.args.shelf.now) 0 x.bytes) (sym c.in-Ok.ensures.0)
+      (Gave-none (g.S.Shelf.amount c.args.shelf.now) (g.S.Shelf.amount c.args.shelf.now) 0 (g.met.S.Shelf.amount_fits c.args.shelf.now) refl);
+  comes = λ files e k h. h;
   told = λ files e r h. h;
 }
 
@@ -33,6 +39,8 @@ loop-name-preserved g c = record {
   never_fall = omega (arith, c.in-Ok-take.ensures.never_fall, c.loop-name.invariant.never_fall);
   amount = Raises-on {W = Unit {0}} {X = Unit {0}} {Y = Unit {0}} (g.S.Shelf.amount c.args.shelf.now) (g.S.Shelf.amount c.loop-name.shelf) (g.S.Shelf.amount c.take.new.shelf) tt tt tt c.loop-name.invariant.amount c.in-Ok-take.ensures.amount;
   paid = c.in-Ok-take.ensures.paid (length c.args.names.now) (g.S.Shelf.amount c.args.shelf.now) c.loop-name.invariant.paid;
+  gave = Gave-on _ _ _ _ _ _ c.loop-name.invariant.gave c.in-Ok-take.ensures.gave;
+  comes = λ files e k h. c.loop-name.invariant.comes files e k (later _ _ _ _ (sym c.in-Some.ensures) (c.in-Ok-take.ensures.told files (c.loop-name.invariant.unchanged ∙ e)) h);
   told = λ files e r h. c.loop-name.invariant.told files e r (goes_on _ _ _ _ (sym c.in-Some.ensures) (c.in-Ok-take.ensures.told files (c.loop-name.invariant.unchanged ∙ e)) h);
 }
 
@@ -67,3 +75,9 @@ returns-in-Err-take-clause-too_long g c =
 
 pub returns-clause-rises : goal.returns-clause-rises
 returns-clause-rises g c = c.loop-name.invariant.amount.rises
+
+pub returns-in-Err-take-clause-fails : goal.returns-in-Err-take-clause-fails
+returns-in-Err-take-clause-fails g c = λ files e.
+    read_same (Unit {0}) Gathered c.in-Err-take.fault _ _
+    (λ r. fails_early files c.args.names.now c.in-Ok.gathering (g.S.Shelf.amount c.args.shelf.now) (g.S.Shelf.amount c.take.new.shelf) c.in-Ok.ensures r.0 (c.loop-name.invariant.comes files e r.0 r.1) (Gave-on _ _ _ _ _ _ c.loop-name.invariant.gave r.2))
+    (c.in-Err-take.ensures.fails files (c.loop-name.invariant.unchanged ∙ e) (sym c.in-Some.ensures))

@@ -1,7 +1,8 @@
 use Rattle.std.proofs.Common.{◌≡◌, ◌≤◌, ◌-◌, List, Some, Ok, length}
 use Rattle.mz_io.specs.declared.file.File.{File}
 use Rattle.mz_corpus.specs.Orderly.{IsOrderly}
-use Rattle.mz_corpus.specs.Gather.{GatherResult, Goes, begun}
+use Rattle.mz_corpus.specs.Failed.{Gave, ComesTo}
+use Rattle.mz_corpus.specs.Gather.{Gathered, GatherResult, Goes, begun}
 use Rattle.mz_corpus.specs.Rise.{Raises, IsPaid}
 use Rattle.mz_corpus.proofs.gather.gathered.Given as goal
 
@@ -13,6 +14,8 @@ invariant-loop-name g l = record {
   never_fall : g.S.Shelf.faults l.initial.shelf ≤ g.S.Shelf.faults l.shelf;
   amount : Raises {X = Unit {0}} (g.S.Shelf.amount l.initial.shelf) (g.S.Shelf.amount l.shelf) (Ok tt);
   paid : IsPaid (length l.fn.names) (g.S.Shelf.amount l.initial.shelf) (g.S.Shelf.amount l.shelf) 0 l.gathering;
+  gave : Gave (g.S.Shelf.amount l.initial.shelf) (g.S.Shelf.amount l.shelf) 0 l.gathering.bytes;
+  comes : (files : List File) → g.S.Shelf.contents l.initial.shelf ≡ Some files → (k : Gathered) → ComesTo files l.gathering k → ComesTo files l.initial.gathering k;
   told : (files : List File) → g.S.Shelf.contents l.initial.shelf ≡ Some files → (r : GatherResult) → Goes files l.gathering r → Goes files l.initial.gathering r;
 }
 

@@ -7,7 +7,7 @@ use Rattle.mz_corpus.specs.Corpus.{IsCorpus}
 use Rattle.mz_turns.specs.Library.{is_used_by}
 use Rattle.mz_desk.specs.Difference.{AreRising, number_of_export}
 use Rattle.mz_desk.specs.Desk.{IsJobOf}
-use Rattle.mz_desk.proofs.DifferenceLemmas.{article_texts, environment_rising}
+use Rattle.mz_desk.proofs.DifferenceLemmas.{article_texts, article_reach, environment_rising}
 use Rattle.mz_desk.proofs.InputLemmas.{both_ok}
 use Rattle.mz_desk.proofs.input.job_of.Goals as goal
 
@@ -19,6 +19,15 @@ job_from-requires-clause-vocabularies c =
     let a = c.get-article.result.now in
     let at = ap (λ z. slice_get z.articles c.args.row) (sym (c.deref-2.ensures ∙ c.corpus-2.ensures)) ∙ c.get-article.ensures in
     article_texts k law c.args.row a at
+
+pub job_from-requires-clause-reach : goal.job_from-requires-clause-reach
+job_from-requires-clause-reach c =
+    let k = c.args.table.now.corpus in
+    let rows = c.args.table.now.rows in
+    let law = subst IsCorpus (c.deref.ensures ∙ c.corpus.ensures) c.law.ensures in
+    let a = c.get-article.result.now in
+    let at = ap (λ z. slice_get z.articles c.args.row) (sym (c.deref-2.ensures ∙ c.corpus-2.ensures)) ∙ c.get-article.ensures in
+    article_reach k law c.args.row a at
 
 pub job_from-requires-clause-library : goal.job_from-requires-clause-library
 job_from-requires-clause-library c =

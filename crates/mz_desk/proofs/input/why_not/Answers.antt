@@ -13,7 +13,7 @@ use Rattle.mz_rows.specs.declared.standing.RowState.TheVariants as state
 use Rattle.mz_rows.proofs.StandingLemmas.{state_claimed}
 use Rattle.mz_desk.specs.Difference.{AreRising, number_of_export}
 use Rattle.mz_desk.specs.Desk.{IsClaimedFor}
-use Rattle.mz_desk.proofs.DifferenceLemmas.{article_texts, environment_rising}
+use Rattle.mz_desk.proofs.DifferenceLemmas.{article_texts, article_reach, environment_rising}
 use Rattle.mz_desk.proofs.InputLemmas.{strays_from}
 use Rattle.mz_desk.proofs.DeskLemmas.{named_at}
 use Rattle.mz_desk.proofs.input.why_not.Goals as goal
@@ -48,6 +48,14 @@ differing_input-requires-clause-vocabularies c =
     let a = c.get.result.now in
     let at = ap (λ z. slice_get z.articles c.place_of-row.result) (sym (c.deref-3.ensures ∙ c.corpus-3.ensures)) ∙ c.get.ensures in
     article_texts k law c.place_of-row.result a at
+
+pub differing_input-requires-clause-reach : goal.differing_input-requires-clause-reach
+differing_input-requires-clause-reach c =
+    let k = c.args.table.now.corpus in
+    let law = subst IsCorpus (c.deref.ensures ∙ c.corpus.ensures) c.law.ensures in
+    let a = c.get.result.now in
+    let at = ap (λ z. slice_get z.articles c.place_of-row.result) (sym (c.deref-3.ensures ∙ c.corpus-3.ensures)) ∙ c.get.ensures in
+    article_reach k law c.place_of-row.result a at
 
 pub differing_input-requires-clause-library : goal.differing_input-requires-clause-library
 differing_input-requires-clause-library c =

@@ -1,6 +1,7 @@
 use Rattle.std.proofs.Common.{◌≡◌, ◌+◌, ◌-◌, ◌∙◌, arith, subst, refl, length, Err}
 use Rattle.mz_corpus.specs.Gather.{with_vocabulary, with_vocabularies, Tells}
-use Rattle.mz_corpus.proofs.GatherLemmas.{Tells-passed, vocabularies_turn, vocabularies_passed}
+use Rattle.mz_corpus.proofs.FailedLemmas.{Gave-none, Gave-on, one_fails}
+use Rattle.mz_corpus.proofs.GatherLemmas.{Tells-passed, read_same, vocabularies_turn, vocabularies_passed}
 use Rattle.mz_corpus.proofs.RiseLemmas.{Raises-none, Raises-on, Raises-refused, paid_start, paid_first, paid_next, paid_last}
 use Rattle.mz_corpus.proofs.gathering.Gathering.fetch_vocabularies.Goals as goal
 
@@ -37,6 +38,7 @@ loop-name-init g c = record {
   unchanged = refl;
   never_fall = omega arith;
   amount = Raises-none {X = Unit {0}} (g.S.Shelf.amount c.args.shelf.now) tt;
+  gave = Gave-none (g.S.Shelf.amount c.args.shelf.now) (g.S.Shelf.amount c.args.shelf.now) c.args.self.now.bytes (g.met.S.Shelf.amount_fits c.args.shelf.now) refl;
   paid = λ handed start spare h. paid_first handed start (g.S.Shelf.amount c.args.shelf.now) spare (length c.as_slice-name-items.result.now) c.args.self.now h;
   told = λ files e. refl;
 }
@@ -49,9 +51,20 @@ loop-name-preserved g c = record {
   unchanged = c.in-Ok.ensures.unchanged ∙ c.loop-name.invariant.unchanged;
   never_fall = omega (arith, c.in-Ok.ensures.never_fall, c.loop-name.invariant.never_fall);
   amount = Raises-on {W = Unit {0}} {X = Unit {0}} {Y = Unit {0}} (g.S.Shelf.amount c.args.shelf.now) (g.S.Shelf.amount c.loop-name.shelf) (g.S.Shelf.amount c.fetch_vocabulary.new.shelf) tt tt tt c.loop-name.invariant.amount c.in-Ok.ensures.amount;
+  gave = Gave-on _ _ _ _ _ _ c.loop-name.invariant.gave c.in-Ok.ensures.gave;
   paid = λ handed start spare h.
       c.in-Ok.ensures.paid handed start (spare + (length c.as_slice-name-items.result.now - (c.loop-name.name-index + 1)))
       (paid_next handed start (g.S.Shelf.amount c.loop-name.shelf) spare (length c.as_slice-name-items.result.now) c.loop-name.name-index c.loop-name.self c.loop-name-test.true (c.loop-name.invariant.paid handed start spare h));
   told = λ files e.
       vocabularies_turn files _ _ _ _ _ _ c.loop-name-test.true c.name-item.is (c.loop-name.invariant.told files e) (c.in-Ok.ensures.told files (c.loop-name.invariant.unchanged ∙ e));
 }
+
+pub returns-clause-gave : goal.returns-clause-gave
+returns-clause-gave g c = c.loop-name.invariant.gave
+
+pub returns-in-Err-clause-fails : goal.returns-in-Err-clause-fails
+returns-in-Err-clause-fails g c = λ files e.
+    read_same (Unit {0}) (Unit {0}) c.in-Err.fault _ _
+    (one_fails files c.args.names.now c.as_slice-name-items.result.now c.loop-name.name-index c.name-item.result c.args.self.now c.loop-name.self (g.S.Shelf.amount c.args.shelf.now) (g.S.Shelf.amount c.loop-name.shelf) (g.S.Shelf.amount c.fetch_vocabulary.new.shelf)
+    c.as_slice-name-items.ensures c.loop-name-test.true c.name-item.is (c.loop-name.invariant.told files e) c.loop-name.invariant.gave)
+    c.in-Err.ensures.fails

@@ -2,6 +2,7 @@ use Rattle.std.proofs.Common.{◌≡◌, ◌≤◌, ◌+◌, ◌-◌, ℕ, List,
 use Rattle.mz_io.specs.declared.file.File.{File}
 use Rattle.mz_corpus.specs.Fit.{AreApart}
 use Rattle.mz_corpus.specs.Gather.{with_vocabularies}
+use Rattle.mz_corpus.specs.Failed.{Gave}
 use Rattle.mz_corpus.specs.Rise.{Raises, IsPaid}
 use Rattle.mz_corpus.proofs.gathering.Gathering.fetch_vocabularies.Given as goal
 
@@ -13,6 +14,7 @@ invariant-loop-name g l = record {
   unchanged : g.S.Shelf.contents l.shelf ≡ g.S.Shelf.contents l.initial.shelf;
   never_fall : g.S.Shelf.faults l.initial.shelf ≤ g.S.Shelf.faults l.shelf;
   amount : Raises {X = Unit {0}} (g.S.Shelf.amount l.initial.shelf) (g.S.Shelf.amount l.shelf) (Ok tt);
+  gave : Gave (g.S.Shelf.amount l.initial.shelf) (g.S.Shelf.amount l.shelf) l.initial.self.bytes l.self.bytes;
   paid : (handed start spare : ℕ) → IsPaid handed start (g.S.Shelf.amount l.initial.shelf) (spare + length l.name-items) l.initial.self → IsPaid handed start (g.S.Shelf.amount l.shelf) (spare + (length l.name-items - l.name-index)) l.self;
   told : (files : List File) → g.S.Shelf.contents l.initial.shelf ≡ Some files → with_vocabularies files l.initial.self (take l.name-index l.name-items) ≡ Ok l.self;
 }
