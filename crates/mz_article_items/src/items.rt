@@ -112,10 +112,11 @@ fn justify<P: ProveSteps>(
     ensures made { OnMade result (Brings (JustifiesTheorem s.old t.now x.now s.old.left) s.new.left os.old os.new) }
     ensures same { OnOk result (s.new ≡ with_left s.old s.new.left) }
 {
+    let above = extent_of(s);
     let walker = Walker {
         alloc,
         env: &s.environment,
-        at: extent_of(s),
+        at: above,
     };
     let opening = Opening {
         first: t.theorem,
