@@ -6,6 +6,7 @@ use Rattle.mz_words.specs.Words.{Asked}
 use Rattle.mz_gen.specs.Made.{AreMadeFiles, AreMadeNames}
 use Rattle.mz_corpus.specs.declared.gather_fault.GatherFault.{GatherFault}
 use Rattle.mz_corpus.specs.Corpus.{Corpus}
+use Rattle.mz_corpus.specs.Failed.{FailsEarly}
 use Rattle.mz_corpus.specs.Gather.{Gathered, GatherResult, Gathers, IsCorpusOf}
 
 -- the files from which texts are gathered: those that the shelf tells, or those of so many made articles
@@ -38,3 +39,7 @@ IsGatheredFor told a c = (g : Gathered) × GathersFor told a (Ok g) × IsCorpusO
 -- the gathering for an order passes a limit
 abbrev pub PassesLimit : Option (List File) → Asked → Type 0
 PassesLimit told a = (fault : GatherFault) × GathersFor told a (Err fault)
+
+-- a fetch for the names of an order fails before their gathering passes a limit, by what the amount says
+abbrev pub FailsFor : List File → Asked → ℕ → ℕ → Type 0
+FailsFor files a old new = (names : List Name) × (map (λ n. n.number) names ≡ a.names) × FailsEarly files names old new

@@ -1,11 +1,13 @@
 //! From the words to the report.
 ghost use Rattle.std.specs.Prelude.{◌≡◌, ◌≤◌, ◌++◌, ℕ, true, List, Option, Some, None, is_some, length, map, string_bytes};
 ghost use Rattle.mz_io.specs.Count.{Rose};
+ghost use Rattle.mz_io.specs.declared.file.File.{File};
 ghost use Rattle.mz_base.specs.declared.status.Status.TheVariants as status;
 ghost use Rattle.mz_words.specs.Words.{Asked, asked_by, order_of, IsAnswer};
+ghost use Rattle.mz_corpus.specs.Failed.{FailsEarly};
 ghost use Rattle.mz_corpus.specs.Rise.{IsLarge};
 ghost use Rattle.mz_order_laws.specs.Bounds.{IsBounded};
-ghost use Rattle.mz_run.specs.Gathered.{is_known, PassesLimit};
+ghost use Rattle.mz_run.specs.Gathered.{is_known, PassesLimit, FailsFor};
 ghost use Rattle.mz_run.specs.Run.{Written, WrittenFor, refusal_of, refusal_of_words, IsRefusalOfWords, IsRefusalOfLimit, IsCompletion};
 ghost use Rattle.mz_run.specs.Steps.{Ended, EndedOn};
 
@@ -89,6 +91,7 @@ fn run_order<C: Checker, R: Threads + Wait + Sync, S: Shelf, W: Sink, G: Gate>(
     ensures written { WrittenFor C.is_outcome (S.contents shelf.old) (asked_by order.now) (W.taken out.old) (W.taken out.new) result }
     ensures usage { result ≡ status.Usage → ⊥ }
     ensures read_fault { result ≡ status.ReadFault → Rose (S.faults shelf.old) (S.faults shelf.new) }
+    ensures early { order.now.generate ≡ None → (files : List File) → S.contents shelf.old ≡ Some files → result ≡ status.ReadFault → FailsEarly files order.now.names (S.amount shelf.old) (S.amount shelf.new) }
     ensures write_fault { result ≡ status.WriteFault → Rose (W.faults out.old) (W.faults out.new) }
     ensures too_large { is_known (S.contents shelf.old) (asked_by order.now) ≡ true → result ≡ status.TooLarge → PassesLimit (S.contents shelf.old) (asked_by order.now) }
     ensures limit { PassesLimit (S.contents shelf.old) (asked_by order.now) → IsRefusalOfLimit result }
@@ -145,8 +148,10 @@ pub fn run_with<C: Checker, R: Threads + Wait + Sync, S: Shelf, W: Sink, G: Gate
     ensures read_fault { result ≡ status.ReadFault → Rose (S.faults shelf.old) (S.faults shelf.new) }
     ensures write_fault { result ≡ status.WriteFault → Rose (W.faults out.old) (W.faults out.new) }
 
-    // Texts that pass a limit are refused, and no others: in what is known of the files, and by the shelf's amount.
+    // Texts that pass a limit are refused, and no others: in what is known of the files, and by the shelf's amount. A fetch that
+    // fails is told only before a limit is passed.
     ensures too_large { (a : Asked) → order_of (map string_bytes words.items) ≡ Some a → is_known (S.contents shelf.old) a ≡ true → result ≡ status.TooLarge → PassesLimit (S.contents shelf.old) a }
+    ensures early { (a : Asked) (files : List File) → order_of (map string_bytes words.items) ≡ Some a → a.generate ≡ None → S.contents shelf.old ≡ Some files → result ≡ status.ReadFault → FailsFor files a (S.amount shelf.old) (S.amount shelf.new) }
     ensures limit { (a : Asked) → order_of (map string_bytes words.items) ≡ Some a → PassesLimit (S.contents shelf.old) a → IsRefusalOfLimit result }
     ensures amount { (a : Asked) → order_of (map string_bytes words.items) ≡ Some a → a.generate ≡ None → result ≡ status.TooLarge → IsLarge (length a.names) (S.amount shelf.old) (S.amount shelf.new) }
 

@@ -3,6 +3,7 @@ ghost use Rattle.std.specs.Prelude.{◌≡◌, ◌≤◌, ℕ, true, List, Optio
 ghost use Rattle.mz_io.specs.Count.{Rose};
 ghost use Rattle.mz_io.specs.declared.file.File.{File};
 ghost use Rattle.mz_words.specs.Words.{Asked, asked_by};
+ghost use Rattle.mz_corpus.specs.Failed.{FailsEarly};
 ghost use Rattle.mz_corpus.specs.Gather.{OnAnswer, OnRead};
 ghost use Rattle.mz_corpus.specs.Rise.{OnLimit, IsLarge};
 ghost use Rattle.mz_run.specs.Gathered.{GathersFor, IsGatheredFor, is_known};
@@ -43,6 +44,7 @@ fn gather_named<S: Shelf>(
     ensures unchanged { S.contents shelf.new ≡ S.contents shelf.old }
     ensures never_fall { S.faults shelf.old ≤ S.faults shelf.new }
     ensures read { OnRead result (Rose (S.faults shelf.old) (S.faults shelf.new)) }
+    ensures fails { (files : List File) → S.contents shelf.old ≡ Some files → OnRead result (FailsEarly files names.now (S.amount shelf.old) (S.amount shelf.new)) }
     ensures rises { S.amount shelf.old ≤ S.amount shelf.new }
     ensures limits { OnLimit result (IsLarge (length names.now) (S.amount shelf.old) (S.amount shelf.new)) }
 {
@@ -65,6 +67,7 @@ pub fn gather_for<S: Shelf>(
     ensures unchanged { S.contents shelf.new ≡ S.contents shelf.old }
     ensures never_fall { S.faults shelf.old ≤ S.faults shelf.new }
     ensures read { OnRead result (Rose (S.faults shelf.old) (S.faults shelf.new)) }
+    ensures fails { order.now.generate ≡ None → (files : List File) → S.contents shelf.old ≡ Some files → OnRead result (FailsEarly files order.now.names (S.amount shelf.old) (S.amount shelf.new)) }
     ensures rises { S.amount shelf.old ≤ S.amount shelf.new }
     ensures limits { order.now.generate ≡ None → OnLimit result (IsLarge (length order.now.names) (S.amount shelf.old) (S.amount shelf.new)) }
 {

@@ -62,3 +62,9 @@ returns-in-Err-clause-complete g c =
 
 pub gather_for-requires : goal.gather_for-requires
 gather_for-requires g c = c.requires.bounded.made
+
+pub returns-in-Ok-clause-early : goal.returns-in-Ok-clause-early
+returns-in-Ok-clause-early g c = λ k files t e. absurd (ended_read _ (asked_by c.args.order.now) _ _ _ _ c.run_on.ensures.ended e)
+
+pub returns-in-Err-clause-early : goal.returns-in-Err-clause-early
+returns-in-Err-clause-early g c = λ k files t e. refused_read Corpus c.in-Err.fault c.refusal_of.result _ c.refusal_of.ensures (c.in-Err.ensures.fails k files t) e

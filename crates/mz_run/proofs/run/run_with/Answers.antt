@@ -1,10 +1,10 @@
 use Rattle.std.proofs.Common.{◌≡◌, true, List, length, refl}
-use Rattle.std.specs.Prelude.{None, is_some, map, string_bytes}
+use Rattle.std.specs.Prelude.{None, Some, is_some, map, string_bytes}
 use Rattle.mz_base.specs.declared.status.Status.TheVariants as status
 use Rattle.mz_io.specs.Count.{Rose}
 use Rattle.mz_words.specs.Words.{asked_by}
 use Rattle.mz_corpus.specs.Rise.{IsLarge}
-use Rattle.mz_run.specs.Gathered.{is_known, PassesLimit}
+use Rattle.mz_run.specs.Gathered.{is_known, PassesLimit, FailsFor}
 use Rattle.mz_run.specs.Run.{IsRefusalOfLimit, IsCompletion}
 use Rattle.mz_run.proofs.RunLemmas.{order_written, some_order, by_order, large_numbers, words_written, words_usage, words_answer, words_read, words_write, words_large, words_limit, words_complete}
 use Rattle.mz_run.proofs.run.run_with.Goals as goal
@@ -81,3 +81,12 @@ returns-in-Err-clause-made g c = λ a h k. (refl, λ e. words_read c.in-Err.faul
 pub returns-in-Err-clause-complete : goal.returns-in-Err-clause-complete
 returns-in-Err-clause-complete g c =
     λ a e known short fetched wrote. words_complete _ a c.in-Err.fault c.refusal_of_words.result c.in-Err.ensures c.refusal_of_words.ensures e
+
+pub returns-in-Ok-clause-early : goal.returns-in-Ok-clause-early
+returns-in-Ok-clause-early g c =
+    λ a files e. by_order _ a (asked_by c.in-Ok.order) c.in-Ok.ensures
+    (λ x. x.generate ≡ None → g.S.Shelf.contents c.args.shelf.now ≡ Some files → c.run_order.result ≡ status.ReadFault → FailsFor files x (g.S.Shelf.amount c.args.shelf.now) (g.S.Shelf.amount c.run_order.new.shelf))
+    (λ k t r. (c.in-Ok.order.names, refl, c.run_order.ensures.early k files t r)) e
+
+pub returns-in-Err-clause-early : goal.returns-in-Err-clause-early
+returns-in-Err-clause-early g c = λ a files h k t e. absurd (words_read c.in-Err.fault c.refusal_of_words.result c.refusal_of_words.ensures e)
