@@ -1,0 +1,3 @@
+pub mod OverProofs
+pub mod DeclaredProofs
+pub mod BlockProofs

@@ -1,0 +1,4 @@
+//! Laws of blocks and their loci.
+#![tactic(auto)]
+
+pub mod laws;
