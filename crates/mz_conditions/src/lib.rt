@@ -1,0 +1,4 @@
+//! The correctness conditions behind a heading.
+#![tactic(auto)]
+
+pub mod conditions;
