@@ -367,7 +367,7 @@ const ITEM_FAULTS: [(&[u8], &str); 26] = [
         "1:47 16 ends early",
     ),
     (
-        b"environ begin definition let X,Y be set; pred X = Y means X in Y; end;",
+        b"environ begin notation let X,Y be set; synonym X = Y for X in Y; end;",
         "1:15 10 not built",
     ),
     (
@@ -463,8 +463,8 @@ const VOCABULARY_FAULTS: [(&[u8], &[u8], &str); 5] = [
     ),
     (
         b"Rc=",
-        b"environ vocabularies V; begin definition let X,Y be set; pred X c= Y means X = Y; end;",
-        "1:31 10 not built",
+        b"environ vocabularies V; begin definition let X,Y be set; pred X c= Y means X = Y; reflexivity; end;",
+        "1:83 10 not built",
     ),
 ];
 

@@ -4,5 +4,6 @@ mod articles;
 mod checking;
 mod cuts;
 mod defined;
+mod definitions;
 mod faults;
 mod others;

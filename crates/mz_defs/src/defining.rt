@@ -1,4 +1,5 @@
 //! Blocks of definitions and of notations, taken.
+use crate::blocks::take_block;
 use mz_define::define_items::DefineItems;
 use mz_justified::proof_fault::ProofRefusal;
 use mz_obligations::obligation::Obligations;
@@ -9,18 +10,19 @@ use mz_tree_item::definition::DefinitionTree;
 use mz_tree_part::notation::NotationTree;
 use std::alloc::Global;
 
-/// What takes blocks of definitions and of notations: they aren't built.
+/// What takes blocks of definitions and of notations: of definitions predicates and attributes by a plain definiens, and structures; notations
+/// aren't built.
 #[derive(Clone, Copy, Debug)]
 pub struct Defining;
 
 impl DefineItems for Defining {
     fn definition<S: StructItems>(
-        _alloc: Global,
-        _s: &mut Standing,
-        _os: &mut Obligations,
+        alloc: Global,
+        s: &mut Standing,
+        os: &mut Obligations,
         tree: &DefinitionTree,
     ) -> Result<(), ItemFault> {
-        Err(ItemFault::Refused(ItemRefusal::Proof(ProofRefusal::NotBuilt(tree.definition))))
+        take_block::<S>(alloc, s, os, tree)
     }
 
     fn notation(_alloc: Global, _s: &mut Standing, tree: &NotationTree) -> Result<(), ItemFault> {

@@ -23,12 +23,12 @@ const PARTS_OF_SUBSETS: [Part; 10] = [
     (52, "accepted 0"),
     (74, "accepted 0"),
     (75, "accepted 0"),
-    (189, "4:1 10"),
-    (190, "4:1 10"),
-    (351, "4:1 10"),
-    (352, "4:1 10"),
-    (514, "4:1 10"),
-    (515, "4:1 10"),
+    (189, "6:2 10"),
+    (190, "6:2 10"),
+    (351, "6:2 10"),
+    (352, "6:2 10"),
+    (514, "6:2 10"),
+    (515, "6:2 10"),
 ];
 
 /// Reserved variables, steps that are open, cases, citations, and a variable that isn't known.

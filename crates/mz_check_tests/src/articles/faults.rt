@@ -22,12 +22,12 @@ const FAULTS: [Row; 17] = [
     ),
     // an item of a form that isn't built
     (
-        "environ begin definition end; theorem for x being object holds x = y;",
+        "environ begin notation end; theorem for x being object holds x = y;",
         "1:15 10",
     ),
     // is told alone, where a statement before it is open
     (
-        "environ begin theorem for x,y being object holds x = y; definition end;",
+        "environ begin theorem for x,y being object holds x = y; notation end;",
         "1:57 10",
     ),
     // the forms of items that aren't built
