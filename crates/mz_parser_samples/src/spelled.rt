@@ -4,18 +4,20 @@ use crate::marked::{BEFORE, Marked};
 use mz_base::token::MarkedToken;
 use mz_forms::refusal::Refusal;
 use mz_pterm::parse::{ParseFault, fault};
+use mz_tree_copies::tree::Copied;
 use mz_tree_spelling::tree::Spell;
 use std::alloc::{AllocError, Global};
 
-/// What the tree is spelled by.
-pub fn spelled<T: Spell>(alloc: Global, tree: &T) -> Result<Vec<MarkedToken>, AllocError> {
+/// What a copy of the tree is spelled by.
+pub fn spelled<T: Copied + Spell>(alloc: Global, tree: &T) -> Result<Vec<MarkedToken>, AllocError> {
+    let copy = tree.copy(alloc)?;
     let mut spelled = Vec::new(alloc);
-    tree.spell(alloc, &mut spelled)?;
+    copy.spell(alloc, &mut spelled)?;
     Ok(spelled)
 }
 
 /// The answer where the tokens behind `begin` up to the one with the number were taken for this tree.
-pub fn taken_behind_begin<T: Spell>(
+pub fn taken_behind_begin<T: Copied + Spell>(
     alloc: Global,
     tree: &T,
     tokens: &[MarkedToken],
@@ -26,7 +28,7 @@ pub fn taken_behind_begin<T: Spell>(
 }
 
 /// The answer of a parse, which gives a tree and the number of the token behind it.
-pub fn parsed<T: Spell>(
+pub fn parsed<T: Copied + Spell>(
     alloc: Global,
     all: &Marked,
     outcome: Result<(T, usize), ParseFault>,
@@ -38,7 +40,7 @@ pub fn parsed<T: Spell>(
 }
 
 /// The answer where a tree is read, or refused, and these tokens are left.
-pub fn told<T: Spell>(
+pub fn told<T: Copied + Spell>(
     alloc: Global,
     all: &Marked,
     rest: &[MarkedToken],

@@ -2,3 +2,4 @@
 mod articles;
 mod blocks;
 mod clusters;
+mod definitions;

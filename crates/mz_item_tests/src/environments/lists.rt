@@ -1,5 +1,6 @@
 //! The lists of an environment as a text: for each list that isn't empty its word and its entries, by their symbols.
 //! Those of HIDDEN are left out.
+use crate::answers::{digit, put};
 use mz_environment::cited::{CitedSchemes, CitedStatements};
 use mz_environment::environment::Environment;
 use mz_environment::existentials::Existentials;
@@ -12,13 +13,8 @@ use mz_logic::kind::Kind;
 use mz_logic::sym::Sym;
 use mz_logic::term::TermNode;
 use mz_logic::texts::push_sym;
-use mz_part_samples::texts::digit;
 use std::alloc::Global;
 use std::process::Abort;
-
-fn put(rt: &impl Abort, out: &mut Vec<u8>, bytes: &[u8]) {
-    out.extend_from_slice(bytes).expect(rt, "memory");
-}
 
 fn put_sym(rt: &impl Abort, alloc: Global, out: &mut Vec<u8>, s: Sym) {
     put(rt, out, b" ");

@@ -1,10 +1,10 @@
 //! Articles, read from their bytes to the tree.
 use mz_base::token::Tokens;
 use mz_parser_samples::answer::{Answer, refused, taken};
+use mz_parser_samples::spelled::spelled;
 use mz_parser_samples::texts::article_tokens;
 use mz_pexpr::marked_tokens::marked_tokens;
 use mz_pitem::parse::article;
-use mz_tree_spelling::tree::Spell;
 use std::alloc::Global;
 use std::mem::forget;
 use std::process::Abort;
@@ -18,8 +18,7 @@ fn answered(rt: &impl Abort, alloc: Global, tokens: &Tokens) -> Answer {
     let all = marked_tokens(alloc, tokens).expect(rt, "memory");
     match article(alloc, tokens) {
         Ok(tree) => {
-            let mut spelled = Vec::new(alloc);
-            tree.spell(alloc, &mut spelled).expect(rt, "memory");
+            let spelled = spelled(alloc, &tree).expect(rt, "memory");
             forget(tree);
             let answer = taken(spelled.as_slice(), all.as_slice(), 0, all.len());
             forget(spelled);
@@ -41,7 +40,9 @@ fn check(rt: &impl Abort, alloc: Global, row: Row, number: usize) {
     assert!(rt; found == wanted, "{number}");
 }
 
-const ROWS: [Row; 6] = [
+const ROWS: [Row; 8] = [
+    (b"Rc=", b"environ begin", Answer::Until(2)),
+    (b"Rc=", b"environ begin begin", Answer::Until(3)),
     (b"Rc=", SUBSETS, Answer::Until(155)),
     (
         b"Rc=",

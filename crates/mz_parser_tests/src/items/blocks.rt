@@ -50,7 +50,26 @@ fn answered(rt: &impl Abort, alloc: Global, part: Part, text: &[u8], room: usize
 }
 
 /// What is read, texts behind `begin`, how many constructs may be opened, and the answer. The text begins in column 31.
-const ROWS: [(Part, &[u8], usize, Answer); 34] = [
+const ROWS: [(Part, &[u8], usize, Answer); 38] = [
+    (Part::Theorem, b"theorem thesis;", 0, Answer::Until(3)),
+    (
+        Part::Theorem,
+        b"theorem A: thesis by A;",
+        0,
+        Answer::Until(7),
+    ),
+    (
+        Part::Scheme,
+        b"scheme A {x[], x() -> set}: thesis;",
+        2,
+        Answer::Until(16),
+    ),
+    (
+        Part::Scheme,
+        b"scheme A {x[set], x(set) -> set}: thesis provided thesis by A;",
+        2,
+        Answer::Until(22),
+    ),
     (
         Part::Owed,
         b"existence; uniqueness; reflexivity; end",

@@ -16,7 +16,12 @@ fn answered(rt: &impl Abort, alloc: Global, text: &[u8], room: usize) -> Answer 
 
 /// Texts behind `begin`, how many constructs may be opened, and the answer. The token behind `cluster` stands in column
 /// 39.
-const ROWS: [(&[u8], usize, Answer); 37] = [
+const ROWS: [(&[u8], usize, Answer); 42] = [
+    (b"cluster odd set;", 0, Answer::Until(4)),
+    (b"cluster odd for set;", 0, Answer::Until(5)),
+    (b"cluster -> odd for set;", 0, Answer::Until(6)),
+    (b"cluster odd -> odd for set;", 0, Answer::Until(7)),
+    (b"cluster x -> odd for set;", 0, Answer::Until(7)),
     (b"cluster odd mod;", 0, Answer::Until(4)),
     (b"cluster odd for mod;", 0, Answer::Until(5)),
     (b"cluster odd for odd mod;", 0, Answer::Until(6)),

@@ -15,7 +15,26 @@ fn answered(rt: &impl Abort, alloc: Global, text: &[u8], room: usize) -> Answer 
 }
 
 /// Texts behind `begin`, how many constructs may be opened, and the answer.
-const ROWS: [(&[u8], usize, Answer); 32] = [
+const ROWS: [(&[u8], usize, Answer); 39] = [
+    (b"func + equals x if thesis;", 0, Answer::Until(7)),
+    (
+        b"func x + (x) -> set equals :A: x if thesis otherwise x;",
+        1,
+        Answer::Until(18),
+    ),
+    (b"redefine func +;", 0, Answer::Until(4)),
+    (
+        b"redefine func x + (x) -> set means :A: thesis;",
+        1,
+        Answer::Until(15),
+    ),
+    (b"mode mod means thesis;", 0, Answer::Until(5)),
+    (b"redefine mode mod of x -> set;", 0, Answer::Until(8)),
+    (
+        b"struct (set) str over x (# car -> set #);",
+        1,
+        Answer::Until(13),
+    ),
     (b"func x + y -> set means x = y;", 0, Answer::Until(11)),
     (b"func x + y equals x;", 0, Answer::Until(7)),
     (b"func lb x rb means :lab: it = x;", 1, Answer::Until(12)),

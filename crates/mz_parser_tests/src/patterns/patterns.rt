@@ -15,7 +15,11 @@ fn answered(rt: &impl Abort, alloc: Global, text: &[u8], room: usize) -> Answer 
 }
 
 /// Texts behind `begin`, how many constructs may be opened, and the answer.
-const ROWS: [(&[u8], usize, Answer); 35] = [
+const ROWS: [(&[u8], usize, Answer); 39] = [
+    (b"+ (x);", 1, Answer::Until(4)),
+    (b"less x;", 0, Answer::Until(2)),
+    (b"x is (x) odd;", 1, Answer::Until(6)),
+    (b"mod of x;", 0, Answer::Until(3)),
     (b"x + y;", 0, Answer::Until(3)),
     (b"+;", 0, Answer::Until(1)),
     (b"x +;", 0, Answer::Until(2)),
