@@ -1,0 +1,2 @@
+pub mod OneCluster
+pub mod UsableClusters

@@ -1,0 +1,4 @@
+//! Laws of headings of registrations.
+#![tactic(auto)]
+
+pub mod laws;
