@@ -1,0 +1,4 @@
+//! The fields of a structure, as its item has them.
+#![tactic(auto)]
+
+pub mod fields;
