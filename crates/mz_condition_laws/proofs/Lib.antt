@@ -1,0 +1,4 @@
+pub mod OneConditions
+pub mod LociLemmas
+pub mod SplitLemmas
+pub mod ConditionProofs

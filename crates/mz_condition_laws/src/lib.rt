@@ -1,0 +1,4 @@
+//! Laws of conditions behind a heading.
+#![tactic(auto)]
+
+pub mod laws;
