@@ -5,6 +5,6 @@ _mizv() {
     for file in "${COMP_WORDS[COMP_CWORD],,}"*.miz; do
         [ ! -f "$file" ] || COMPREPLY+=("${file%.miz}")
     done
-    [[ "${COMP_WORDS[COMP_CWORD]}" != -* ]] || COMPREPLY=(--help --prove)
+    [[ "${COMP_WORDS[COMP_CWORD]}" != -* ]] || COMPREPLY=(--help --prove --workers --list --generate)
 }
 complete -F _mizv mizv mizv-show

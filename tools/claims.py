@@ -7,7 +7,7 @@ IMPORT = re.compile(r"(?m)^(?:pub )?use Rattle\.(\w+)\.specs\.([\w.]+?)(?:\.\{[^
 HEAD = "## What the claim about theorems reaches"
 # What the claim is said by, and the definition that it speaks of and that may be taken as it is.
 CLAIM, OUTCOME = "mz_accepted_laws/specs/Alone.antt", "mz_article/specs/Outcome.antt"
-RUN = "mizv/specs/Run.antt"
+RUN = "mz_run/specs/Run.antt"
 
 
 def imports(path):

@@ -1,4 +1,0 @@
-//! What is said of one article, from its texts.
-#![tactic(auto)]
-
-pub mod entry;

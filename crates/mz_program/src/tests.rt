@@ -1,0 +1,5 @@
+//! Whole runs, with their bytes and statuses written by hand. Memory is ample, so none is answered by the want of it.
+mod articles;
+mod libraries;
+mod shared;
+mod threads;
