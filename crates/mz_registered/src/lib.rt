@@ -1,0 +1,2 @@
+//! What comes of headings and blocks of registrations.
+#![tactic(auto)]
