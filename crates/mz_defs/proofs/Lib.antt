@@ -1,3 +1,4 @@
 pub mod AnswerLemmas
 pub mod AtomLemmas
 pub mod BlockLemmas
+pub mod ManyLemmas

@@ -1,12 +1,17 @@
 //! Headings of predicates and attributes.
-ghost use Rattle.std.specs.Prelude.{◌≡◌, IfOk, OnOk};
+ghost use Rattle.std.specs.Prelude.{◌≡◌, nat_lt, length, IfOk, OnOk};
 ghost use Rattle.std.specs.Option.{option_copied};
 ghost use Rattle.mz_define.specs.Definientia.{plain_formula, plain_definiens, label_of, label_in};
 ghost use Rattle.mz_define.specs.Atoms.{word_number, first_stray, item_keeps, headed, item_taken, DefinesAtom, definiens_of, pattern_in, next_predicate, predicate_of, predicate_loci, predicate_heading, next_attribute, first_place_of, attribute_of, attribute_loci, attribute_heading};
+ghost use Rattle.mz_justified.specs.declared.proof_fault.ProofRefusal.TheVariants.{Resolve};
+ghost use Rattle.mz_loci.specs.Loci.{loci_from};
+ghost use Rattle.mz_names.specs.declared.refusal.Refusal.TheVariants.{TooLarge};
 ghost use Rattle.mz_resolve.specs.Answers.{OnRead};
 ghost use Rattle.mz_resolve.specs.Calls.{FormulaRead};
 ghost use Rattle.mz_standing.specs.Standing.{with_left};
 ghost use Rattle.mz_taken.specs.Answers.{OnTaken, Leads};
+ghost use Rattle.mz_taken.specs.declared.item_fault.ItemFault.TheVariants.{Refused};
+ghost use Rattle.mz_taken.specs.declared.item_fault.ItemRefusal.TheVariants.{Proof};
 
 use mz_base::place::Place;
 use mz_base::text::Text;
@@ -305,7 +310,21 @@ fn read_definiens(
     formula(alloc, &s.environment, &mut s.context, least, f, &mut s.left)
 }
 
+/// Whether a block has more loci than what is stated for all of them may have quantifiers.
+fn has_many_loci(ctx: &Context, least: u32) -> bool
+    ensures { result ≡ nat_lt 512 (length (loci_from least ctx.now.constants)) }
+{
+    loci_from(ctx.constants.items.as_slice(), least).len() > 512
+}
+
+fn too_large(first: Place) -> ItemFault
+    ensures { result ≡ Refused (Proof (Resolve (TooLarge first))) }
+{
+    ItemFault::Refused(ItemRefusal::Proof(ProofRefusal::Resolve(Refusal::TooLarge(first))))
+}
+
 /// Puts a predicate in force, whose definiens was read.
+#[tactic(auto, using(crate::proofs::ManyLemmas::many_rules))]
 fn put_predicate(
     alloc: Global,
     s: &mut Standing,
@@ -317,11 +336,15 @@ fn put_predicate(
 ) -> Result<(), ItemFault>
     ensures { OnTaken result (Leads (λ o. item_taken s.old t.now.pred t.now.meaning ws.now (predicate_of least s.old.context t.now.pattern v d.now) s.old.left ≡ o) s.new) }
 {
+    if has_many_loci(&s.context, least) {
+        return Err(too_large(t.pred));
+    }
     let item = predicate_of(alloc, &s.context, least, &t.pattern, v, d)?;
     put_atom(alloc, s, t.pred, &t.meaning, ws, item)
 }
 
 /// Puts an attribute in force, whose definiens was read.
+#[tactic(auto, using(crate::proofs::ManyLemmas::many_rules))]
 fn put_attribute(
     alloc: Global,
     s: &mut Standing,
@@ -333,6 +356,9 @@ fn put_attribute(
 ) -> Result<(), ItemFault>
     ensures { OnTaken result (Leads (λ o. item_taken s.old t.now.attr t.now.meaning ws.now (attribute_of least s.old.context t.now.pattern v d.now) s.old.left ≡ o) s.new) }
 {
+    if has_many_loci(&s.context, least) {
+        return Err(too_large(t.attr));
+    }
     let item = attribute_of(alloc, &s.context, least, &t.pattern, v, d)?;
     put_atom(alloc, s, t.attr, &t.meaning, ws, item)
 }
