@@ -13,6 +13,8 @@ use Rattle.mz_logic.proofs.Each.{Along, cut_each, each_itself, each_right, each_
 use Rattle.mz_core.specs.Statement.{Statement}
 use Rattle.mz_core.specs.TypeStatements.{literal_statement}
 use Rattle.mz_core.specs.Erasure.{erase}
+use Rattle.mz_core.specs.InForce.{statement_in_force}
+use Rattle.mz_core.proofs.LawProofs.{more_in_force}
 use Rattle.mz_core.specs.Below.{statement_below}
 use Rattle.mz_items.specs.SchemeRows.{letter_types}
 use Rattle.mz_context.specs.Context.{next}
@@ -64,7 +66,7 @@ kept_by p x y ys true rest (zero, lt, e) = (0, omega arith, e)
 kept_by p x y ys true rest (suc i, lt, e) = later x y ys (rest (i, omega (arith, lt), e))
 kept_by p x y ys false rest is = later x y ys (rest is)
 
-kept_member : {X : Type 0} (p : X → Bool) (x : X) (ys : List X) → Contains (filter p ys) x → Contains ys x
+pub kept_member : {X : Type 0} (p : X → Bool) (x : X) (ys : List X) → Contains (filter p ys) x → Contains ys x
 kept_member p x [] is = absurd (none_in x is)
 kept_member p x (y ∷ ys) is = kept_by p x y ys (p y) (kept_member p x ys) is
 
@@ -81,7 +83,7 @@ taken_member (suc n) x (y ∷ ys) (suc i, lt, e) = later x y ys (taken_member n 
 
 -- what a context says is known in it
 abbrev pub IsKnown : List Formula → List Formula → Context → Statement → Type 0
-IsKnown ax held c s = Derives ax (facts c ++ held) (erase s) × (statement_below 0 s ≡ true)
+IsKnown ax held c s = Derives ax (facts c ++ held) (erase s) × (statement_below 0 s ≡ true) × (statement_in_force (next c) s ≡ true)
 
 abbrev AllKnown : List Formula → List Formula → Context → List Statement → Type 0
 AllKnown ax held c [] = Unit {0}
@@ -93,7 +95,7 @@ stated_known ax held c order s is =
     let g : List Formula = facts c ++ held in
     let there : Contains g (erase s) = Contains-append_left (facts c) held (erase s) (Contains-append_right known (map erase (statements_in c)) (erase s) (mapped_member erase s (statements_in c) is)) in
     let w : Stands (next c) s = stands_out (next c) s (member_passes (is_standing (next c)) (statements_in c) s (all_right (is_standing (next c)) (map literal_statement (known_from 1 c.constants)) (statements_in c) order.said) is) in
-    (each_itself ax g (erase s) there, w.1)
+    (each_itself ax g (erase s) there, w.1, w.0)
 
 labelled_known : (ax held : List Formula) (c : Context) → IsInOrder held c → (l : LabelledStatement) → Contains c.labelled l → IsKnown ax held c l.statement
 labelled_known ax held c order l is =
@@ -110,9 +112,9 @@ previous_known ax held c order s is =
 
 theorem_known : (ax held : List Formula) (e : Environment) → AreTheorems ax held e → (c : Context) → (s : CitedStatement) → Contains e.theorems s → IsKnown ax held c s.statement
 theorem_known ax held e theorems c s is =
-    let t : Derives ax held (erase s.statement) × (statement_below 0 s.statement ≡ true) = theorems s is in
+    let t : Derives ax held (erase s.statement) × (statement_below 0 s.statement ≡ true) × (statement_in_force 0 s.statement ≡ true) = theorems s is in
     let g : List Formula = facts c ++ held in
-    (cut_each ax g held (erase s.statement) (each_right ax g (facts c) held (each_itself ax g)) t.0, t.1)
+    (cut_each ax g held (erase s.statement) (each_right ax g (facts c) held (each_itself ax g)) t.0, t.1, more_in_force 0 (next c) s.statement (omega arith) t.2)
 
 -- what a number cites
 cited_in : (ax held : List Formula) (e : Environment) → AreTheorems ax held e → (c : Context) → (o : Option CitedStatement) → ((x : CitedStatement) → o ≡ Some x → Contains e.theorems x) → (s : Statement) → statement_in o ≡ Some s → IsKnown ax held c s
@@ -193,10 +195,14 @@ all_closed : (ax held : List Formula) (c : Context) (ss : List Statement) → Al
 all_closed ax held c [] all = refl
 all_closed ax held c (t ∷ ts) all = and_from (statement_below 0 t) (list_all (statement_below 0) ts) all.0.1 (all_closed ax held c ts all.1)
 
+all_in_force : (ax held : List Formula) (c : Context) (ss : List Statement) → AllKnown ax held c ss → list_all (statement_in_force (next c)) ss ≡ true
+all_in_force ax held c [] all = refl
+all_in_force ax held c (t ∷ ts) all = and_from (statement_in_force (next c) t) (list_all (statement_in_force (next c)) ts) all.0.2 (all_in_force ax held c ts all.1)
+
 pub given_law : GivenLaw
 given_law ax held e theorems c order linked rs cited ss is g =
     let all : AllKnown ax held c ss = given_known ax held c order linked cited ss (cites_known ax held e theorems c order rs cited is) g in
-    (each_known ax held c ss all, all_closed ax held c ss all)
+    (each_known ax held c ss all, all_closed ax held c ss all, all_in_force ax held c ss all)
 
 -- an obligation that is met
 along_known : (ax h : List Formula) (ss : List Statement) → ((s : Statement) → Contains ss s → Derives ax h (erase s)) → Along ax h (map erase ss)

@@ -8,7 +8,9 @@ use Rattle.mz_logic.specs.declared.sequent.Sequent.{Sequent}
 use Rattle.mz_core.specs.Statement.{Statement}
 use Rattle.mz_core.specs.Erasure.{erase}
 use Rattle.mz_core.specs.Below.{statement_below}
+use Rattle.mz_core.specs.InForce.{statement_in_force}
 use Rattle.mz_core.specs.TypedSequent.{erased_sequent}
+use Rattle.mz_items.specs.Closed.{scheme_closed}
 use Rattle.mz_items.specs.SchemeRows.{scheme_sequent}
 use Rattle.mz_context.specs.Context.{next}
 use Rattle.mz_context.specs.declared.context.Context.{Context}
@@ -39,9 +41,9 @@ AreMet axioms clauses os = (o : Obligation) → Contains os o → IsMet axioms c
 abbrev pub AreHeld : List Formula → List Formula → List Clause → Type 0
 AreHeld axioms held cs = (k : Clause) → Contains cs k → Derives axioms held (clause_formula k)
 
--- each statement derives from what the context says, and has no loose index
+-- each statement derives from what the context says, has no loose index, and constants in force alone
 abbrev pub AreKnown : List Formula → List Formula → Context → List Statement → Type 0
-AreKnown axioms held c ss = ((s : Statement) → Contains ss s → Derives axioms (facts c ++ held) (erase s)) × (list_all (statement_below 0) ss ≡ true)
+AreKnown axioms held c ss = ((s : Statement) → Contains ss s → Derives axioms (facts c ++ held) (erase s)) × (list_all (statement_below 0) ss ≡ true) × (list_all (statement_in_force (next c)) ss ≡ true)
 
 -- where its obligation is met a statement derives
 abbrev pub JustifiedLaw : Type 0
@@ -51,17 +53,17 @@ JustifiedLaw =
     (ss : List Statement) → AreKnown axioms held c ss → (s : Statement) → Stands (next c) s →
     (place : Place) (extent : Extent) (o : Obligation) → IsObligation cs us c.constants ss s place extent letters o → IsMet axioms clauses o → Derives axioms (facts c ++ held) (erase s)
 
--- each theorem that may be cited derives from what is held, and has no loose index
+-- each theorem that may be cited derives from what is held, and has no loose index and no constant
 abbrev pub AreTheorems : List Formula → List Formula → Environment → Type 0
-AreTheorems axioms held e = (s : CitedStatement) → Contains e.theorems s → Derives axioms held (erase s.statement) × (statement_below 0 s.statement ≡ true)
+AreTheorems axioms held e = (s : CitedStatement) → Contains e.theorems s → Derives axioms held (erase s.statement) × (statement_below 0 s.statement ≡ true) × (statement_in_force 0 s.statement ≡ true)
 
 -- the sequent derives
 abbrev pub IsDerivedSequent : List Formula → Sequent → Type 0
 IsDerivedSequent axioms q = Derives axioms q.premises q.conclusion
 
--- each scheme that may be cited derives: its conclusion from its letters' types and its premises
+-- each scheme that may be cited derives, its conclusion from its letters' types and its premises, and has no constant and no loose index
 abbrev pub AreSchemes : List Formula → Environment → Type 0
-AreSchemes axioms e = (s : CitedScheme) → Contains e.schemes s → IsDerivedSequent axioms (erased_sequent (scheme_sequent s.scheme))
+AreSchemes axioms e = (s : CitedScheme) → Contains e.schemes s → IsDerivedSequent axioms (erased_sequent (scheme_sequent s.scheme)) × (scheme_closed s.scheme ≡ true)
 
 -- what a justification is given derives, too
 abbrev pub GivenLaw : Type 0

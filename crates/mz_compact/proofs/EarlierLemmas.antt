@@ -6,17 +6,18 @@ use Rattle.mz_core.specs.Statement.{Statement}
 use Rattle.mz_context.specs.declared.context.Context.{Context}
 use Rattle.mz_environment.specs.declared.environment.Environment.{Environment}
 use Rattle.mz_fits.proofs.FitLemmas.{empty}
-use Rattle.mz_cited.specs.Cited.{cites}
+use Rattle.mz_given.specs.Given.{cited_in}
 use Rattle.mz_tree_proof.specs.Reasoning.{JustData, SimpleJust, ProofJust, StepList}
 use Rattle.mz_tree_proof.specs.declared.equality_step.EqualityStepTree.{EqualityStepTree}
 use Rattle.mz_tree_proof.specs.declared.references.SimpleTree.{SimpleTree}
-use Rattle.mz_justified.specs.Justified.{place_of, references_of, from_of}
+use Rattle.mz_justified.specs.Justified.{place_of}
+use Rattle.mz_given.specs.declared.given.Given.{Given}
 use Rattle.mz_justified.specs.declared.proof_fault.ProofFault.{ProofFault}
 use Rattle.mz_justified.specs.declared.proof_fault.ProofFault.TheVariants.{Refused}
 use Rattle.mz_justified.specs.declared.proof_fault.ProofRefusal.{ProofRefusal}
-use Rattle.mz_justified.specs.declared.proof_fault.ProofRefusal.TheVariants.{UnknownLabel, TooManyObligations, NotBuilt}
+use Rattle.mz_justified.specs.declared.proof_fault.ProofRefusal.TheVariants.{UnknownLabel, TooManyObligations}
 use Rattle.mz_walk.specs.Compact.{place_behind}
-use Rattle.mz_walk.specs.Earlier.{is_before, place_refused, uncited, unbuilt, ungrounded, else_told, told_behind, told_of_sides, told_first}
+use Rattle.mz_walk.specs.Earlier.{is_before, place_refused, uncited, ungrounded, else_told, told_behind, told_of_sides, told_first}
 use Rattle.mz_performing.specs.Begun.{ToldAs}
 
 -- one justification
@@ -34,23 +35,18 @@ abbrev spent_or : Place → Option ProofRefusal → Bool → Option ProofRefusal
 spent_or place o b = if b then Some (TooManyObligations place) else o
 
 pub told_spent : (e : Environment) (c : Context) (n : ℕ) (place : Place) (t : SimpleTree) → n ≡ 0 → Some (TooManyObligations place) ≡ ungrounded e c n place t
-told_spent e c n place t h = sym (ap (spent_or place (unbuilt (from_of t) (uncited (cites e c (references_of t))))) (none_left n h))
+told_spent e c n place t h = sym (ap (spent_or place (uncited (cited_in e c t))) (none_left n h))
 
-pub told_unbuilt : (e : Environment) (c : Context) (n : ℕ) (place : Place) (t : SimpleTree) (o : Option Place) (from : Place) → (n ≡ 0 → ⊥) → o ≡ from_of t → o ≡ Some from → Some (NotBuilt from) ≡ ungrounded e c n place t
-told_unbuilt e c n place t o from h eo es =
-    sym (ap (spent_or place (unbuilt (from_of t) (uncited (cites e c (references_of t))))) (some_left n h) ∙ ap (λ z. unbuilt z (uncited (cites e c (references_of t)))) (sym eo ∙ es))
+unspent : (e : Environment) (c : Context) (n : ℕ) (place : Place) (t : SimpleTree) → (n ≡ 0 → ⊥) → ungrounded e c n place t ≡ uncited (cited_in e c t)
+unspent e c n place t h = ap (spent_or place (uncited (cited_in e c t))) (some_left n h)
 
-built : (e : Environment) (c : Context) (n : ℕ) (place : Place) (t : SimpleTree) (o : Option Place) → (n ≡ 0 → ⊥) → o ≡ from_of t → o ≡ None → ungrounded e c n place t ≡ uncited (cites e c (references_of t))
-built e c n place t o h eo en =
-    ap (spent_or place (unbuilt (from_of t) (uncited (cites e c (references_of t))))) (some_left n h) ∙ ap (λ z. unbuilt z (uncited (cites e c (references_of t)))) (sym eo ∙ en)
+pub told_uncited : (e : Environment) (c : Context) (n : ℕ) (place : Place) (t : SimpleTree) (q : Result Given Place) (p : Place) → (n ≡ 0 → ⊥) → q ≡ cited_in e c t → q ≡ Err p → Some (UnknownLabel p) ≡ ungrounded e c n place t
+told_uncited e c n place t q p h eq ep = sym (unspent e c n place t h ∙ ap uncited (sym eq ∙ ep))
 
-pub told_uncited : (e : Environment) (c : Context) (n : ℕ) (place : Place) (t : SimpleTree) (o : Option Place) (q : Result (List Statement) Place) (p : Place) → (n ≡ 0 → ⊥) → o ≡ from_of t → o ≡ None → q ≡ cites e c (references_of t) → q ≡ Err p → Some (UnknownLabel p) ≡ ungrounded e c n place t
-told_uncited e c n place t o q p h eo en eq ep = sym (built e c n place t o h eo en ∙ ap uncited (sym eq ∙ ep))
+pub told_grounded : (e : Environment) (c : Context) (n : ℕ) (place : Place) (t : SimpleTree) (q : Result Given Place) (g : Given) → (n ≡ 0 → ⊥) → q ≡ cited_in e c t → q ≡ Ok g → None ≡ ungrounded e c n place t
+told_grounded e c n place t q g h eq es = sym (unspent e c n place t h ∙ ap uncited (sym eq ∙ es))
 
-pub told_grounded : (e : Environment) (c : Context) (n : ℕ) (place : Place) (t : SimpleTree) (o : Option Place) (q : Result (List Statement) Place) (ss : List Statement) → (n ≡ 0 → ⊥) → o ≡ from_of t → o ≡ None → q ≡ cites e c (references_of t) → q ≡ Ok ss → None ≡ ungrounded e c n place t
-told_grounded e c n place t o q ss h eo en eq es = sym (built e c n place t o h eo en ∙ ap uncited (sym eq ∙ es))
-
-pub ruleset ground_rules = (told_spent, told_unbuilt, told_uncited, told_grounded)
+pub ruleset ground_rules = (told_spent, told_uncited, told_grounded)
 
 -- in front of others
 abbrev before_or : ProofRefusal → ProofRefusal → Bool → ProofRefusal

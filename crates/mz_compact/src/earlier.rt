@@ -8,7 +8,8 @@ ghost use Rattle.mz_performing.specs.Begun.{ToldAs};
 use crate::sides::place_behind;
 use mz_base::place::Place;
 use mz_context::context::Context;
-use mz_justified::grounds::{cited, from_of, place_of};
+use mz_given::given::cited_in;
+use mz_justified::grounds::place_of;
 use mz_justified::proof_fault::{ProofFault, ProofRefusal};
 use mz_justified::walker::Walker;
 use mz_names::refusal::Refusal;
@@ -64,10 +65,7 @@ fn ungrounded(
     if count == 0 {
         return Ok(Some(ProofRefusal::TooManyObligations(place)));
     }
-    if let Some(from) = from_of(tree) {
-        return Ok(Some(ProofRefusal::NotBuilt(from)));
-    }
-    match cited(walker.alloc, walker.env, ctx, tree)? {
+    match cited_in(walker.alloc, walker.env, ctx, tree)? {
         Ok(_) => Ok(None),
         Err(p) => Ok(Some(ProofRefusal::UnknownLabel(p))),
     }

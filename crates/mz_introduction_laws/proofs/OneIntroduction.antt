@@ -6,12 +6,16 @@ use Rattle.mz_core.specs.Statement.{Statement}
 use Rattle.mz_core.specs.declared.outcome.Left.{Left}
 use Rattle.mz_context.specs.Context.{next}
 use Rattle.mz_context.specs.declared.context.Context.{Context}
+use Rattle.mz_context.specs.declared.private.PrivateFunctor.{PrivateFunctor}
+use Rattle.mz_context.specs.declared.private.PrivatePredicate.{PrivatePredicate}
 use Rattle.mz_environment.specs.declared.environment.Environment.{Environment}
 use Rattle.mz_names.specs.Closing.{there_are}
 use Rattle.mz_names.specs.declared.refusal.Refusal.{Refusal}
 use Rattle.mz_names.specs.declared.refusal.Refusal.TheVariants.{TooLarge}
 use Rattle.mz_cited.specs.Cited.{members}
 use Rattle.mz_tree_proof.specs.declared.introduction.ConsiderTree.{ConsiderTree}
+use Rattle.mz_tree_proof.specs.declared.introduction.DeffuncTree.{DeffuncTree}
+use Rattle.mz_tree_proof.specs.declared.introduction.DefpredTree.{DefpredTree}
 use Rattle.mz_tree_proof.specs.declared.introduction.IntroductionTree.{IntroductionTree}
 use Rattle.mz_tree_proof.specs.declared.introduction.IntroductionTree.TheVariants.{Consider, Reconsider, Set, Deffunc, Defpred}
 use Rattle.mz_tree_proof.specs.declared.introduction.NamedTermTree.{NamedTermTree}
@@ -24,18 +28,21 @@ use Rattle.mz_obligations.specs.declared.obligation.Obligation.{Obligation}
 use Rattle.mz_parts.specs.Described.{DescriptionRead}
 use Rattle.mz_parts.specs.Named.{NamedRead, RetypedRead}
 use Rattle.mz_parts.specs.declared.described.Description.{Description}
+use Rattle.mz_given.specs.declared.given.Given.{Given}
 use Rattle.mz_justified.specs.Justified.{Grounds, Owes, Justified, place_of}
 use Rattle.mz_justified.specs.declared.proof_fault.ProofRefusal.{ProofRefusal}
-use Rattle.mz_justified.specs.declared.proof_fault.ProofRefusal.TheVariants.{StepNoFit, Resolve, TooManyObligations, NotBuilt}
+use Rattle.mz_justified.specs.declared.proof_fault.ProofRefusal.TheVariants.{StepNoFit, Resolve, TooManyObligations}
 use Rattle.mz_justified_laws.specs.Determined.{AtMostOne}
 use Rattle.mz_justified_laws.proofs.Sequence.{one_by, one_value, IfSo, if_so, if_not, one_if, NextSome, one_next_some, After, one_after, Makes, one_made, AfterRead, one_after_read}
 use Rattle.mz_justified_laws.proofs.OneJustification.{one_ground, one_owed, one_justification}
 use Rattle.mz_parts_laws.proofs.OneProposition.{one_description}
 use Rattle.mz_parts_laws.proofs.OneName.{one_named, one_retyped}
-use Rattle.mz_walk.specs.Walked.{State, with_left, OneByOne, Walked, Made, Refused, without_obligations, behind}
+use Rattle.mz_private.specs.Private.{FunctorRead, PredicateRead, with_functor, with_predicate}
+use Rattle.mz_private_laws.proofs.OnePrivate.{one_functor_read, one_predicate_read}
+use Rattle.mz_walk.specs.Walked.{State, state, with_left, OneByOne, Walked, Made, Refused, without_obligations, behind}
 use Rattle.mz_walk.specs.Performing.{Performs, PerformsAlone, is_linked}
 use Rattle.mz_walk.specs.Introductions as int
-use Rattle.mz_walk.specs.Introductions.{spent_for, OwesEach, JustifiesEach, Considers, types_owed, Retypes, Reconsiders, SetsOne, Introduces}
+use Rattle.mz_walk.specs.Introductions.{spent_for, OwesEach, JustifiesEach, Considers, types_owed, Retypes, Reconsiders, SetsOne, DefinesFunctor, DefinesPredicate, Introduces}
 use Rattle.mz_skeleton_laws.proofs.OnePerformed as pe
 use Rattle.mz_skeleton_laws.proofs.OnePerformed.{one_performed, one_by_one, one_alone, one_each}
 use Rattle.mz_introduction_laws.specs.Laws.{OneIntroductionLaw}
@@ -45,18 +52,18 @@ use Rattle.mz_introduction_laws.proofs.Walks.{refused, unread, NextMade, one_nex
 abbrev with_first : Obligation → List Obligation → List Obligation
 with_first o os = o ∷ os
 
-abbrev OwesNext : Environment → Extent → Context → List Statement → Place → List Statement → Obligation → List Obligation → Type 0
+abbrev OwesNext : Environment → Extent → Context → Given → Place → List Statement → Obligation → List Obligation → Type 0
 OwesNext e at c given place ss x os = Makes (OwesEach e at c given place ss) (with_first x) os
 
-abbrev OwesAs : Environment → Extent → Context → List Statement → Place → List Statement → List Obligation → Type 0
+abbrev OwesAs : Environment → Extent → Context → Given → Place → List Statement → List Obligation → Type 0
 OwesAs e at c given place [] os = os ≡ []
 OwesAs e at c given place (s ∷ ss) os = After (Owes e at c given s place) (OwesNext e at c given place ss) os
 
-owes_as : (e : Environment) (at : Extent) (c : Context) (given : List Statement) (place : Place) (ss : List Statement) (os : List Obligation) → OwesEach e at c given place ss os → OwesAs e at c given place ss os
+owes_as : (e : Environment) (at : Extent) (c : Context) (given : Given) (place : Place) (ss : List Statement) (os : List Obligation) → OwesEach e at c given place ss os → OwesAs e at c given place ss os
 owes_as e at c given place ss os int.owes_none = refl
 owes_as e at c given place ss os (int.owes_more s rest x xs h k) = (x, h, (xs, k, refl))
 
-one_owing : (e : Environment) (at : Extent) (c : Context) (given : List Statement) (place : Place) (ss : List Statement) → AtMostOne (OwesEach e at c given place ss)
+one_owing : (e : Environment) (at : Extent) (c : Context) (given : Given) (place : Place) (ss : List Statement) → AtMostOne (OwesEach e at c given place ss)
 one_owing e at c given place [] = one_by (OwesEach e at c given place []) (OwesAs e at c given place []) (owes_as e at c given place []) (one_value [])
 one_owing e at c given place (s ∷ ss) =
     one_by (OwesEach e at c given place (s ∷ ss)) (OwesAs e at c given place (s ∷ ss)) (owes_as e at c given place (s ∷ ss))
@@ -67,7 +74,7 @@ one_owing e at c given place (s ∷ ss) =
 abbrev made_with : Left → List Obligation → Walked Left
 made_with l os = Made os l
 
-abbrev GroundedNext : Environment → Extent → Context → Place → SimpleTree → List Statement → List Statement → Left → Walked Left → Type 0
+abbrev GroundedNext : Environment → Extent → Context → Place → SimpleTree → List Statement → Given → Left → Walked Left → Type 0
 GroundedNext e at c place t ss given after o = Makes (OwesEach e at c given (place_of place t) ss) (made_with after) o
 
 abbrev SpentNext : Environment → Extent → Context → Place → Bool → Place → SimpleTree → List Statement → Left → Walked Left → Type 0
@@ -93,7 +100,7 @@ each_as e at c first linked place t ss l o (int.each_owed s rest given _ m after
 one_spent : (e : Environment) (at : Extent) (c : Context) (first : Place) (linked : Bool) (place : Place) (t : SimpleTree) (ss : List Statement) (m : Left) → AtMostOne (SpentNext e at c first linked place t ss m)
 one_spent e at c first linked place t ss m =
     one_after_read (Grounds e c first linked place t m) refused (GroundedNext e at c place t ss) (one_ground e c first linked place t m)
-    (λ (given : List Statement) (after : Left). one_made (OwesEach e at c given (place_of place t) ss) (made_with after) (one_owing e at c given (place_of place t) ss))
+    (λ (given : Given) (after : Left). one_made (OwesEach e at c given (place_of place t) ss) (made_with after) (one_owing e at c given (place_of place t) ss))
 
 one_each_justified : (e : Environment) (at : Extent) (c : Context) (first : Place) (linked : Bool) (place : Place) (t : SimpleTree) (ss : List Statement) (l : Left) → AtMostOne (JustifiesEach e at c first linked place t ss l)
 one_each_justified e at c first linked place t [] l =
@@ -231,30 +238,58 @@ one_set e first s n =
     one_by (SetsOne e first s n) (SetsAs e first s n) (sets_as e first s n)
     (one_after_read (NamedRead e s.context 0 s.left n) pe.unread (SetNext e first s) (one_named e s.context 0 s.left n) (λ (d : Definition) (l : Left). one_alone e first (with_left s l) (read.Set d)))
 
--- a statement that introduces names
-abbrev not_built : Place → Walked State
-not_built first = Refused (NotBuilt first)
+-- `deffunc` and `defpred`
+abbrev FunctorNext : State → PrivateFunctor → Left → Result State ProofRefusal → Type 0
+FunctorNext s f l o = o ≡ Ok (state (with_functor s.context f) s.block l)
 
+abbrev FunctorAs : Environment → State → DeffuncTree → Result State ProofRefusal → Type 0
+FunctorAs e s t o = AfterRead (FunctorRead e s.context 0 s.left t) pe.unread (FunctorNext s) o
+
+functor_as : (e : Environment) (s : State) (t : DeffuncTree) (o : Result State ProofRefusal) → DefinesFunctor e s t o → FunctorAs e s t o
+functor_as e s t o (int.not_read r l h) = (Err r, l, h, refl)
+functor_as e s t o (int.defined f l h) = (Ok f, l, h, refl)
+
+one_functor : (e : Environment) (s : State) (t : DeffuncTree) → AtMostOne (DefinesFunctor e s t)
+one_functor e s t =
+    one_by (DefinesFunctor e s t) (FunctorAs e s t) (functor_as e s t)
+    (one_after_read (FunctorRead e s.context 0 s.left t) pe.unread (FunctorNext s) (one_functor_read e s.context 0 s.left t) (λ (f : PrivateFunctor) (l : Left). one_value (Ok (state (with_functor s.context f) s.block l))))
+
+abbrev PredicateNext : State → PrivatePredicate → Left → Result State ProofRefusal → Type 0
+PredicateNext s p l o = o ≡ Ok (state (with_predicate s.context p) s.block l)
+
+abbrev PredicateAs : Environment → State → DefpredTree → Result State ProofRefusal → Type 0
+PredicateAs e s t o = AfterRead (PredicateRead e s.context 0 s.left t) pe.unread (PredicateNext s) o
+
+predicate_as : (e : Environment) (s : State) (t : DefpredTree) (o : Result State ProofRefusal) → DefinesPredicate e s t o → PredicateAs e s t o
+predicate_as e s t o (int.not_read r l h) = (Err r, l, h, refl)
+predicate_as e s t o (int.defined p l h) = (Ok p, l, h, refl)
+
+one_predicate : (e : Environment) (s : State) (t : DefpredTree) → AtMostOne (DefinesPredicate e s t)
+one_predicate e s t =
+    one_by (DefinesPredicate e s t) (PredicateAs e s t) (predicate_as e s t)
+    (one_after_read (PredicateRead e s.context 0 s.left t) pe.unread (PredicateNext s) (one_predicate_read e s.context 0 s.left t) (λ (p : PrivatePredicate) (l : Left). one_value (Ok (state (with_predicate s.context p) s.block l))))
+
+-- a statement that introduces names
 abbrev IntroducesAs : Environment → Extent → Place → State → IntroductionTree → Walked State → Type 0
 IntroducesAs e at first s (Consider t) o = Considers e at first s t o
 IntroducesAs e at first s (Reconsider t) o = Reconsiders e at first s t o
 IntroducesAs e at first s (Set t) o = Makes (OneByOne (SetsOne e first) s (members t.named)) without_obligations o
-IntroducesAs e at first s (Deffunc t) o = o ≡ not_built first
-IntroducesAs e at first s (Defpred t) o = o ≡ not_built first
+IntroducesAs e at first s (Deffunc t) o = Makes (DefinesFunctor e s t) without_obligations o
+IntroducesAs e at first s (Defpred t) o = Makes (DefinesPredicate e s t) without_obligations o
 
 introduces_as : (e : Environment) (at : Extent) (first : Place) (s : State) (t : IntroductionTree) (o : Walked State) → Introduces e at first s t o → IntroducesAs e at first s t o
 introduces_as e at first s t o (int.considers x _ h) = h
 introduces_as e at first s t o (int.reconsiders x _ h) = h
 introduces_as e at first s t o (int.sets x y h) = (y, h, refl)
-introduces_as e at first s t o (int.private_functor x) = refl
-introduces_as e at first s t o (int.private_predicate x) = refl
+introduces_as e at first s t o (int.private_functor x y h) = (y, h, refl)
+introduces_as e at first s t o (int.private_predicate x y h) = (y, h, refl)
 
 one_introduces_as : (e : Environment) (at : Extent) (first : Place) (s : State) (t : IntroductionTree) → AtMostOne (IntroducesAs e at first s t)
 one_introduces_as e at first s (Consider t) = one_considers e at first s t
 one_introduces_as e at first s (Reconsider t) = one_reconsiders e at first s t
 one_introduces_as e at first s (Set t) = one_made (OneByOne (SetsOne e first) s (members t.named)) without_obligations (one_by_one (SetsOne e first) (one_set e first) (members t.named) s)
-one_introduces_as e at first s (Deffunc t) = one_value (not_built first)
-one_introduces_as e at first s (Defpred t) = one_value (not_built first)
+one_introduces_as e at first s (Deffunc t) = one_made (DefinesFunctor e s t) without_obligations (one_functor e s t)
+one_introduces_as e at first s (Defpred t) = one_made (DefinesPredicate e s t) without_obligations (one_predicate e s t)
 
 pub one_introduction : OneIntroductionLaw
 one_introduction e at first s t = one_by (Introduces e at first s t) (IntroducesAs e at first s t) (introduces_as e at first s t) (one_introduces_as e at first s t)

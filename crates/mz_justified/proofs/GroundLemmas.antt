@@ -7,14 +7,16 @@ use Rattle.mz_core.specs.Statement.{Statement}
 use Rattle.mz_core.specs.declared.outcome.Left.{Left}
 use Rattle.mz_context.specs.declared.context.Context.{Context}
 use Rattle.mz_environment.specs.declared.environment.Environment.{Environment}
-use Rattle.mz_cited.specs.Cited.{cites}
 use Rattle.mz_obligations.specs.Obligations.{obligation_spent}
 use Rattle.mz_steps.specs.Premises.{in_front, given}
 use Rattle.mz_tree_proof.specs.declared.references.SimpleTree.{SimpleTree}
 use Rattle.mz_justified.specs.Justified as ju
-use Rattle.mz_justified.specs.Justified.{place_of, references_of, from_of, Grounds}
+use Rattle.mz_justified.specs.Justified.{place_of, Grounds}
+use Rattle.mz_given.specs.Given.{statements_given, behind_some, cited_in, given_in}
+use Rattle.mz_given.specs.declared.given.Given.{Given}
+use Rattle.mz_given.specs.declared.given.Given.TheVariants.{ByStatements, ByScheme}
 use Rattle.mz_justified.specs.declared.proof_fault.ProofRefusal.{ProofRefusal}
-use Rattle.mz_justified.specs.declared.proof_fault.ProofRefusal.TheVariants.{StepNoFit, UnknownLabel, TooManyObligations, NotBuilt}
+use Rattle.mz_justified.specs.declared.proof_fault.ProofRefusal.TheVariants.{StepNoFit, UnknownLabel, TooManyObligations}
 
 -- a statement just before, where one is wanted
 before_given : (linked : Bool) (c : Context) (s : Statement) (cited : List Statement) → c.previous ≡ Some s → (ss : List Statement) × (given linked c cited ≡ Some ss)
@@ -50,32 +52,29 @@ told_too_many e c first linked behind place t left after b k h eb g ek ep =
 spent : (left between : Left) (k : Bool) → OnTrue k (obligation_spent left ≡ Some between) → k ≡ true → obligation_spent left ≡ Some between
 spent left between k g ek = subst (λ x. OnTrue x (obligation_spent left ≡ Some between)) ek g
 
-pub told_by_a_scheme : (e : Environment) (c : Context) (first : Place) (linked : Bool) (behind from : Place) (t : SimpleTree) (left between after : Left) (b k : Bool) (o : Option Place) →
-    OnTrue b ((cited : List Statement) → (ss : List Statement) × (given linked c cited ≡ Some ss)) → b ≡ true → OnTrue k (obligation_spent left ≡ Some between) → k ≡ true → o ≡ from_of t → o ≡ Some from →
-    Grounds e c first linked behind t left (Err (NotBuilt from)) after
-told_by_a_scheme e c first linked behind from t left between after b k o h eb g ek eo ef =
-    let f : (ss : List Statement) × (given linked c [] ≡ Some ss) = following linked c b h eb [] in
-    ju.by_a_scheme f.0 between after from f.1 (spent left between k g ek) (sym eo ∙ ef)
-
-pub told_cites_nothing : (e : Environment) (c : Context) (first : Place) (linked : Bool) (behind place : Place) (t : SimpleTree) (left between after : Left) (b k : Bool) (o : Option Place) (p : Result (List Statement) Place) →
-    OnTrue b ((cited : List Statement) → (ss : List Statement) × (given linked c cited ≡ Some ss)) → b ≡ true → OnTrue k (obligation_spent left ≡ Some between) → k ≡ true → o ≡ from_of t → o ≡ None → p ≡ cites e c (references_of t) → p ≡ Err place →
+pub told_cites_nothing : (e : Environment) (c : Context) (first : Place) (linked : Bool) (behind place : Place) (t : SimpleTree) (left between after : Left) (b k : Bool) (p : Result Given Place) →
+    OnTrue b ((cited : List Statement) → (ss : List Statement) × (given linked c cited ≡ Some ss)) → b ≡ true → OnTrue k (obligation_spent left ≡ Some between) → k ≡ true → p ≡ cited_in e c t → p ≡ Err place →
     Grounds e c first linked behind t left (Err (UnknownLabel place)) after
-told_cites_nothing e c first linked behind place t left between after b k o p h eb g ek eo ef ep eq =
+told_cites_nothing e c first linked behind place t left between after b k p h eb g ek ep eq =
     let f : (ss : List Statement) × (given linked c [] ≡ Some ss) = following linked c b h eb [] in
-    ju.cites_nothing f.0 between after place f.1 (spent left between k g ek) (sym eo ∙ ef) (sym ep ∙ eq)
+    ju.cites_nothing f.0 between after place f.1 (spent left between k g ek) (sym ep ∙ eq)
 
-pub told_grounded : (e : Environment) (c : Context) (first : Place) (linked : Bool) (behind : Place) (t : SimpleTree) (left after : Left) (k : Bool) (o : Option Place) (p : Result (List Statement) Place) (cited ss : List Statement) (q : Option (List Statement)) →
-    OnTrue k (obligation_spent left ≡ Some after) → k ≡ true → o ≡ from_of t → o ≡ None → p ≡ cites e c (references_of t) → p ≡ Ok cited → q ≡ given linked c cited → q ≡ Some ss →
-    Grounds e c first linked behind t left (Ok ss) after
-told_grounded e c first linked behind t left after k o p cited ss q g ek eo ef ep eq eg es = ju.grounded cited ss after (spent left after k g ek) (sym eo ∙ ef) (sym ep ∙ eq) (sym eg ∙ es)
+pub told_grounded : (e : Environment) (c : Context) (first : Place) (linked : Bool) (behind : Place) (t : SimpleTree) (left after : Left) (k : Bool) (p : Result Given Place) (cited g : Given) (q : Option Given) →
+    OnTrue k (obligation_spent left ≡ Some after) → k ≡ true → p ≡ cited_in e c t → p ≡ Ok cited → q ≡ given_in linked c cited → q ≡ Some g →
+    Grounds e c first linked behind t left (Ok g) after
+told_grounded e c first linked behind t left after k p cited g q h ek ep eq eg es = ju.grounded cited g after (spent left after k h ek) (sym ep ∙ eq) (sym eg ∙ es)
 
-none_some : (ss : List Statement) → None ≡ Some ss → ⊥
-none_some ss h = cc
+none_some : (g : Given) → None ≡ Some g → ⊥
+none_some g h = cc
 
-pub told_never : (e : Environment) (c : Context) (first : Place) (linked : Bool) (behind : Place) (t : SimpleTree) (left after : Left) (b : Bool) (cited : List Statement) (q : Option (List Statement)) →
-    OnTrue b ((cited : List Statement) → (ss : List Statement) × (given linked c cited ≡ Some ss)) → b ≡ true → q ≡ given linked c cited → q ≡ None → Grounds e c first linked behind t left (Err (StepNoFit first)) after
+some_given : (linked : Bool) (c : Context) → ((cited : List Statement) → (ss : List Statement) × (given linked c cited ≡ Some ss)) → (cited : Given) → (g : Given) × (given_in linked c cited ≡ Some g)
+some_given linked c f (ByStatements ss) = (ByStatements (f ss).0, ap statements_given (f ss).1)
+some_given linked c f (ByScheme x ss) = (ByScheme x ss, ap (λ o. behind_some o (ByScheme x ss)) (f []).1)
+
+pub told_never : (e : Environment) (c : Context) (first : Place) (linked : Bool) (behind : Place) (t : SimpleTree) (left after : Left) (b : Bool) (cited : Given) (q : Option Given) →
+    OnTrue b ((cited : List Statement) → (ss : List Statement) × (given linked c cited ≡ Some ss)) → b ≡ true → q ≡ given_in linked c cited → q ≡ None → Grounds e c first linked behind t left (Err (StepNoFit first)) after
 told_never e c first linked behind t left after b cited q h eb eg en =
-    let f : (ss : List Statement) × (given linked c cited ≡ Some ss) = following linked c b h eb cited in
+    let f : (g : Given) × (given_in linked c cited ≡ Some g) = some_given linked c (following linked c b h eb) cited in
     absurd (none_some f.0 (sym en ∙ (eg ∙ f.1)))
 
-pub ruleset ground_rules = (told_follows_nothing, told_too_many, told_by_a_scheme, told_cites_nothing, told_grounded, told_never)
+pub ruleset ground_rules = (told_follows_nothing, told_too_many, told_cites_nothing, told_grounded, told_never)

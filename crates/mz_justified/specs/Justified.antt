@@ -3,19 +3,26 @@ use Rattle.std.specs.Prelude.{◌≡◌, ◌++◌, ◌∷◌, Bool, List, [], Op
 use Rattle.mz_base.specs.declared.place.Place.{Place}
 use Rattle.mz_core.specs.Statement.{Statement}
 use Rattle.mz_core.specs.declared.outcome.Left.{Left}
+use Rattle.mz_core.specs.declared.scheme.Scheme.{Scheme}
+use Rattle.mz_context.specs.declared.constants.Constant.{Constant}
 use Rattle.mz_context.specs.declared.context.Context.{Context}
 use Rattle.mz_environment.specs.declared.environment.Environment.{Environment}
+use Rattle.mz_ground.specs.declared.clause.Clause.{Clause}
 use Rattle.mz_types.specs.Known.{letters_clauses, typing}
-use Rattle.mz_tree_proof.specs.declared.references.ReferenceTree.{ReferenceTree}
 use Rattle.mz_tree_proof.specs.declared.references.SimpleTree.{SimpleTree}
 use Rattle.mz_tree_proof.specs.declared.references.SimpleTree.TheVariants.{Nothing, By, From}
-use Rattle.mz_cited.specs.Cited.{members, cites}
+use Rattle.mz_given.specs.Given.{cited_in, given_in}
+use Rattle.mz_given.specs.declared.given.Given.{Given}
+use Rattle.mz_given.specs.declared.given.Given.TheVariants.{ByStatements, ByScheme}
+use Rattle.mz_from.specs.Verdict.{IsVerdict}
 use Rattle.mz_steps.specs.Premises.{given}
 use Rattle.mz_obligations.specs.Obligations.{IsObligation, obligation_spent}
+use Rattle.mz_obligations.specs.declared.obligation.Duty.TheVariants.{From as DutyFrom}
 use Rattle.mz_obligations.specs.declared.obligation.Extent.{Extent}
 use Rattle.mz_obligations.specs.declared.obligation.Obligation.{Obligation}
+use Rattle.mz_obligations.specs.declared.obligation.SchemeVerdict.{SchemeVerdict}
 use Rattle.mz_justified.specs.declared.proof_fault.ProofRefusal.{ProofRefusal}
-use Rattle.mz_justified.specs.declared.proof_fault.ProofRefusal.TheVariants.{StepNoFit, UnknownLabel, TooManyObligations, NotBuilt}
+use Rattle.mz_justified.specs.declared.proof_fault.ProofRefusal.TheVariants.{StepNoFit, UnknownLabel, TooManyObligations}
 
 -- its place: the word `by` or `from`, or the place of the token behind the statement where neither is written
 abbrev pub place_of : Place → SimpleTree → Place
@@ -23,41 +30,37 @@ place_of behind Nothing = behind
 place_of behind (By by rs) = by
 place_of behind (From from s ps) = from
 
--- what it cites by references
-abbrev pub references_of : SimpleTree → List ReferenceTree
-references_of Nothing = []
-references_of (By by rs) = members rs
-references_of (From from s ps) = []
-
--- the word `from`, where it is by a scheme
-abbrev pub from_of : SimpleTree → Option Place
-from_of Nothing = None
-from_of (By by rs) = None
-from_of (From from s ps) = Some from
-
 -- what a justification gives, and what the article has left behind its obligation; or the refusal. `first` is the place of the
 -- step's first token, `linked` says that the step begins with `then` or `hence`, and `behind` is the place of the token behind
--- the statement. In this order: a linked step follows a statement; the article has an obligation left; the justification isn't
--- by a scheme, which isn't built yet; each reference cites something. After a refusal anything may be left.
-pub data Grounds (e : Environment) (c : Context) (first : Place) (linked : Bool) (behind : Place) (t : SimpleTree) (left : Left) : Result (List Statement) ProofRefusal → Left → Type 0 where
+-- the statement. In this order: a linked step follows a statement; the article has an obligation left; each reference cites
+-- something, that of a scheme first. After a refusal anything may be left.
+pub data Grounds (e : Environment) (c : Context) (first : Place) (linked : Bool) (behind : Place) (t : SimpleTree) (left : Left) : Result Given ProofRefusal → Left → Type 0 where
   follows_nothing : (after : Left) → given linked c [] ≡ None → Grounds e c first linked behind t left (Err (StepNoFit first)) after
   too_many : (ss : List Statement) (after : Left) → given linked c [] ≡ Some ss → obligation_spent left ≡ None →
       Grounds e c first linked behind t left (Err (TooManyObligations (place_of behind t))) after
-  by_a_scheme : (ss : List Statement) (between after : Left) (from : Place) → given linked c [] ≡ Some ss → obligation_spent left ≡ Some between → from_of t ≡ Some from →
-      Grounds e c first linked behind t left (Err (NotBuilt from)) after
-  cites_nothing : (ss : List Statement) (between after : Left) (p : Place) → given linked c [] ≡ Some ss → obligation_spent left ≡ Some between → from_of t ≡ None →
-      cites e c (references_of t) ≡ Err p → Grounds e c first linked behind t left (Err (UnknownLabel p)) after
-  grounded : (cited ss : List Statement) (after : Left) → obligation_spent left ≡ Some after → from_of t ≡ None → cites e c (references_of t) ≡ Ok cited → given linked c cited ≡ Some ss →
-      Grounds e c first linked behind t left (Ok ss) after
+  cites_nothing : (ss : List Statement) (between after : Left) (p : Place) → given linked c [] ≡ Some ss → obligation_spent left ≡ Some between → cited_in e c t ≡ Err p →
+      Grounds e c first linked behind t left (Err (UnknownLabel p)) after
+  grounded : (cited g : Given) (after : Left) → obligation_spent left ≡ Some after → cited_in e c t ≡ Ok cited → given_in linked c cited ≡ Some g →
+      Grounds e c first linked behind t left (Ok g) after
+
+-- the obligation of a statement by a scheme and what is cited for its premises, at the place: what is found there
+pub record IsFollowed (cs : List Clause) (ks : List (Option Constant)) (scheme : Scheme) (cited : List Statement) (s : Statement) (place : Place) (extent : Extent) (letters : List Clause) (o : Obligation) : Type 0 where
+  pub place_is : o.place ≡ place
+  pub extent_is : o.extent ≡ extent
+  pub letters_are : o.letters ≡ letters
+  pub verdict : SchemeVerdict
+  pub found : IsVerdict cs ks scheme cited s verdict
+  pub duty_is : o.duty ≡ DutyFrom verdict
 
 -- the obligation of a statement by what is given, at the place, where so much can be used
-abbrev pub Owes : Environment → Extent → Context → List Statement → Statement → Place → Obligation → Type 0
-Owes e at c ss s place o = IsObligation (typing e c) e.expansions c.constants ss s place at (letters_clauses c.letters) o
+abbrev pub Owes : Environment → Extent → Context → Given → Statement → Place → Obligation → Type 0
+Owes e at c (ByStatements ss) s place o = IsObligation (typing e c) e.expansions c.constants ss s place at (letters_clauses c.letters) o
+Owes e at c (ByScheme x cited) s place o = IsFollowed (typing e c) c.constants x cited s place at (letters_clauses c.letters) o
 
 -- the obligation of the statement by its justification, and what is left behind it; or the refusal
 pub data Justified (e : Environment) (at : Extent) (c : Context) (first : Place) (linked : Bool) (behind : Place) (t : SimpleTree) (s : Statement) (left : Left) : Result Obligation ProofRefusal → Left → Type 0 where
   not_grounded : (r : ProofRefusal) (after : Left) → Grounds e c first linked behind t left (Err r) after → Justified e at c first linked behind t s left (Err r) after
-  owed : (ss : List Statement) (o : Obligation) (after : Left) → Grounds e c first linked behind t left (Ok ss) after → Owes e at c ss s (place_of behind t) o →
+  owed : (g : Given) (o : Obligation) (after : Left) → Grounds e c first linked behind t left (Ok g) after → Owes e at c g s (place_of behind t) o →
       Justified e at c first linked behind t s left (Ok o) after
 
 -- it is put behind the obligations before it

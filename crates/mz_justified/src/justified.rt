@@ -1,6 +1,8 @@
 //! The obligation of a statement by its justification.
 ghost use Rattle.std.specs.Prelude.{◌≡◌, ◌++◌, IfOk, OnOk};
-ghost use Rattle.mz_types.specs.Known.{letters_clauses};
+ghost use Rattle.mz_types.specs.Known.{letters_clauses, typing};
+ghost use Rattle.mz_given.specs.declared.given.Given.TheVariants.{ByStatements, ByScheme};
+ghost use Rattle.mz_from.specs.Verdict.{IsVerdict};
 ghost use Rattle.mz_justified.specs.Answers.{OnMade};
 ghost use Rattle.mz_justified.specs.Justified.{place_of, Owes, Justified, IsPut, Put};
 
@@ -12,10 +14,13 @@ use mz_clauses::clauses_of::letter_clauses;
 use mz_context::context::Context;
 use mz_context::letters::NamedLetters;
 use mz_core::outcome::Left;
+use mz_core::scheme::Scheme;
 use mz_core::statement::Statement;
 use mz_core::statements::Statements;
+use mz_from::verdict::fit_scheme;
+use mz_given::given::Given;
 use mz_ground::clauses::Clauses;
-use mz_obligations::obligation::{Obligation, Obligations};
+use mz_obligations::obligation::{Duty, Obligation, Obligations, SchemeVerdict};
 use mz_obligations::spend_obligation::obligation;
 use mz_tree_proof::references::SimpleTree;
 use mz_types::known::typing;
@@ -42,16 +47,16 @@ fn letters_clauses(alloc: Global, letters: &NamedLetters) -> Result<Clauses, All
     Ok(out)
 }
 
-/// The obligation of the statement by what is given, at the place, where so much can be used.
+/// The obligation of the statement by statements that are given, at the place, where so much can be used.
 #[tactic(auto, using(crate::proofs::OweLemmas::owe_rules))]
-fn owed(
+fn owed_by_statements(
     walker: Walker<'_>,
     ctx: &Context,
     given: &Statements,
     s: &Statement,
     place: Place,
 ) -> Result<Obligation, AllocError>
-    ensures { IfOk result (λ o. Owes walker.entry.env.now walker.entry.at ctx.now given.now s.now place o) }
+    ensures { IfOk result (λ o. Owes walker.entry.env.now walker.entry.at ctx.now (ByStatements given.now) s.now place o) }
 {
     let letters = letters_clauses(walker.alloc, &ctx.letters)?;
     match typing(walker.alloc, walker.env, ctx)? {
@@ -86,12 +91,81 @@ fn owed(
     }
 }
 
+/// What is found by the scheme and what is cited, by the clauses that decide what fits in the context.
+#[tactic(auto, using(crate::proofs::OweLemmas::verdict_rules))]
+fn verdict(
+    walker: Walker<'_>,
+    ctx: &Context,
+    scheme: &Scheme,
+    cited: &Statements,
+    s: &Statement,
+) -> Result<SchemeVerdict, AllocError>
+    ensures { IfOk result (λ v. IsVerdict (typing walker.entry.env.now ctx.now) ctx.now.constants scheme.now cited.now s.now v) }
+{
+    match typing(walker.alloc, walker.env, ctx)? {
+        Some(clauses) => {
+            let v = fit_scheme(
+                walker.alloc,
+                clauses.as_slice(),
+                &ctx.constants,
+                scheme,
+                cited,
+                s,
+            )?;
+            Ok(v)
+        }
+        None => {
+            let clauses = walker.env.typing.as_slice();
+            let v = fit_scheme(walker.alloc, clauses, &ctx.constants, scheme, cited, s)?;
+            Ok(v)
+        }
+    }
+}
+
+/// The obligation of the statement by a scheme and what is cited for its premises, at the place.
+#[tactic(auto, using(crate::proofs::OweLemmas::follow_rules))]
+fn owed_by_scheme(
+    walker: Walker<'_>,
+    ctx: &Context,
+    scheme: &Scheme,
+    cited: &Statements,
+    s: &Statement,
+    place: Place,
+) -> Result<Obligation, AllocError>
+    ensures { IfOk result (λ o. Owes walker.entry.env.now walker.entry.at ctx.now (ByScheme scheme.now cited.now) s.now place o) }
+{
+    let v = verdict(walker, ctx, scheme, cited, s)?;
+    let letters = letters_clauses(walker.alloc, &ctx.letters)?;
+    Ok(Obligation {
+        place,
+        extent: walker.at,
+        letters,
+        duty: Duty::From(v),
+    })
+}
+
+/// The obligation of the statement by what is given, at the place, where so much can be used.
+fn owed(
+    walker: Walker<'_>,
+    ctx: &Context,
+    given: &Given,
+    s: &Statement,
+    place: Place,
+) -> Result<Obligation, AllocError>
+    ensures { IfOk result (λ o. Owes walker.entry.env.now walker.entry.at ctx.now given.now s.now place o) }
+{
+    match given {
+        Given::ByStatements(ss) => owed_by_statements(walker, ctx, ss, s, place),
+        Given::ByScheme(scheme, cited) => owed_by_scheme(walker, ctx, scheme, cited, s, place),
+    }
+}
+
 /// Puts the obligation of the statement, by what is given, behind the others.
 #[tactic(auto, using(crate::proofs::OweLemmas::oblige_rules))]
 pub fn oblige(
     walker: Walker<'_>,
     ctx: &Context,
-    given: &Statements,
+    given: &Given,
     s: &Statement,
     place: Place,
     os: &mut Obligations,
@@ -107,7 +181,7 @@ pub fn oblige(
 /// the place of the token behind the statement.
 ///
 /// Refusals, in this order: `StepNoFit` at the step where it is linked and follows no statement; `TooManyObligations` at the
-/// justification; `NotBuilt` at the word `from`; `UnknownLabel` at the first reference that cites nothing.
+/// justification; `UnknownLabel` at the first reference that cites nothing, that of a scheme among them.
 #[tactic(auto, using(crate::proofs::OweLemmas::justify_rules))]
 pub fn justify_simply(
     walker: Walker<'_>,

@@ -10,7 +10,11 @@ use Rattle.mz_environment.specs.declared.environment.Environment.{Environment}
 use Rattle.mz_environment.specs.declared.unfoldings.Unfolding.{Unfolding}
 use Rattle.mz_ground.specs.declared.clause.Clause.{Clause}
 use Rattle.mz_types.specs.Known.{typing}
-use Rattle.mz_cited.specs.Cited.{cites}
+use Rattle.mz_given.specs.Given.{statements_given, behind_some, cited_in, given_in}
+use Rattle.mz_given.specs.declared.given.Given.{Given}
+use Rattle.mz_given.specs.declared.given.Given.TheVariants.{ByStatements, ByScheme}
+use Rattle.mz_from.specs.Verdict.{IsVerdict}
+use Rattle.mz_from.proofs.OneVerdict.{one_verdict_law}
 use Rattle.mz_steps.specs.Premises.{in_front, given}
 use Rattle.mz_obligations.specs.Obligations.{IsDuty, obligation_spent}
 use Rattle.mz_obligations.specs.declared.obligation.Duty.{Duty}
@@ -20,39 +24,35 @@ use Rattle.mz_obligations.specs.declared.obligation.Obligation.{Obligation}
 use Rattle.mz_problem_laws.proofs.OneProblemProofs.{one_problem_law}
 use Rattle.mz_tree_proof.specs.declared.references.SimpleTree.{SimpleTree}
 use Rattle.mz_justified.specs.Justified as ju
-use Rattle.mz_justified.specs.Justified.{place_of, references_of, from_of, Grounds, Owes, Justified}
+use Rattle.mz_justified.specs.Justified.{place_of, Grounds, Owes, Justified}
 use Rattle.mz_justified.specs.declared.proof_fault.ProofRefusal.{ProofRefusal}
-use Rattle.mz_justified.specs.declared.proof_fault.ProofRefusal.TheVariants.{StepNoFit, UnknownLabel, TooManyObligations, NotBuilt}
+use Rattle.mz_justified.specs.declared.proof_fault.ProofRefusal.TheVariants.{StepNoFit, UnknownLabel, TooManyObligations}
 use Rattle.mz_justified_laws.specs.Determined.{SameLeft}
 use Rattle.mz_justified_laws.specs.Laws.{OneGroundLaw, OneOwedLaw, OneJustificationLaw}
 use Rattle.mz_justified_laws.proofs.Sequence.{determined_by, IsMade, determined_made, ThenRead, determined_then, as_it_is}
 
 -- what is given, or the refusal, as a function of the parts that are looked at one after another
-abbrev by_given : Place → Option (List Statement) → Result (List Statement) ProofRefusal
+abbrev by_given : Place → Option Given → Result Given ProofRefusal
 by_given first None = Err (StepNoFit first)
-by_given first (Some ss) = Ok ss
+by_given first (Some g) = Ok g
 
-abbrev by_cited : Context → Place → Bool → Result (List Statement) Place → Result (List Statement) ProofRefusal
+abbrev by_cited : Context → Place → Bool → Result Given Place → Result Given ProofRefusal
 by_cited c first linked (Err p) = Err (UnknownLabel p)
-by_cited c first linked (Ok cited) = by_given first (given linked c cited)
+by_cited c first linked (Ok cited) = by_given first (given_in linked c cited)
 
-abbrev by_from : Environment → Context → Place → Bool → SimpleTree → Option Place → Result (List Statement) ProofRefusal
-by_from e c first linked t (Some from) = Err (NotBuilt from)
-by_from e c first linked t None = by_cited c first linked (cites e c (references_of t))
-
-abbrev by_spent : Environment → Context → Place → Bool → Place → SimpleTree → Option Left → Result (List Statement) ProofRefusal
+abbrev by_spent : Environment → Context → Place → Bool → Place → SimpleTree → Option Left → Result Given ProofRefusal
 by_spent e c first linked behind t None = Err (TooManyObligations (place_of behind t))
-by_spent e c first linked behind t (Some l) = by_from e c first linked t (from_of t)
+by_spent e c first linked behind t (Some l) = by_cited c first linked (cited_in e c t)
 
-abbrev by_linked : Environment → Context → Place → Bool → Place → SimpleTree → Left → Option (List Statement) → Result (List Statement) ProofRefusal
+abbrev by_linked : Environment → Context → Place → Bool → Place → SimpleTree → Left → Option (List Statement) → Result Given ProofRefusal
 by_linked e c first linked behind t left None = Err (StepNoFit first)
 by_linked e c first linked behind t left (Some ss) = by_spent e c first linked behind t (obligation_spent left)
 
-abbrev ground_of : Environment → Context → Place → Bool → Place → SimpleTree → Left → Result (List Statement) ProofRefusal
+abbrev ground_of : Environment → Context → Place → Bool → Place → SimpleTree → Left → Result Given ProofRefusal
 ground_of e c first linked behind t left = by_linked e c first linked behind t left (given linked c [])
 
 -- where it isn't refused, this is left
-abbrev IsLeft : Result (List Statement) ProofRefusal → Option Left → Left → Type 0
+abbrev IsLeft : Result Given ProofRefusal → Option Left → Left → Type 0
 IsLeft (Ok ss) z a = z ≡ Some a
 IsLeft (Err r) z a = Unit {0}
 
@@ -64,26 +64,41 @@ something_in_front : (o : Option Statement) (cited ss : List Statement) → in_f
 something_in_front None cited ss h = absurd (none_some ss h)
 something_in_front (Some s) cited ss h = (s ∷ [], refl)
 
+nothing_given : (g : Given) → None ≡ Some g → ⊥
+nothing_given g h = cc
+
 something_given : (linked : Bool) (c : Context) (cited ss : List Statement) → given linked c cited ≡ Some ss → (us : List Statement) × (given linked c [] ≡ Some us)
 something_given false c cited ss h = ([], refl)
 something_given true c cited ss h = something_in_front c.previous cited ss h
 
-ground_is : (e : Environment) (c : Context) (first : Place) (linked : Bool) (behind : Place) (t : SimpleTree) (left : Left) (o : Result (List Statement) ProofRefusal) (a : Left) →
+behind_something : (o : Option (List Statement)) (g h : Given) → behind_some o g ≡ Some h → (us : List Statement) × (o ≡ Some us)
+behind_something None g h e = absurd (nothing_given h e)
+behind_something (Some ss) g h e = (ss, refl)
+
+out_of_given : (o : Option (List Statement)) (g : Given) → statements_given o ≡ Some g → (us : List Statement) × (o ≡ Some us)
+out_of_given None g e = absurd (nothing_given g e)
+out_of_given (Some ss) g e = (ss, refl)
+
+follows_something : (linked : Bool) (c : Context) (cited g : Given) → given_in linked c cited ≡ Some g → (us : List Statement) × (given linked c [] ≡ Some us)
+follows_something linked c (ByStatements ss) g h =
+    let some : (us : List Statement) × (given linked c ss ≡ Some us) = out_of_given (given linked c ss) g h in
+    something_given linked c ss some.0 some.1
+follows_something linked c (ByScheme x ss) g h = behind_something (given linked c []) (ByScheme x ss) g h
+
+ground_is : (e : Environment) (c : Context) (first : Place) (linked : Bool) (behind : Place) (t : SimpleTree) (left : Left) (o : Result Given ProofRefusal) (a : Left) →
     Grounds e c first linked behind t left o a → (o ≡ ground_of e c first linked behind t left) × IsLeft o (obligation_spent left) a
 ground_is e c first linked behind t left o a (ju.follows_nothing _ h) = (sym (ap (by_linked e c first linked behind t left) h), tt)
 ground_is e c first linked behind t left o a (ju.too_many ss _ h k) = (sym (ap (by_linked e c first linked behind t left) h ∙ ap (by_spent e c first linked behind t) k), tt)
-ground_is e c first linked behind t left o a (ju.by_a_scheme ss l _ from h k m) =
-    (sym (ap (by_linked e c first linked behind t left) h ∙ (ap (by_spent e c first linked behind t) k ∙ ap (by_from e c first linked t) m)), tt)
-ground_is e c first linked behind t left o a (ju.cites_nothing ss l _ p h k m n) =
-    (sym (ap (by_linked e c first linked behind t left) h ∙ (ap (by_spent e c first linked behind t) k ∙ (ap (by_from e c first linked t) m ∙ ap (by_cited c first linked) n))), tt)
-ground_is e c first linked behind t left o a (ju.grounded cited ss _ k m n g) =
-    let h : (us : List Statement) × (given linked c [] ≡ Some us) = something_given linked c cited ss g in
-    (sym (ap (by_linked e c first linked behind t left) h.1 ∙ (ap (by_spent e c first linked behind t) k ∙ (ap (by_from e c first linked t) m ∙ (ap (by_cited c first linked) n ∙ ap (by_given first) g)))), k)
+ground_is e c first linked behind t left o a (ju.cites_nothing ss l _ p h k n) =
+    (sym (ap (by_linked e c first linked behind t left) h ∙ (ap (by_spent e c first linked behind t) k ∙ ap (by_cited c first linked) n)), tt)
+ground_is e c first linked behind t left o a (ju.grounded cited g _ k n m) =
+    let h : (us : List Statement) × (given linked c [] ≡ Some us) = follows_something linked c cited g m in
+    (sym (ap (by_linked e c first linked behind t left) h.1 ∙ (ap (by_spent e c first linked behind t) k ∙ (ap (by_cited c first linked) n ∙ ap (by_given first) m))), k)
 
 some-inj : (z : Option Left) (a b : Left) → z ≡ Some a → z ≡ Some b → a ≡ b
 some-inj z a b h k = cc
 
-left_is : (o : Result (List Statement) ProofRefusal) (z : Option Left) (a b : Left) → IsLeft o z a → IsLeft o z b → SameLeft o a b
+left_is : (o : Result Given ProofRefusal) (z : Option Left) (a b : Left) → IsLeft o z a → IsLeft o z b → SameLeft o a b
 left_is (Ok ss) z a b h k = some-inj z a b h k
 left_is (Err r) z a b h k = tt
 
@@ -92,7 +107,7 @@ one_ground e c first linked behind t left o p a b h k =
     let x : (o ≡ ground_of e c first linked behind t left) × IsLeft o (obligation_spent left) a = ground_is e c first linked behind t left o a h in
     let y : (p ≡ ground_of e c first linked behind t left) × IsLeft p (obligation_spent left) b = ground_is e c first linked behind t left p b k in
     let same : o ≡ p = x.0 ∙ sym y.0 in
-    (same, left_is o (obligation_spent left) a b x.1 (subst (λ (z : Result (List Statement) ProofRefusal). IsLeft z (obligation_spent left) b) (sym same) y.1))
+    (same, left_is o (obligation_spent left) a b x.1 (subst (λ (z : Result Given ProofRefusal). IsLeft z (obligation_spent left) b) (sym same) y.1))
 
 -- an obligation
 one_duty : (cs : List Clause) (us : List Unfolding) (ks : List (Option Constant)) (ss : List Statement) (s : Statement) (d f : Duty) → IsDuty cs us ks ss s d → IsDuty cs us ks ss s f → d ≡ f
@@ -104,11 +119,14 @@ same_obligation : (o p : Obligation) → o.place ≡ p.place → o.extent ≡ p.
 same_obligation o p a b c d = λ i. record { place = a i; extent = b i; letters = c i; duty = d i }
 
 pub one_owed : OneOwedLaw
-one_owed e at c ss s place o p h k =
+one_owed e at c (ByStatements ss) s place o p h k =
     same_obligation o p (h.place_is ∙ sym k.place_is) (h.extent_is ∙ sym k.extent_is) (h.letters_are ∙ sym k.letters_are) (one_duty (typing e c) e.expansions c.constants ss s o.duty p.duty h.duty_is k.duty_is)
+one_owed e at c (ByScheme x cited) s place o p h k =
+    let same : h.verdict ≡ k.verdict = one_verdict_law (typing e c) c.constants x cited s h.verdict k.verdict h.found k.found in
+    same_obligation o p (h.place_is ∙ sym k.place_is) (h.extent_is ∙ sym k.extent_is) (h.letters_are ∙ sym k.letters_are) (h.duty_is ∙ (ap From same ∙ sym k.duty_is))
 
 -- what is given, and then the obligation by it
-abbrev OwedNext : Environment → Extent → Context → Place → SimpleTree → Statement → List Statement → Left → Result Obligation ProofRefusal → Left → Type 0
+abbrev OwedNext : Environment → Extent → Context → Place → SimpleTree → Statement → Given → Left → Result Obligation ProofRefusal → Left → Type 0
 OwedNext e at c behind t s ss l = IsMade (Owes e at c ss s (place_of behind t)) l
 
 abbrev JustifiedAs : Environment → Extent → Context → Place → Bool → Place → SimpleTree → Statement → Left → Result Obligation ProofRefusal → Left → Type 0
@@ -123,4 +141,4 @@ pub one_justification : OneJustificationLaw
 one_justification e at c first linked behind t s left =
     determined_by (Justified e at c first linked behind t s left) (JustifiedAs e at c first linked behind t s left) (justified_as e at c first linked behind t s left)
     (determined_then (Grounds e c first linked behind t left) as_it_is (OwedNext e at c behind t s) (one_ground e c first linked behind t left)
-    (λ (ss : List Statement) (l : Left). determined_made (Owes e at c ss s (place_of behind t)) l (one_owed e at c ss s (place_of behind t))))
+    (λ (ss : Given) (l : Left). determined_made (Owes e at c ss s (place_of behind t)) l (one_owed e at c ss s (place_of behind t))))

@@ -49,6 +49,8 @@ reading_law e closed_e =
       with_one = λ c level k w u. record { is_whole = reads.with_one c level.is_whole k w u; no_it = level.no_it; no_arguments = level.no_arguments; no_subject = level.no_subject };
       with_some = λ c level ps all. record { is_whole = reads.with_some c level.is_whole ps all; no_it = level.no_it; no_arguments = level.no_arguments; no_subject = level.no_subject };
       posed = λ c level s w. record { is_whole = reads.posed c level.is_whole s w; no_it = level.no_it; no_arguments = level.no_arguments; no_subject = level.no_subject };
+      with_functor_read = λ c level l m t f h. record { is_whole = reads.with_functor_read c level.is_whole l m t f h; no_it = level.no_it; no_arguments = level.no_arguments; no_subject = level.no_subject };
+      with_predicate_read = λ c level l m t p h. record { is_whole = reads.with_predicate_read c level.is_whole l m t p h; no_it = level.no_it; no_arguments = level.no_arguments; no_subject = level.no_subject };
       unlinked = λ c level. record { is_whole = reads.unlinked c level.is_whole; no_it = level.no_it; no_arguments = level.no_arguments; no_subject = level.no_subject };
     }
 

@@ -6,21 +6,22 @@ use Rattle.mz_ground.specs.Instance.{term_nodes}
 use Rattle.mz_core.specs.declared.outcome.Left.{Left}
 use Rattle.mz_names.specs.declared.refusal.Refusal.{Refusal}
 use Rattle.mz_names.specs.declared.refusal.Refusal.TheVariants.{TooLarge}
-use Rattle.mz_sizes.specs.Sizes.{type_nodes}
+use Rattle.mz_sizes.specs.Sizes.{type_nodes, statement_nodes}
 use Rattle.mz_tree.specs.Places.{first_place}
 use Rattle.mz_tree.specs.Spell.{spell_term, spell_type, spell_formula}
 use Rattle.mz_terms.specs.Terms.{ReadsTerm}
 use Rattle.mz_terms.specs.Types.{ReadsType}
 use Rattle.mz_terms.proofs.OneTerm.{one_term, one_list}
 use Rattle.mz_terms.proofs.OneType.{one_own, one_type}
+use Rattle.mz_formulas.specs.Formulas.{ReadsFormula}
 use Rattle.mz_formulas.specs.Sentences.{ReadsSentence}
 use Rattle.mz_formula_laws.proofs.OneAtom.{Determined}
-use Rattle.mz_formula_laws.proofs.OneFormula.{one_sentence}
+use Rattle.mz_formula_laws.proofs.OneFormula.{one_formula, one_sentence}
 use Rattle.mz_resolve.specs.Calls as ca
 use Rattle.mz_resolve.specs.Calls.{Counted, sentence_nodes}
 use Rattle.mz_resolve.specs.Spending.{spent}
 use Rattle.mz_justified_laws.specs.Determined.{AtMostOne, SameLeft, IsDetermined}
-use Rattle.mz_parts_laws.specs.Laws.{OneTermReadLaw, OneTypeReadLaw, OneSentenceReadLaw}
+use Rattle.mz_parts_laws.specs.Laws.{OneTermReadLaw, OneTypeReadLaw, OneFormulaReadLaw, OneSentenceReadLaw}
 
 -- what is read has more nodes than are left, or they are spent
 abbrev IsBeyond : {X : Type 0} → (X → ℕ) → Option Place → Left → X → Result X Refusal → Type 0
@@ -86,6 +87,9 @@ one_term_read e c least left t = one_counted (ReadsTerm e c least t) term_nodes 
 
 pub one_type_read : OneTypeReadLaw
 one_type_read e c least left t = one_counted (ReadsType e c least t) type_nodes (first_place (spell_type t)) left (one_type e c least t)
+
+pub one_formula_read : OneFormulaReadLaw
+one_formula_read e c least left f = one_counted (ReadsFormula e least c f) statement_nodes (first_place (spell_formula f)) left (λ o p h k. one_formula determined e least c f o h p k)
 
 pub one_sentence_read : OneSentenceReadLaw
 one_sentence_read e c least left f = one_counted (ReadsSentence e least c f) sentence_nodes (first_place (spell_formula f)) left (one_sentence determined e least c f)

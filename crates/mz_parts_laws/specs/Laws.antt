@@ -14,7 +14,7 @@ use Rattle.mz_tree_proof.specs.declared.introduction.NamedTermTree.{NamedTermTre
 use Rattle.mz_tree_proof.specs.declared.introduction.RetypedTree.{RetypedTree}
 use Rattle.mz_tree_proof.specs.declared.propositions.PropositionTree.{PropositionTree}
 use Rattle.mz_tree_proof.specs.declared.propositions.PropositionsTree.{PropositionsTree}
-use Rattle.mz_resolve.specs.Calls.{TermRead, TypeRead, SentenceRead}
+use Rattle.mz_resolve.specs.Calls.{TermRead, TypeRead, FormulaRead, SentenceRead}
 use Rattle.mz_parts.specs.Declarations.{Declares, DeclarationsRead}
 use Rattle.mz_parts.specs.Propositions.{PropositionsRead}
 use Rattle.mz_parts.specs.Described.{DescriptionRead}
@@ -26,6 +26,9 @@ OneTermReadLaw = (e : Environment) (c : Context) (least : ℕ) (left : Left) (t 
 
 abbrev pub OneTypeReadLaw : Type 0
 OneTypeReadLaw = (e : Environment) (c : Context) (least : ℕ) (left : Left) (t : TypeData) → IsDetermined (TypeRead e c least left t)
+
+abbrev pub OneFormulaReadLaw : Type 0
+OneFormulaReadLaw = (e : Environment) (c : Context) (least : ℕ) (left : Left) (f : FormulaData) → IsDetermined (FormulaRead e c least left f)
 
 abbrev pub OneSentenceReadLaw : Type 0
 OneSentenceReadLaw = (e : Environment) (c : Context) (least : ℕ) (left : Left) (f : FormulaData) → IsDetermined (SentenceRead e c least left f)

@@ -1,10 +1,11 @@
 //! Laws of parts of steps, each the contract of a function that does nothing.
-ghost use Rattle.mz_parts_laws.specs.Laws.{OneTermReadLaw, OneTypeReadLaw, OneSentenceReadLaw, OneDeclarationLaw, OneDeclarationsLaw, OnePropositionsLaw, OneDescriptionLaw, OneDefinitionLaw, OneNamedLaw, OneTermsLaw, OneRetypedLaw, OneSidesLaw};
+ghost use Rattle.mz_parts_laws.specs.Laws.{OneTermReadLaw, OneTypeReadLaw, OneFormulaReadLaw, OneSentenceReadLaw, OneDeclarationLaw, OneDeclarationsLaw, OnePropositionsLaw, OneDescriptionLaw, OneDefinitionLaw, OneNamedLaw, OneTermsLaw, OneRetypedLaw, OneSidesLaw};
 
 /// What an expression that is part of no other is read to, and what the article has left behind it, is determined.
 pub fn one_expression_law()
     ensures term { OneTermReadLaw }
     ensures ty { OneTypeReadLaw }
+    ensures formula { OneFormulaReadLaw }
     ensures sentence { OneSentenceReadLaw }
 {}
 

@@ -23,6 +23,7 @@ use Rattle.mz_obligations.specs.declared.obligation.Obligation.{Obligation}
 use Rattle.mz_parts.specs.Joined.{joined_within, disjoined_within}
 use Rattle.mz_parts.specs.Propositions.{PropositionsRead, hypotheses_in}
 use Rattle.mz_justified.specs.Answers.{OnMade}
+use Rattle.mz_given.specs.declared.given.Given.{Given}
 use Rattle.mz_justified.specs.Justified.{Owes, IsPut, place_of}
 use Rattle.mz_justified.specs.declared.proof_fault.ProofFault.{ProofFault}
 use Rattle.mz_justified.specs.declared.proof_fault.ProofRefusal.{ProofRefusal}
@@ -70,7 +71,7 @@ told_some_case first ss rest s o es eo = eo ∙ ap (λ xs. within statement_keep
 pub ruleset disjunction_rules = (told_no_case, told_some_case)
 
 -- the obligation in front
-pub told_put_first : (e : Environment) (at : Extent) (c : Context) (given : List Statement) (s : Statement) (p q : Place) (inner old mid new : List Obligation) → p ≡ q → IsPut (Owes e at c given s p) old mid → new ≡ mid ++ inner → IsPutFirst (Owes e at c given s q) inner old new
+pub told_put_first : (e : Environment) (at : Extent) (c : Context) (given : Given) (s : Statement) (p q : Place) (inner old mid new : List Obligation) → p ≡ q → IsPut (Owes e at c given s p) old mid → new ≡ mid ++ inner → IsPutFirst (Owes e at c given s q) inner old new
 told_put_first e at c given s p q inner old mid new ep put en =
     record { obligation = put.obligation; is_owed = subst (λ x. Owes e at c given s x put.obligation) ep put.is_owed; are_last = en ∙ (ap (λ xs. xs ++ inner) put.is_last ∙ append_assoc old (put.obligation ∷ []) inner) }
 
@@ -80,7 +81,7 @@ pub ruleset oblige_rules = (told_put_first)
 pub told_unsplit : (first : Place) (ss : List Statement) (o : Result Statement Refusal) (r : Refusal) → o ≡ within statement_keeps first (disjunction_of ss) → o ≡ Err r → IsUnsplit first ss (Resolve r)
 told_unsplit first ss o r eo er = (r, sym eo ∙ er, refl)
 
-pub told_split : (e : Environment) (at : Extent) (c d : Context) (first : Place) (t : SplitTree) (given ss : List Statement) (o : Result Statement Refusal) (s : Statement) (inner old new : List Obligation) → o ≡ within statement_keeps first (disjunction_of ss) → o ≡ Ok s →
+pub told_split : (e : Environment) (at : Extent) (c d : Context) (first : Place) (t : SplitTree) (given : Given) (ss : List Statement) (o : Result Statement Refusal) (s : Statement) (inner old new : List Obligation) → o ≡ within statement_keeps first (disjunction_of ss) → o ≡ Ok s →
     IsPutFirst (Owes e at c given s (place_of t.semicolon t.simple)) inner old new → d ≡ with_truth c → IsSplit e at c d first t given ss inner old new
 told_split e at c d first t given ss o s inner old new eo es put ed =
     record { statement = s; obligation = put.obligation; joined = sym eo ∙ es; is_owed = put.is_owed; are_last = put.are_last; context = ed }

@@ -13,6 +13,7 @@ use Rattle.mz_obligations.specs.Obligations.{obligation_spent}
 use Rattle.mz_obligations.specs.declared.obligation.Extent.{Extent}
 use Rattle.mz_obligations.specs.declared.obligation.Obligation.{Obligation}
 use Rattle.mz_justified.specs.Answers.{OnMade}
+use Rattle.mz_given.specs.declared.given.Given.{Given}
 use Rattle.mz_justified.specs.Justified.{Grounds, Owes, IsPut, place_of}
 use Rattle.mz_justified.specs.declared.proof_fault.ProofFault.{ProofFault}
 use Rattle.mz_justified.specs.declared.proof_fault.ProofRefusal.{ProofRefusal}
@@ -39,15 +40,15 @@ told_spent_end rest l o er h = sym (ap (λ xs. spent_for xs l) (sym (empty rest 
 pub ruleset spend_rules = (told_spent_begun, told_spent_turn, told_spent_stop, told_spent_end)
 
 -- obligations put one after another
-pub record Obliging (e : Environment) (at : Extent) (c : Context) (given : List Statement) (place : Place) (rest all : List Statement) (new old : List Obligation) : Type 0 where
+pub record Obliging (e : Environment) (at : Extent) (c : Context) (given : Given) (place : Place) (rest all : List Statement) (new old : List Obligation) : Type 0 where
   pub made : List Obligation
   pub are_last : new ≡ old ++ made
   pub owed : (os : List Obligation) → OwesEach e at c given place rest os → OwesEach e at c given place all (made ++ os)
 
-pub told_obliging : (e : Environment) (at : Extent) (c : Context) (given : List Statement) (place : Place) (all : List Statement) (os : List Obligation) → Obliging e at c given place all all os os
+pub told_obliging : (e : Environment) (at : Extent) (c : Context) (given : Given) (place : Place) (all : List Statement) (os : List Obligation) → Obliging e at c given place all all os os
 told_obliging e at c given place all os = record { made = []; are_last = sym (append-nil os); owed = λ ps h. h }
 
-pub told_obliged : (e : Environment) (at : Extent) (c : Context) (given : List Statement) (place : Place) (rest others all : List Statement) (s : Statement) (next new old : List Obligation) → rest ≡ s ∷ others → IsPut (Owes e at c given s place) new next →
+pub told_obliged : (e : Environment) (at : Extent) (c : Context) (given : Given) (place : Place) (rest others all : List Statement) (s : Statement) (next new old : List Obligation) → rest ≡ s ∷ others → IsPut (Owes e at c given s place) new next →
     Obliging e at c given place rest all new old → Obliging e at c given place others all next old
 told_obliged e at c given place rest others all s next new old er p g =
     record {
@@ -57,7 +58,7 @@ told_obliged e at c given place rest others all s next new old er p g =
           (g.owed (p.obligation ∷ os) (subst (λ xs. OwesEach e at c given place xs (p.obligation ∷ os)) (sym er) (it.owes_more s others p.obligation os p.is_owed h)));
     }
 
-pub told_all_obliged : (e : Environment) (at : Extent) (c : Context) (given : List Statement) (place : Place) (rest all : List Statement) (new old : List Obligation) → length rest ≡ 0 → Obliging e at c given place rest all new old →
+pub told_all_obliged : (e : Environment) (at : Extent) (c : Context) (given : Given) (place : Place) (rest all : List Statement) (new old : List Obligation) → length rest ≡ 0 → Obliging e at c given place rest all new old →
     IsBrought (OwesEach e at c given place all) old new
 told_all_obliged e at c given place rest all new old er g =
     record {
@@ -79,19 +80,19 @@ pub told_too_many : (e : Environment) (at : Extent) (c : Context) (first : Place
 told_too_many e at c first linked place p t ss more s l er h ep =
     subst (λ xs. JustifiesEach e at c first linked place t xs l (Refused (TooManyObligations p))) (sym er) (subst (λ x. JustifiesEach e at c first linked place t (s ∷ more) l (Refused (TooManyObligations x))) (sym ep) (it.too_many s more l h))
 
-pub told_not_grounded : (X : Type 0) (e : Environment) (at : Extent) (c : Context) (first : Place) (linked : Bool) (place : Place) (t : SimpleTree) (ss more : List Statement) (s : Statement) (l m after : Left) (os ps : List Obligation) (x : Result (List Statement) ProofFault) (f : ProofFault) →
+pub told_not_grounded : (X : Type 0) (e : Environment) (at : Extent) (c : Context) (first : Place) (linked : Bool) (place : Place) (t : SimpleTree) (ss more : List Statement) (s : Statement) (l m after : Left) (os ps : List Obligation) (x : Result Given ProofFault) (f : ProofFault) →
     ss ≡ s ∷ more → spent_for more l ≡ Some m → OnMade x (λ o. Grounds e c first linked place t m o after) → x ≡ Err f →
     OnMade {X = X} (Err f) (Brings (λ o. JustifiesEach e at c first linked place t ss l o) after os ps)
 told_not_grounded X e at c first linked place t ss more s l m after os ps x f er h g ex =
-    let P : Result (List Statement) ProofRefusal → Type 0 = λ o. Grounds e c first linked place t m o after in
+    let P : Result Given ProofRefusal → Type 0 = λ o. Grounds e c first linked place t m o after in
     let Q : Result X ProofRefusal → Type 0 = Brings (λ o. JustifiesEach e at c first linked place t ss l o) after os ps in
     on_err P Q x f ex g (λ r k. subst (λ xs. JustifiesEach e at c first linked place t xs l (Refused r)) (sym er) (it.not_grounded s more l m after r h k))
 
-pub told_each_owed : (e : Environment) (at : Extent) (c : Context) (first : Place) (linked : Bool) (place p : Place) (t : SimpleTree) (ss more given : List Statement) (s : Statement) (l m after : Left) (os ps : List Obligation) (x : Result (List Statement) ProofFault) →
+pub told_each_owed : (e : Environment) (at : Extent) (c : Context) (first : Place) (linked : Bool) (place p : Place) (t : SimpleTree) (ss more : List Statement) (given : Given) (s : Statement) (l m after : Left) (os ps : List Obligation) (x : Result Given ProofFault) →
     ss ≡ s ∷ more → spent_for more l ≡ Some m → OnMade x (λ o. Grounds e c first linked place t m o after) → x ≡ Ok given → p ≡ place_of place t → IsBrought (OwesEach e at c given p ss) os ps →
     IsBrought (λ qs. JustifiesEach e at c first linked place t ss l (Made qs after)) os ps
 told_each_owed e at c first linked place p t ss more given s l m after os ps x er h g ex ep b =
-    let P : Result (List Statement) ProofRefusal → Type 0 = λ o. Grounds e c first linked place t m o after in
+    let P : Result Given ProofRefusal → Type 0 = λ o. Grounds e c first linked place t m o after in
     let owed : OwesEach e at c given (place_of place t) (s ∷ more) b.made = subst (λ xs. OwesEach e at c given (place_of place t) xs b.made) er (subst (λ y. OwesEach e at c given y ss b.made) ep b.is_made) in
     record {
       made = b.made;
@@ -99,10 +100,10 @@ told_each_owed e at c first linked place p t ss more given s l m after os ps x e
       are_last = b.are_last;
     }
 
-brought_as : (e : Environment) (at : Extent) (c : Context) (given : List Statement) (p : Place) (slice ss : List Statement) (os ps : List Obligation) → slice ≡ ss → IsBrought (OwesEach e at c given p slice) os ps → IsBrought (OwesEach e at c given p ss) os ps
+brought_as : (e : Environment) (at : Extent) (c : Context) (given : Given) (p : Place) (slice ss : List Statement) (os ps : List Obligation) → slice ≡ ss → IsBrought (OwesEach e at c given p slice) os ps → IsBrought (OwesEach e at c given p ss) os ps
 brought_as e at c given p slice ss os ps es b = subst (λ xs. IsBrought (OwesEach e at c given p xs) os ps) es b
 
-pub told_owed_of : (e : Environment) (at : Extent) (c : Context) (first : Place) (linked : Bool) (place p : Place) (t : SimpleTree) (slice ss more given : List Statement) (s : Statement) (l m after : Left) (os ps : List Obligation) (x : Result (List Statement) ProofFault) →
+pub told_owed_of : (e : Environment) (at : Extent) (c : Context) (first : Place) (linked : Bool) (place p : Place) (t : SimpleTree) (slice ss more : List Statement) (given : Given) (s : Statement) (l m after : Left) (os ps : List Obligation) (x : Result Given ProofFault) →
     ss ≡ s ∷ more → spent_for more l ≡ Some m → OnMade x (λ o. Grounds e c first linked place t m o after) → x ≡ Ok given → p ≡ place_of place t → slice ≡ ss → IsBrought (OwesEach e at c given p slice) os ps →
     IsBrought (λ qs. JustifiesEach e at c first linked place t ss l (Made qs after)) os ps
 told_owed_of e at c first linked place p t slice ss more given s l m after os ps x er h g ex ep es b =

@@ -6,6 +6,7 @@ pub mod KeptLemmas
 pub mod EachLemmas
 pub mod ConsiderLemmas
 pub mod ReconsiderLemmas
+pub mod PrivateLemmas
 pub mod SetLemmas
 pub mod BlockLemmas
 pub mod CaseLemmas

@@ -31,11 +31,11 @@ use Rattle.mz_steps.specs.declared.read_step.ReadStep.TheVariants as read
 use Rattle.mz_justified.specs.Answers.{OnMade}
 use Rattle.mz_justified.specs.declared.proof_fault.ProofFault.{ProofFault}
 use Rattle.mz_justified.specs.declared.proof_fault.ProofRefusal.{ProofRefusal}
-use Rattle.mz_justified.specs.declared.proof_fault.ProofRefusal.TheVariants.{Resolve, NotBuilt}
+use Rattle.mz_justified.specs.declared.proof_fault.ProofRefusal.TheVariants.{Resolve}
 use Rattle.mz_walk.specs.Walked.{State, state, OneByOne, Walked, Made, Refused}
 use Rattle.mz_walk.specs.Performing.{PerformsAlone}
 use Rattle.mz_walk.specs.Introductions as it
-use Rattle.mz_walk.specs.Introductions.{Considers, Reconsiders, SetsOne, Introduces}
+use Rattle.mz_walk.specs.Introductions.{Considers, Reconsiders, SetsOne, DefinesFunctor, DefinesPredicate, Introduces}
 use Rattle.mz_walk.specs.Answers.{resolved, reached, IsBrought, Brings}
 use Rattle.mz_performing.proofs.AnswerLemmas.{on_made, on_unread, on_read}
 use Rattle.mz_performing.proofs.TakingLemmas.{Taking, taking_end, taking_stop, taking_turn, first_refused, first_taken}
@@ -125,10 +125,18 @@ told_sets {Y} e at first s u tree t q os et h =
     let R : Result Y ProofRefusal → Type 0 = Brings (λ o. Introduces e at first s (Set t) o) u os os in
     introduced_as e at first s u tree (Set t) q os os et (on_made P R q h (λ w g. record { made = []; is_made = it.sets t (Ok u) g; are_last = sym (append-nil os) }) (λ r g. it.sets t (Err r) g))
 
-pub told_private_functor : (e : Environment) (at : Extent) (first : Place) (s : State) (tree : IntroductionTree) (t : DeffuncTree) → tree ≡ Deffunc t → Introduces e at first s tree (Refused (NotBuilt first))
-told_private_functor e at first s tree t et = subst (λ z. Introduces e at first s z (Refused (NotBuilt first))) (sym et) (it.private_functor t)
+pub told_private_functor : {Y : Type 0} (e : Environment) (at : Extent) (first : Place) (s u : State) (tree : IntroductionTree) (t : DeffuncTree) (q : Result Y ProofFault) (os : List Obligation) → tree ≡ Deffunc t → OnMade q (λ o. DefinesFunctor e s t (reached o u)) →
+    OnMade q (Brings (λ o. Introduces e at first s tree o) u os os)
+told_private_functor {Y} e at first s u tree t q os et h =
+    let P : Result Y ProofRefusal → Type 0 = λ o. DefinesFunctor e s t (reached o u) in
+    let R : Result Y ProofRefusal → Type 0 = Brings (λ o. Introduces e at first s (Deffunc t) o) u os os in
+    introduced_as e at first s u tree (Deffunc t) q os os et (on_made P R q h (λ w g. record { made = []; is_made = it.private_functor t (Ok u) g; are_last = sym (append-nil os) }) (λ r g. it.private_functor t (Err r) g))
 
-pub told_private_predicate : (e : Environment) (at : Extent) (first : Place) (s : State) (tree : IntroductionTree) (t : DefpredTree) → tree ≡ Defpred t → Introduces e at first s tree (Refused (NotBuilt first))
-told_private_predicate e at first s tree t et = subst (λ z. Introduces e at first s z (Refused (NotBuilt first))) (sym et) (it.private_predicate t)
+pub told_private_predicate : {Y : Type 0} (e : Environment) (at : Extent) (first : Place) (s u : State) (tree : IntroductionTree) (t : DefpredTree) (q : Result Y ProofFault) (os : List Obligation) → tree ≡ Defpred t → OnMade q (λ o. DefinesPredicate e s t (reached o u)) →
+    OnMade q (Brings (λ o. Introduces e at first s tree o) u os os)
+told_private_predicate {Y} e at first s u tree t q os et h =
+    let P : Result Y ProofRefusal → Type 0 = λ o. DefinesPredicate e s t (reached o u) in
+    let R : Result Y ProofRefusal → Type 0 = Brings (λ o. Introduces e at first s (Defpred t) o) u os os in
+    introduced_as e at first s u tree (Defpred t) q os os et (on_made P R q h (λ w g. record { made = []; is_made = it.private_predicate t (Ok u) g; are_last = sym (append-nil os) }) (λ r g. it.private_predicate t (Err r) g))
 
 pub ruleset introduce_rules = (told_considers, told_reconsiders, told_sets, told_private_functor, told_private_predicate)

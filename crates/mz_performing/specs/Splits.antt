@@ -11,6 +11,7 @@ use Rattle.mz_applied.specs.Within.{within}
 use Rattle.mz_tree_proof.specs.declared.skeleton.SplitTree.{SplitTree}
 use Rattle.mz_obligations.specs.declared.obligation.Extent.{Extent}
 use Rattle.mz_obligations.specs.declared.obligation.Obligation.{Obligation}
+use Rattle.mz_given.specs.declared.given.Given.{Given}
 use Rattle.mz_justified.specs.Justified.{Owes, place_of}
 use Rattle.mz_justified.specs.declared.proof_fault.ProofRefusal.{ProofRefusal}
 use Rattle.mz_justified.specs.declared.proof_fault.ProofRefusal.TheVariants.{Resolve}
@@ -28,7 +29,7 @@ pub record IsPutFirst (owes : Obligation → Type 0) (inner old new : List Oblig
   pub are_last : new ≡ old ++ obligation ∷ inner
 
 -- the obligation that one of the cases holds, in front of those of the cases
-pub record IsSplit (e : Environment) (at : Extent) (c d : Context) (first : Place) (t : SplitTree) (given suppositions : List Statement) (inner old new : List Obligation) : Type 0 where
+pub record IsSplit (e : Environment) (at : Extent) (c d : Context) (first : Place) (t : SplitTree) (given : Given) (suppositions : List Statement) (inner old new : List Obligation) : Type 0 where
   pub statement : Statement
   pub obligation : Obligation
   pub joined : within statement_keeps first (disjunction_of suppositions) ≡ Ok statement
@@ -40,7 +41,7 @@ pub record IsSplit (e : Environment) (at : Extent) (c d : Context) (first : Plac
 abbrev pub IsUnsplit : Place → List Statement → ProofRefusal → Type 0
 IsUnsplit first suppositions r = (q : Refusal) × (within statement_keeps first (disjunction_of suppositions) ≡ Err q) × (r ≡ Resolve q)
 
-abbrev pub SplitEnds : {X : Type 0} → Environment → Extent → Context → Context → Place → SplitTree → List Statement → List Statement → List Obligation → List Obligation → List Obligation → Result X ProofRefusal → Type 0
+abbrev pub SplitEnds : {X : Type 0} → Environment → Extent → Context → Context → Place → SplitTree → Given → List Statement → List Obligation → List Obligation → List Obligation → Result X ProofRefusal → Type 0
 SplitEnds e at c d first t given suppositions inner old new (Ok x) = IsSplit e at c d first t given suppositions inner old new
 SplitEnds e at c d first t given suppositions inner old new (Err r) = IsUnsplit first suppositions r
 

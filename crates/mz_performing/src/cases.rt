@@ -14,6 +14,7 @@ use mz_context::context::Context;
 use mz_context::labelled::LabelledStatements;
 use mz_core::statement::Statement;
 use mz_core::statements::Statements;
+use mz_given::given::Given;
 use mz_justified::grounds::place_of;
 use mz_justified::justified::oblige;
 use mz_justified::proof_fault::{ProofFault, ProofRefusal};
@@ -75,7 +76,7 @@ fn oblige_cases(
     walker: Walker<'_>,
     ctx: &Context,
     tree: &SplitTree,
-    given: &Statements,
+    given: &Given,
     s: &Statement,
     inner: Obligations,
     os: &mut Obligations,
@@ -95,7 +96,7 @@ pub fn end_split(
     ctx: &mut Context,
     first: Place,
     tree: &SplitTree,
-    given: &Statements,
+    given: &Given,
     suppositions: Statements,
     inner: Obligations,
     os: &mut Obligations,

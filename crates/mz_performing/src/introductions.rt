@@ -1,4 +1,4 @@
-//! Statements that introduce names: `consider`, `reconsider` and `set`.
+//! Statements that introduce names: `consider`, `reconsider`, `set`, `deffunc` and `defpred`.
 ghost use Rattle.std.specs.Prelude.{◌≡◌, ◌∷◌, [], map, is_some, Some, None, IfOk, OnOk};
 ghost use Rattle.std.specs.Bool.{OnTrue, OnFalse};
 ghost use Rattle.mz_core.specs.declared.outcome.Left.{Left};
@@ -16,6 +16,7 @@ ghost use Rattle.mz_walk.specs.Answers.{reached, IsBrought, Brings};
 use crate::fault::resolved;
 use crate::linked::is_linked;
 use crate::perform::{perform, perform_all, perform_alone};
+use crate::private::{define_functor, define_predicate};
 use crate::read_steps::reconsider_steps;
 use mz_base::place::Place;
 use mz_context::context::Context;
@@ -23,6 +24,7 @@ use mz_core::outcome::Left;
 use mz_core::statement::Statement;
 use mz_core::statements::Statements;
 use mz_core::type_statements::is_of_type;
+use mz_given::given::Given;
 use mz_justified::grounds::{ground, place_of};
 use mz_justified::justified::{justify_simply, oblige};
 use mz_justified::proof_fault::{ProofFault, ProofRefusal};
@@ -66,7 +68,7 @@ fn spend_each(left: &mut Left, ss: &[Statement]) -> bool
 fn oblige_each(
     walker: Walker<'_>,
     ctx: &Context,
-    given: &Statements,
+    given: &Given,
     ss: &[Statement],
     place: Place,
     os: &mut Obligations,
@@ -341,8 +343,7 @@ fn set_all(
 }
 
 /// A statement that introduces names. The obligations are put behind the others. Behind `then` a statement just before is
-/// wanted: without one it is refused with `StepNoFit` at its place, before it is read. Private functors and predicates are
-/// `NotBuilt` at their place.
+/// wanted: without one it is refused with `StepNoFit` at its place, before it is read.
 #[tactic(auto, using(crate::proofs::SetLemmas::introduce_rules))]
 pub fn introduce(
     walker: Walker<'_>,
@@ -359,7 +360,7 @@ pub fn introduce(
         IntroductionTree::Consider(t) => { considers(walker, ctx, block, first, t, left, os) }
         IntroductionTree::Reconsider(t) => { reconsiders(walker, ctx, block, first, t, left, os) }
         IntroductionTree::Set(t) => set_all(walker, ctx, block, first, &t.named, left),
-        IntroductionTree::Deffunc(_) => Err(ProofFault::Refused(ProofRefusal::NotBuilt(first))),
-        IntroductionTree::Defpred(_) => Err(ProofFault::Refused(ProofRefusal::NotBuilt(first))),
+        IntroductionTree::Deffunc(t) => define_functor(walker, ctx, block, t, left),
+        IntroductionTree::Defpred(t) => define_predicate(walker, ctx, block, t, left),
     }
 }

@@ -10,4 +10,5 @@ pub mod introductions;
 pub mod labels;
 pub mod linked;
 pub mod perform;
+pub mod private;
 pub mod read_steps;

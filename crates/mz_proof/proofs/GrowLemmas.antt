@@ -9,6 +9,8 @@ use Rattle.mz_context.specs.Changes.{with_constant}
 use Rattle.mz_context.specs.declared.constants.Constant.{Constant}
 use Rattle.mz_context.specs.declared.context.Context.{Context}
 use Rattle.mz_context.specs.declared.labelled.LabelledStatement.{LabelledStatement}
+use Rattle.mz_context.specs.declared.private.PrivateFunctor.{PrivateFunctor}
+use Rattle.mz_context.specs.declared.private.PrivatePredicate.{PrivatePredicate}
 use Rattle.mz_environment.specs.declared.environment.Environment.{Environment}
 use Rattle.mz_names.specs.Closing.{constant_of, with_variables}
 use Rattle.mz_names.specs.declared.refusal.Refusal.{Refusal}
@@ -24,6 +26,8 @@ use Rattle.mz_tree.specs.Trees.{DeclaredData}
 use Rattle.mz_tree.specs.declared.word.Word.{Word}
 use Rattle.mz_tree_proof.specs.Reasoning.{CompactData, StatementData, StepData, StepList, SupposeList}
 use Rattle.mz_tree_proof.specs.declared.introduction.ConsiderTree.{ConsiderTree}
+use Rattle.mz_tree_proof.specs.declared.introduction.DeffuncTree.{DeffuncTree}
+use Rattle.mz_tree_proof.specs.declared.introduction.DefpredTree.{DefpredTree}
 use Rattle.mz_tree_proof.specs.declared.introduction.IntroductionTree.{IntroductionTree}
 use Rattle.mz_tree_proof.specs.declared.introduction.NamedTermTree.{NamedTermTree}
 use Rattle.mz_tree_proof.specs.declared.introduction.ReconsiderTree.{ReconsiderTree}
@@ -36,6 +40,7 @@ use Rattle.mz_tree_proof.specs.declared.skeleton.TakenTree.{TakenTree}
 use Rattle.mz_obligations.specs.declared.obligation.Extent.{Extent}
 use Rattle.mz_obligations.specs.declared.obligation.Obligation.{Obligation}
 use Rattle.mz_parts.specs.Joined.{joined_within}
+use Rattle.mz_private.specs.Private.{with_functor, with_predicate}
 use Rattle.mz_justified.specs.declared.proof_fault.ProofRefusal.{ProofRefusal}
 use Rattle.mz_walk.specs.Walked as wk
 use Rattle.mz_walk.specs.Walked.{State, Walked, Made, Refused, OneByOne, without_obligations, behind, led_to}
@@ -44,7 +49,7 @@ use Rattle.mz_walk.specs.Performing.{Performs, PerformsAlone, stating_if, statin
 use Rattle.mz_walk.specs.Skeleton as sk
 use Rattle.mz_walk.specs.Skeleton.{Letting, letting_then, LetsDeclared, LetsReserved, Lets, Assuming, assuming_then, AssumesOne, Assumes, LetsSuch, Gives, TakesOne, StepsOn}
 use Rattle.mz_walk.specs.Introductions as it
-use Rattle.mz_walk.specs.Introductions.{Considers, Retypes, Reconsiders, SetsOne, Introduces}
+use Rattle.mz_walk.specs.Introductions.{Considers, Retypes, Reconsiders, SetsOne, DefinesFunctor, DefinesPredicate, Introduces}
 use Rattle.mz_walk.specs.Walk as wa
 use Rattle.mz_walk.specs.Walk.{Says, SaysNow, States, Goes, Splits, GoesAll}
 use Rattle.mz_performing.specs.Blocks.{restored}
@@ -151,6 +156,38 @@ grows_stated c ps = record {
   schemes = refl;
   functors = itself c.functors;
   predicates = itself c.predicates;
+  letters = itself c.letters;
+  it_is = refl;
+  arguments = refl;
+  subject = refl;
+}
+
+grows_functor : (c : Context) (f : PrivateFunctor) → Grew c (with_functor c f)
+grows_functor c f = record {
+  article = refl;
+  counts = refl;
+  constants = itself c.constants;
+  reserved = itself c.reserved;
+  labelled = itself c.labelled;
+  schemes = refl;
+  functors = (f ∷ [], refl);
+  predicates = itself c.predicates;
+  letters = itself c.letters;
+  it_is = refl;
+  arguments = refl;
+  subject = refl;
+}
+
+grows_predicate : (c : Context) (p : PrivatePredicate) → Grew c (with_predicate c p)
+grows_predicate c p = record {
+  article = refl;
+  counts = refl;
+  constants = itself c.constants;
+  reserved = itself c.reserved;
+  labelled = itself c.labelled;
+  schemes = refl;
+  functors = itself c.functors;
+  predicates = (p ∷ [], refl);
   letters = itself c.letters;
   it_is = refl;
   arguments = refl;
@@ -376,12 +413,20 @@ sets_grow e first s _ _ (wk.none_left _) = grows_itself s.context
 sets_grow e first s _ _ (wk.one_refused _ x xs r h) = tt
 sets_grow e first s _ _ (wk.one_taken _ t x xs o h k) = then_grows s.context t.context o (set_grow e first s x (Ok t) h) (sets_grow e first t xs o k)
 
+functor_grow : (e : Environment) (s : State) (t : DeffuncTree) (o : Result State ProofRefusal) → DefinesFunctor e s t o → GrowsTo s.context o
+functor_grow e s t _ (it.not_read r l h) = tt
+functor_grow e s t _ (it.defined f l h) = grows_functor s.context f
+
+predicate_grow : (e : Environment) (s : State) (t : DefpredTree) (o : Result State ProofRefusal) → DefinesPredicate e s t o → GrowsTo s.context o
+predicate_grow e s t _ (it.not_read r l h) = tt
+predicate_grow e s t _ (it.defined p l h) = grows_predicate s.context p
+
 introduces_grow : (e : Environment) (at : Extent) (first : Place) (s : State) (t : IntroductionTree) (o : Walked State) → Introduces e at first s t o → GrowsIn s.context o
 introduces_grow e at first s _ _ (it.considers t o h) = considers_grow e at first s t o h
 introduces_grow e at first s _ _ (it.reconsiders t o h) = reconsiders_grow e at first s t o h
 introduces_grow e at first s _ _ (it.sets t o h) = without_grows s.context o (sets_grow e first s _ o h)
-introduces_grow e at first s _ _ (it.private_functor t) = tt
-introduces_grow e at first s _ _ (it.private_predicate t) = tt
+introduces_grow e at first s _ _ (it.private_functor t o h) = without_grows s.context o (functor_grow e s t o h)
+introduces_grow e at first s _ _ (it.private_predicate t o h) = without_grows s.context o (predicate_grow e s t o h)
 
 -- the walk
 led_grows : (c : Context) (u : State) (os : List Obligation) (o : Walked Left) → Grew c u.context → GrowsIn c (led_to u (behind os o))

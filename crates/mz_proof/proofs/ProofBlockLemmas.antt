@@ -12,6 +12,8 @@ use Rattle.mz_steps.specs.declared.read_step.ReadStep.{ReadStep}
 use Rattle.mz_steps.specs.declared.read_step.ReadStep.TheVariants as read
 use Rattle.mz_tree_proof.specs.Reasoning.{CompactData, StatementData, StepList}
 use Rattle.mz_tree_proof.specs.declared.introduction.ConsiderTree.{ConsiderTree}
+use Rattle.mz_tree_proof.specs.declared.introduction.DeffuncTree.{DeffuncTree}
+use Rattle.mz_tree_proof.specs.declared.introduction.DefpredTree.{DefpredTree}
 use Rattle.mz_tree_proof.specs.declared.introduction.IntroductionTree.{IntroductionTree}
 use Rattle.mz_tree_proof.specs.declared.introduction.NamedTermTree.{NamedTermTree}
 use Rattle.mz_tree_proof.specs.declared.introduction.ReconsiderTree.{ReconsiderTree}
@@ -23,7 +25,7 @@ use Rattle.mz_walk.specs.Walked.{State, Walked, Made, Refused, OneByOne, without
 use Rattle.mz_walk.specs.Performing as pf
 use Rattle.mz_walk.specs.Performing.{Performs, PerformsAlone}
 use Rattle.mz_walk.specs.Introductions as it
-use Rattle.mz_walk.specs.Introductions.{Considers, Retypes, Reconsiders, SetsOne, Introduces}
+use Rattle.mz_walk.specs.Introductions.{Considers, Retypes, Reconsiders, SetsOne, DefinesFunctor, DefinesPredicate, Introduces}
 use Rattle.mz_walk.specs.Walk as wa
 use Rattle.mz_walk.specs.Walk.{Says, SaysNow, States}
 
@@ -82,12 +84,20 @@ sets_proof e first s _ _ (wk.none_left _) eb = eb
 sets_proof e first s _ _ (wk.one_refused _ x xs r h) eb = tt
 sets_proof e first s _ _ (wk.one_taken _ t x xs o h k) eb = sets_proof e first t xs o k (set_proof e first s x (Ok t) h eb)
 
+functor_proof : (e : Environment) (s : State) (t : DeffuncTree) (o : Result State ProofRefusal) → DefinesFunctor e s t o → s.block ≡ Proof → ProofTo o
+functor_proof e s t _ (it.not_read r l h) eb = tt
+functor_proof e s t _ (it.defined f l h) eb = eb
+
+predicate_proof : (e : Environment) (s : State) (t : DefpredTree) (o : Result State ProofRefusal) → DefinesPredicate e s t o → s.block ≡ Proof → ProofTo o
+predicate_proof e s t _ (it.not_read r l h) eb = tt
+predicate_proof e s t _ (it.defined p l h) eb = eb
+
 introduces_proof : (e : Environment) (at : Extent) (first : Place) (s : State) (t : IntroductionTree) (o : Walked State) → Introduces e at first s t o → s.block ≡ Proof → ProofIn o
 introduces_proof e at first s _ _ (it.considers t o h) eb = considers_proof e at first s t o h eb
 introduces_proof e at first s _ _ (it.reconsiders t o h) eb = reconsiders_proof e at first s t o h eb
 introduces_proof e at first s _ _ (it.sets t o h) eb = without_proof o (sets_proof e first s _ o h eb)
-introduces_proof e at first s _ _ (it.private_functor t) eb = tt
-introduces_proof e at first s _ _ (it.private_predicate t) eb = tt
+introduces_proof e at first s _ _ (it.private_functor t o h) eb = without_proof o (functor_proof e s t o h eb)
+introduces_proof e at first s _ _ (it.private_predicate t o h) eb = without_proof o (predicate_proof e s t o h eb)
 
 says_proof : (e : Environment) (at : Extent) (s : State) (first : Place) (linked concluded : Bool) (t : CompactData) (o : Walked State) → Says e at s first linked concluded t o → s.block ≡ Proof → ProofIn o
 says_proof e at _ _ _ _ _ _ (wa.follows_nothing s first linked concluded t h) eb = tt

@@ -22,6 +22,7 @@ use Rattle.mz_steps.specs.declared.block.Outside.{Outside}
 use Rattle.mz_tree_proof.specs.Reasoning.{SupposeData, SupposeList, StepList, supposes_of, CaseSuppose, more_supposes}
 use Rattle.mz_tree_proof.specs.declared.propositions.HypothesesTree.{HypothesesTree}
 use Rattle.mz_tree_proof.specs.declared.skeleton.SplitTree.{SplitTree}
+use Rattle.mz_given.specs.declared.given.Given.{Given}
 use Rattle.mz_justified.specs.Justified.{Grounds}
 use Rattle.mz_walk.specs.Walked.{State, state, Walked, Made, Refused, behind}
 use Rattle.mz_walk.specs.Walk.{Cases, no_cases, with_case, Foresees, Proves, Splits, Supposes}
@@ -172,28 +173,28 @@ told_foreseen {X} Y e at c b first linked tree us l t os ps w f el a ew =
     let Q : Result Y ProofRefusal → Type 0 = Brings (Splits e at (state c b l) first tree us) t os ps in
     on_err P Q w f ew a (λ r k. wa.foreseen (state c b l) first tree us r (subst (λ z. Foresees e first c l z us (Some r)) el k))
 
-pub told_not_grounded : {Z : Type 0} (Y : Type 0) (e : Environment) (at : Extent) (c d : Context) (b : Block) (first place : Place) (linked : Bool) (tree : SplitTree) (us : SupposeList) (l m : Left) (t : State) (os ps : List Obligation) (w : Result Z ProofFault) (v : Z) (y : Result (List Statement) ProofFault) (f : ProofFault) → linked ≡ is_some tree.then → place ≡ tree.semicolon →
+pub told_not_grounded : {Z : Type 0} (Y : Type 0) (e : Environment) (at : Extent) (c d : Context) (b : Block) (first place : Place) (linked : Bool) (tree : SplitTree) (us : SupposeList) (l m : Left) (t : State) (os ps : List Obligation) (w : Result Z ProofFault) (v : Z) (y : Result Given ProofFault) (f : ProofFault) → linked ≡ is_some tree.then → place ≡ tree.semicolon →
     OnMade w (λ o. Foresees e first c l linked us (told_ahead o)) → w ≡ Ok v → OnOk w (d ≡ c) → OnMade y (λ o. Grounds e d first linked place tree.simple l o m) → y ≡ Err f → OnMade {X = Y} (Err f) (Brings (Splits e at (state c b l) first tree us) t os ps)
 told_not_grounded {Z} Y e at c d b first place linked tree us l m t os ps w v y f el ep a ew same h' ey =
     let none : Foresees e first c l (is_some tree.then) us None = foreseen_none e first c l linked us tree w v el a ew in
     let h : OnMade y (λ o. Grounds e c first linked place tree.simple l o m) = subst (λ z. OnMade y (λ o. Grounds e z first linked place tree.simple l o m)) (made_so w v ew same) h' in
-    let P : Result (List Statement) ProofRefusal → Type 0 = λ o. Grounds e c first (is_some tree.then) tree.semicolon tree.simple l o m in
+    let P : Result Given ProofRefusal → Type 0 = λ o. Grounds e c first (is_some tree.then) tree.semicolon tree.simple l o m in
     let Q : Result Y ProofRefusal → Type 0 = Brings (Splits e at (state c b l) first tree us) t os ps in
     on_err P Q y f ey (subst (λ z. OnMade y (λ o. Grounds e c first (is_some tree.then) z tree.simple l o m)) ep (subst (λ z. OnMade y (λ o. Grounds e c first z place tree.simple l o m)) el h)) (λ r k. wa.not_grounded (state c b l) first tree us r m none k)
 
-pub told_stopped : {X Z : Type 0} (Y : Type 0) (e : Environment) (at : Extent) (c d : Context) (b : Block) (first place : Place) (linked : Bool) (tree : SplitTree) (us : SupposeList) (l m n : Left) (t : State) (os ps inner inner' : List Obligation) (sold snew : List Statement) (x : Result Z ProofFault) (v : Z) (y : Result (List Statement) ProofFault) (given : List Statement) (w : Result X ProofFault) (f : ProofFault) → linked ≡ is_some tree.then → place ≡ tree.semicolon →
+pub told_stopped : {X Z : Type 0} (Y : Type 0) (e : Environment) (at : Extent) (c d : Context) (b : Block) (first place : Place) (linked : Bool) (tree : SplitTree) (us : SupposeList) (l m n : Left) (t : State) (os ps inner inner' : List Obligation) (sold snew : List Statement) (x : Result Z ProofFault) (v : Z) (y : Result Given ProofFault) (given : Given) (w : Result X ProofFault) (f : ProofFault) → linked ≡ is_some tree.then → place ≡ tree.semicolon →
     OnMade x (λ o. Foresees e first c l linked us (told_ahead o)) → x ≡ Ok v → OnOk x (d ≡ c) → OnMade y (λ o. Grounds e d first linked place tree.simple l o m) → y ≡ Ok given → OnMade w (TakesCases (Supposes e at d us m) n sold snew inner inner') → w ≡ Err f → OnMade {X = Y} (Err f) (Brings (Splits e at (state c b l) first tree us) t os ps)
 told_stopped {X} {Z} Y e at c d b first place linked tree us l m n t os ps inner inner' sold snew x v y given w f el ep a ex same h' ey k' ew =
     let none : Foresees e first c l (is_some tree.then) us None = foreseen_none e first c l linked us tree x v el a ex in
     let h : OnMade y (λ o. Grounds e c first linked place tree.simple l o m) = subst (λ z. OnMade y (λ o. Grounds e z first linked place tree.simple l o m)) (made_so x v ex same) h' in
     let k : OnMade w (TakesCases (Supposes e at c us m) n sold snew inner inner') = subst (λ z. OnMade w (TakesCases (Supposes e at z us m) n sold snew inner inner')) (made_so x v ex same) k' in
-    let P : Result (List Statement) ProofRefusal → Type 0 = λ o. Grounds e c first (is_some tree.then) tree.semicolon tree.simple l o m in
+    let P : Result Given ProofRefusal → Type 0 = λ o. Grounds e c first (is_some tree.then) tree.semicolon tree.simple l o m in
     let grounded : Grounds e c first (is_some tree.then) tree.semicolon tree.simple l (Ok given) m = on_ok P y given ey (subst (λ z. OnMade y (λ o. Grounds e c first (is_some tree.then) z tree.simple l o m)) ep (subst (λ z. OnMade y (λ o. Grounds e c first z place tree.simple l o m)) el h)) in
     let S : Result X ProofRefusal → Type 0 = TakesCases (Supposes e at c us m) n sold snew inner inner' in
     let Q : Result Y ProofRefusal → Type 0 = Brings (Splits e at (state c b l) first tree us) t os ps in
     on_err S Q w f ew k (λ r z. wa.cases_stopped (state c b l) first tree us given m r none grounded z)
 
-pub told_split : {X Y Z : Type 0} (e : Environment) (at : Extent) (c c' d d' : Context) (b : Block) (first place : Place) (linked : Bool) (tree : SplitTree) (us : SupposeList) (l m n : Left) (os ps inner inner' inner'' : List Obligation) (sold snew ss gs : List Statement) (x : Result Z ProofFault) (x' : Z) (y : Result (List Statement) ProofFault) (given : List Statement) (w : Result X ProofFault) (v : X) (q : Result Y ProofFault) → linked ≡ is_some tree.then → place ≡ tree.semicolon →
+pub told_split : {X Y Z : Type 0} (e : Environment) (at : Extent) (c c' d d' : Context) (b : Block) (first place : Place) (linked : Bool) (tree : SplitTree) (us : SupposeList) (l m n : Left) (os ps inner inner' inner'' : List Obligation) (sold snew ss : List Statement) (gs : Given) (x : Result Z ProofFault) (x' : Z) (y : Result Given ProofFault) (given : Given) (w : Result X ProofFault) (v : X) (q : Result Y ProofFault) → linked ≡ is_some tree.then → place ≡ tree.semicolon →
     OnMade x (λ o. Foresees e first c l linked us (told_ahead o)) → x ≡ Ok x' → OnOk x (c' ≡ c) → OnMade y (λ o. Grounds e c' first linked place tree.simple l o m) → y ≡ Ok given → inner ≡ [] → sold ≡ [] → OnMade w (TakesCases (Supposes e at c' us m) n sold snew inner inner') → w ≡ Ok v → OnOk w (d ≡ c') → inner'' ≡ inner' → ss ≡ snew → gs ≡ given →
     OnMade q (SplitEnds e at d d' first tree gs ss inner'' os ps) → OnMade q (Brings (Splits e at (state c b l) first tree us) (state d' b n) os ps)
 told_split {X} {Y} {Z} e at c c' d d' b first place linked tree us l m n os ps inner inner' inner'' sold snew ss gs x x' y given w v q el ep a ex first_same h' ey ei es k' ew same' ei' es' eg j =
@@ -202,7 +203,7 @@ told_split {X} {Y} {Z} e at c c' d d' b first place linked tree us l m n os ps i
     let h : OnMade y (λ o. Grounds e c first linked place tree.simple l o m) = subst (λ z. OnMade y (λ o. Grounds e z first linked place tree.simple l o m)) is_c h' in
     let k : OnMade w (TakesCases (Supposes e at c us m) n sold snew inner inner') = subst (λ z. OnMade w (TakesCases (Supposes e at z us m) n sold snew inner inner')) is_c k' in
     let same : OnOk w (d ≡ c) = subst (λ z. OnOk w (d ≡ z)) is_c same' in
-    let P : Result (List Statement) ProofRefusal → Type 0 = λ o. Grounds e c first (is_some tree.then) tree.semicolon tree.simple l o m in
+    let P : Result Given ProofRefusal → Type 0 = λ o. Grounds e c first (is_some tree.then) tree.semicolon tree.simple l o m in
     let grounded : Grounds e c first (is_some tree.then) tree.semicolon tree.simple l (Ok given) m = on_ok P y given ey (subst (λ z. OnMade y (λ o. Grounds e c first (is_some tree.then) z tree.simple l o m)) ep (subst (λ z. OnMade y (λ o. Grounds e c first z place tree.simple l o m)) el h)) in
     let S : Result X ProofRefusal → Type 0 = TakesCases (Supposes e at c us m) n sold snew inner inner' in
     let taken : AreTaken (Supposes e at c us m) n sold snew inner inner' = on_ok S w v ew k in

@@ -20,7 +20,7 @@ use Rattle.mz_axioms.specs.Library.{HasClosedItems, granted}
 use Rattle.mz_dependency_laws.proofs.FormulaProofs.{formulas_law}
 use Rattle.mz_environment.specs.declared.environment.Environment.{Environment}
 use Rattle.mz_closed_laws.specs.ClosedClauses.{clause_closed, unfolding_closed}
-use Rattle.mz_closed_laws.specs.ClosedEnvironment.{cited_statement_closed}
+use Rattle.mz_closed_laws.specs.ClosedEnvironment.{cited_statement_closed, cited_scheme_closed}
 use Rattle.mz_closed_laws.proofs.FormulaProofs.{constant_law}
 use Rattle.mz_env_laws.specs.DerivedLaws.{AreSaid, AllOwedDerive}
 use Rattle.mz_env_laws.proofs.DerivedProofs.{clauses_law, unfoldings_law}
@@ -112,8 +112,9 @@ grounded_law g s ax held letters sound among closed_letters held_letters =
       theorems = λ c is. (
         with_held ax held (erase c.statement) (statements_law exports e sound.entries ax [] said c is),
         (closed_law 0 c.statement (all-one cited_statement_closed e.theorems c is sound.closed_so.theorems)).1,
+        (closed_law 0 c.statement (all-one cited_statement_closed e.theorems c is sound.closed_so.theorems)).0,
       );
-      schemes = schemes_law exports e sound.entries ax said (all_owed g s ax sound among);
+      schemes = λ x is. (schemes_law exports e sound.entries ax said (all_owed g s ax sound among) x is, all-one cited_scheme_closed e.schemes x is sound.closed_so.schemes);
       chains = λ c are. chain_clauses_law exports e sound.entries closed c (λ l is. closed_letters l (subst (λ ls. Contains ls l) are is));
     }
 

@@ -2,16 +2,16 @@
 -- first, since its place in the text is earlier.
 use Rattle.std.specs.Prelude.{ℕ, ◌-◌, Bool, ◌&&◌, ◌||◌, nat_lt, nat_eq, if◌then◌else◌, List, [], ◌∷◌, Option, Some, None, Result, Ok, Err}
 use Rattle.mz_base.specs.declared.place.Place.{Place}
-use Rattle.mz_core.specs.Statement.{Statement}
 use Rattle.mz_context.specs.declared.context.Context.{Context}
 use Rattle.mz_environment.specs.declared.environment.Environment.{Environment}
 use Rattle.mz_names.specs.declared.refusal.Refusal.{Refusal}
 use Rattle.mz_names.specs.declared.refusal.Refusal.TheVariants.{UnknownSymbol, NoNotation, UnknownVariable, Unregistered, UnfitArgument, TooLarge}
-use Rattle.mz_cited.specs.Cited.{cites}
+use Rattle.mz_given.specs.Given.{cited_in}
+use Rattle.mz_given.specs.declared.given.Given.{Given}
 use Rattle.mz_tree_proof.specs.Reasoning.{JustData, SimpleJust, ProofJust}
 use Rattle.mz_tree_proof.specs.declared.equality_step.EqualityStepTree.{EqualityStepTree}
 use Rattle.mz_tree_proof.specs.declared.references.SimpleTree.{SimpleTree}
-use Rattle.mz_justified.specs.Justified.{place_of, references_of, from_of}
+use Rattle.mz_justified.specs.Justified.{place_of}
 use Rattle.mz_justified.specs.declared.proof_fault.ProofRefusal.{ProofRefusal}
 use Rattle.mz_justified.specs.declared.proof_fault.ProofRefusal.TheVariants.{StepNoFit, ThesisLeft, UnknownLabel, Resolve, TooManyObligations, NotBuilt}
 use Rattle.mz_walk.specs.Compact.{place_behind}
@@ -37,18 +37,13 @@ place_refused (Resolve r) = place_unread r
 place_refused (TooManyObligations p) = p
 place_refused (NotBuilt p) = p
 
--- why a justification isn't taken, where the article has so many obligations left: it has none, or the justification is by a
--- scheme, which isn't built yet, or a reference cites nothing
-abbrev pub uncited : Result (List Statement) Place → Option ProofRefusal
-uncited (Ok ss) = None
+-- why a justification isn't taken, where the article has so many obligations left: it has none, or a reference cites nothing
+abbrev pub uncited : Result Given Place → Option ProofRefusal
+uncited (Ok g) = None
 uncited (Err p) = Some (UnknownLabel p)
 
-abbrev pub unbuilt : Option Place → Option ProofRefusal → Option ProofRefusal
-unbuilt None r = r
-unbuilt (Some from) r = Some (NotBuilt from)
-
 abbrev pub ungrounded : Environment → Context → ℕ → Place → SimpleTree → Option ProofRefusal
-ungrounded e c n place t = if nat_eq n 0 then Some (TooManyObligations place) else unbuilt (from_of t) (uncited (cites e c (references_of t)))
+ungrounded e c n place t = if nat_eq n 0 then Some (TooManyObligations place) else uncited (cited_in e c t)
 
 -- the one refusal, or else the other
 abbrev pub else_told : Option ProofRefusal → ProofRefusal → ProofRefusal

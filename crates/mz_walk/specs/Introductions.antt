@@ -1,4 +1,4 @@
--- Statements that introduce names: `consider`, `reconsider` and `set`. `first` is the place of the step's first token. Behind
+-- Statements that introduce names: `consider`, `reconsider`, `set`, `deffunc` and `defpred`. `first` is the place of the step's first token. Behind
 -- `then` a statement just before is wanted, which is looked for before anything is read. Each is read, then it is justified where
 -- it stands, and then its constants are in force.
 use Rattle.std.specs.Prelude.{◌≡◌, Bool, true, false, is_some, List, [], ◌∷◌, map, Option, Some, None, Result, Ok, Err}
@@ -8,6 +8,8 @@ use Rattle.mz_core.specs.TypeStatements.{is_of_type}
 use Rattle.mz_core.specs.declared.outcome.Left.{Left}
 use Rattle.mz_context.specs.Context.{next}
 use Rattle.mz_context.specs.declared.context.Context.{Context}
+use Rattle.mz_context.specs.declared.private.PrivateFunctor.{PrivateFunctor}
+use Rattle.mz_context.specs.declared.private.PrivatePredicate.{PrivatePredicate}
 use Rattle.mz_environment.specs.declared.environment.Environment.{Environment}
 use Rattle.mz_names.specs.Closing.{there_are}
 use Rattle.mz_names.specs.declared.refusal.Refusal.{Refusal}
@@ -31,10 +33,12 @@ use Rattle.mz_obligations.specs.declared.obligation.Obligation.{Obligation}
 use Rattle.mz_parts.specs.Described.{DescriptionRead}
 use Rattle.mz_parts.specs.Named.{NamedRead, RetypedRead}
 use Rattle.mz_parts.specs.declared.described.Description.{Description}
+use Rattle.mz_private.specs.Private.{FunctorRead, PredicateRead, with_functor, with_predicate}
+use Rattle.mz_given.specs.declared.given.Given.{Given}
 use Rattle.mz_justified.specs.Justified.{Grounds, Owes, Justified, place_of}
 use Rattle.mz_justified.specs.declared.proof_fault.ProofRefusal.{ProofRefusal}
-use Rattle.mz_justified.specs.declared.proof_fault.ProofRefusal.TheVariants.{StepNoFit, Resolve, TooManyObligations, NotBuilt}
-use Rattle.mz_walk.specs.Walked.{State, with_left, OneByOne, Walked, Made, Refused, without_obligations, behind}
+use Rattle.mz_justified.specs.declared.proof_fault.ProofRefusal.TheVariants.{StepNoFit, Resolve, TooManyObligations}
+use Rattle.mz_walk.specs.Walked.{State, state, with_left, OneByOne, Walked, Made, Refused, without_obligations, behind}
 use Rattle.mz_walk.specs.Within.{all_kept}
 use Rattle.mz_walk.specs.Performing.{Performs, PerformsAlone, is_linked}
 
@@ -48,7 +52,7 @@ spent_for [] l = Some l
 spent_for (s ∷ ss) l = spent_then (spent_for ss) (obligation_spent l)
 
 -- the obligations of statements by what is given, in their order, all at one place
-pub data OwesEach (e : Environment) (at : Extent) (c : Context) (given : List Statement) (place : Place) : List Statement → List Obligation → Type 0 where
+pub data OwesEach (e : Environment) (at : Extent) (c : Context) (given : Given) (place : Place) : List Statement → List Obligation → Type 0 where
   owes_none : OwesEach e at c given place [] []
   owes_more : (s : Statement) (ss : List Statement) (o : Obligation) (os : List Obligation) → Owes e at c given s place o → OwesEach e at c given place ss os → OwesEach e at c given place (s ∷ ss) (o ∷ os)
 
@@ -57,7 +61,7 @@ pub data JustifiesEach (e : Environment) (at : Extent) (c : Context) (first : Pl
   none_owed : (l : Left) → JustifiesEach e at c first linked place t [] l (Made [] l)
   too_many : (s : Statement) (ss : List Statement) (l : Left) → spent_for ss l ≡ None → JustifiesEach e at c first linked place t (s ∷ ss) l (Refused (TooManyObligations (place_of place t)))
   not_grounded : (s : Statement) (ss : List Statement) (l m after : Left) (r : ProofRefusal) → spent_for ss l ≡ Some m → Grounds e c first linked place t m (Err r) after → JustifiesEach e at c first linked place t (s ∷ ss) l (Refused r)
-  each_owed : (s : Statement) (ss given : List Statement) (l m after : Left) (os : List Obligation) → spent_for ss l ≡ Some m → Grounds e c first linked place t m (Ok given) after →
+  each_owed : (s : Statement) (ss : List Statement) (given : Given) (l m after : Left) (os : List Obligation) → spent_for ss l ≡ Some m → Grounds e c first linked place t m (Ok given) after →
       OwesEach e at c given (place_of place t) (s ∷ ss) os → JustifiesEach e at c first linked place t (s ∷ ss) l (Made os after)
 
 -- `consider x being T such that A`: that there is such an object has to be justified. The step fits wherever it stands
@@ -102,10 +106,20 @@ pub data SetsOne (e : Environment) (first : Place) (s : State) (n : NamedTermTre
   not_read : (r : Refusal) (l : Left) → NamedRead e s.context 0 s.left n (Err r) l → SetsOne e first s n (Err (Resolve r))
   set : (d : Definition) (l : Left) (o : Result State ProofRefusal) → NamedRead e s.context 0 s.left n (Ok d) l → PerformsAlone e first (with_left s l) (read.Set d) o → SetsOne e first s n o
 
--- a statement that introduces names. Private functors and predicates aren't built yet
+-- a private functor and a private predicate: it is read, and then it is in force, and there is no statement just before. The step fits
+-- wherever it stands
+pub data DefinesFunctor (e : Environment) (s : State) (t : DeffuncTree) : Result State ProofRefusal → Type 0 where
+  not_read : (r : Refusal) (l : Left) → FunctorRead e s.context 0 s.left t (Err r) l → DefinesFunctor e s t (Err (Resolve r))
+  defined : (f : PrivateFunctor) (l : Left) → FunctorRead e s.context 0 s.left t (Ok f) l → DefinesFunctor e s t (Ok (state (with_functor s.context f) s.block l))
+
+pub data DefinesPredicate (e : Environment) (s : State) (t : DefpredTree) : Result State ProofRefusal → Type 0 where
+  not_read : (r : Refusal) (l : Left) → PredicateRead e s.context 0 s.left t (Err r) l → DefinesPredicate e s t (Err (Resolve r))
+  defined : (p : PrivatePredicate) (l : Left) → PredicateRead e s.context 0 s.left t (Ok p) l → DefinesPredicate e s t (Ok (state (with_predicate s.context p) s.block l))
+
+-- a statement that introduces names
 pub data Introduces (e : Environment) (at : Extent) (first : Place) (s : State) : IntroductionTree → Walked State → Type 0 where
   considers : (t : ConsiderTree) (o : Walked State) → Considers e at first s t o → Introduces e at first s (Consider t) o
   reconsiders : (t : ReconsiderTree) (o : Walked State) → Reconsiders e at first s t o → Introduces e at first s (Reconsider t) o
   sets : (t : SetTree) (o : Result State ProofRefusal) → OneByOne (SetsOne e first) s (members t.named) o → Introduces e at first s (Set t) (without_obligations o)
-  private_functor : (t : DeffuncTree) → Introduces e at first s (Deffunc t) (Refused (NotBuilt first))
-  private_predicate : (t : DefpredTree) → Introduces e at first s (Defpred t) (Refused (NotBuilt first))
+  private_functor : (t : DeffuncTree) (o : Result State ProofRefusal) → DefinesFunctor e s t o → Introduces e at first s (Deffunc t) (without_obligations o)
+  private_predicate : (t : DefpredTree) (o : Result State ProofRefusal) → DefinesPredicate e s t o → Introduces e at first s (Defpred t) (without_obligations o)

@@ -39,6 +39,7 @@ use Rattle.mz_obligations.specs.declared.obligation.Extent.{Extent}
 use Rattle.mz_obligations.specs.declared.obligation.Obligation.{Obligation}
 use Rattle.mz_parts.specs.Joined.{joined_within}
 use Rattle.mz_parts.specs.Propositions.{label_in, PropositionsRead, hypotheses_in}
+use Rattle.mz_given.specs.declared.given.Given.{Given}
 use Rattle.mz_justified.specs.Justified.{Grounds, Owes, Justified, place_of}
 use Rattle.mz_justified.specs.declared.proof_fault.ProofRefusal.{ProofRefusal}
 use Rattle.mz_justified.specs.declared.proof_fault.ProofRefusal.TheVariants.{StepNoFit, ThesisLeft, Resolve}
@@ -191,12 +192,12 @@ mutual
     foreseen : (s : State) (first : Place) (t : SplitTree) (us : SupposeList) (r : ProofRefusal) → Foresees e first s.context s.left (is_some t.then) us (Some r) → Splits e at s first t us (Refused r)
     not_grounded : (s : State) (first : Place) (t : SplitTree) (us : SupposeList) (r : ProofRefusal) (l : Left) →
         Foresees e first s.context s.left (is_some t.then) us None → Grounds e s.context first (is_some t.then) t.semicolon t.simple s.left (Err r) l → Splits e at s first t us (Refused r)
-    cases_stopped : (s : State) (first : Place) (t : SplitTree) (us : SupposeList) (given : List Statement) (l : Left) (r : ProofRefusal) →
+    cases_stopped : (s : State) (first : Place) (t : SplitTree) (us : SupposeList) (given : Given) (l : Left) (r : ProofRefusal) →
         Foresees e first s.context s.left (is_some t.then) us None → Grounds e s.context first (is_some t.then) t.semicolon t.simple s.left (Ok given) l → Supposes e at s.context us l (Refused r) → Splits e at s first t us (Refused r)
-    cases_too_large : (s : State) (first : Place) (t : SplitTree) (us : SupposeList) (given : List Statement) (l : Left) (os : List Obligation) (x : Cases) (r : Refusal) →
+    cases_too_large : (s : State) (first : Place) (t : SplitTree) (us : SupposeList) (given : Given) (l : Left) (os : List Obligation) (x : Cases) (r : Refusal) →
         Foresees e first s.context s.left (is_some t.then) us None → Grounds e s.context first (is_some t.then) t.semicolon t.simple s.left (Ok given) l → Supposes e at s.context us l (Made os x) →
         within statement_keeps first (disjunction_of x.suppositions) ≡ Err r → Splits e at s first t us (Refused (Resolve r))
-    split : (s : State) (first : Place) (t : SplitTree) (us : SupposeList) (given : List Statement) (l : Left) (os : List Obligation) (x : Cases) (y : Statement) (o : Obligation) →
+    split : (s : State) (first : Place) (t : SplitTree) (us : SupposeList) (given : Given) (l : Left) (os : List Obligation) (x : Cases) (y : Statement) (o : Obligation) →
         Foresees e first s.context s.left (is_some t.then) us None → Grounds e s.context first (is_some t.then) t.semicolon t.simple s.left (Ok given) l → Supposes e at s.context us l (Made os x) →
         within statement_keeps first (disjunction_of x.suppositions) ≡ Ok y →
         Owes e at s.context given y (place_of t.semicolon t.simple) o →

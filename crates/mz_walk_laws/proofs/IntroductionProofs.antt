@@ -1,11 +1,11 @@
 -- Statements that introduce names lead soundly on.
-use Rattle.std.proofs.Common.{◌≡◌, ℕ, suc, List, [], ◌∷◌, ◌++◌, map, refl, sym, ◌∙◌, subst, arith, Result, Ok}
+use Rattle.std.proofs.Common.{◌≡◌, ℕ, suc, List, [], ◌∷◌, ◌++◌, map, refl, sym, ◌∙◌, subst, arith, Result, Ok, None}
 use Rattle.std.specs.Prelude.{is_some}
 use Rattle.mz_base.specs.declared.place.Place.{Place}
 use Rattle.mz_logic.specs.Formula.{Formula}
 use Rattle.mz_logic.specs.Indices.{is_below}
 use Rattle.mz_logic.specs.Derives.{Derives}
-use Rattle.mz_logic.proofs.Each.{cut_each}
+use Rattle.mz_logic.proofs.Each.{Each, cut_each, each_itself, each_append, each_left, each_right}
 use Rattle.mz_core.specs.Statement.{Statement}
 use Rattle.mz_core.specs.TypeStatements.{is_of_type}
 use Rattle.mz_core.specs.Erasure.{erase}
@@ -17,22 +17,28 @@ use Rattle.mz_context.specs.declared.context.Context.{Context}
 use Rattle.mz_names.specs.Closing.{there_are}
 use Rattle.mz_cited.specs.Cited.{members}
 use Rattle.mz_tree_proof.specs.declared.introduction.ConsiderTree.{ConsiderTree}
+use Rattle.mz_tree_proof.specs.declared.introduction.DeffuncTree.{DeffuncTree}
+use Rattle.mz_tree_proof.specs.declared.introduction.DefpredTree.{DefpredTree}
 use Rattle.mz_tree_proof.specs.declared.introduction.IntroductionTree.{IntroductionTree}
 use Rattle.mz_tree_proof.specs.declared.introduction.NamedTermTree.{NamedTermTree}
 use Rattle.mz_tree_proof.specs.declared.introduction.ReconsiderTree.{ReconsiderTree}
+use Rattle.mz_private.specs.Private.{with_functor, with_predicate}
 use Rattle.mz_steps.specs.declared.read_step.Definition.{Definition}
 use Rattle.mz_steps.specs.declared.read_step.ReadStep.{ReadStep}
 use Rattle.mz_steps.specs.declared.read_step.ReadStep.TheVariants as read
 use Rattle.mz_obligations.specs.declared.obligation.Extent.{Extent}
 use Rattle.mz_steps_laws.specs.Facts.{facts}
 use Rattle.mz_justified.specs.declared.proof_fault.ProofRefusal.{ProofRefusal}
-use Rattle.mz_block_laws.specs.Orders.{Stands, DefinitionStands}
+use Rattle.mz_block_laws.specs.Orders.{Stands, DefinitionStands, IsInOrder}
 use Rattle.mz_block_laws.specs.Met.{IsMet, AreMet}
 use Rattle.mz_block_laws.proofs.OrderLemmas.{there_are_stand}
+use Rattle.mz_block_laws.proofs.OrderProofs.{now_in_order}
+use Rattle.mz_block_laws.proofs.PassProofs.{no_step_law, passes_otherwise}
+use Rattle.mz_block_laws.proofs.BlockProofs.{without_previous, fewer_facts}
 use Rattle.mz_walk.specs.Walked.{State, state, with_left, OneByOne, Walked, Made, Refused, without_obligations}
 use Rattle.mz_walk.specs.Walked as walked
 use Rattle.mz_walk.specs.Introductions as introductions
-use Rattle.mz_walk.specs.Introductions.{Considers, type_owed, Retypes, Reconsiders, SetsOne, Introduces}
+use Rattle.mz_walk.specs.Introductions.{Considers, type_owed, Retypes, Reconsiders, SetsOne, DefinesFunctor, DefinesPredicate, Introduces}
 use Rattle.mz_walk_laws.specs.Grounds.{Basis, IsGrounded, ReadsWell, IsProper}
 use Rattle.mz_walk_laws.proofs.Outcomes.{WhereOk, WhereMade, ok_mapped, ok_under, made_mapped, made_without, made_behind}
 use Rattle.mz_walk_laws.proofs.ReadingLemmas.{DescriptionStands, description_stands, AllDefined, retyped_read}
@@ -120,11 +126,39 @@ each_set W b reads held g first s p ns o (walked.one_taken x u n ms q h more) =
     let one : Reaches W b held x held u = set_reaches W b reads held g first x p n (Ok u) h in
     ok_mapped (Reaches W b held u held) (Reaches W b held x held) q (λ z y. reaches_further W b held x held u held z one y) (each_set W b reads held g first u one.proper ms q more)
 
+-- a name that says nothing
+named_reaches : (W : Context → Type 0) (b : Basis) (held : List Formula) (s : State) → IsProper W b held s.context → (d : Context) (l : Left) → W d → IsInOrder held d → facts d ≡ facts (without_previous s.context) → d.thesis ≡ s.context.thesis → next d ≡ next s.context → d.letters ≡ s.context.letters → Reaches W b held s held (state d s.block l)
+named_reaches W b held s p d l whole order ef et en el =
+    let c : Context = s.context in
+    let g : List Formula = facts c ++ held in
+    let itself : Each b.axioms g g = each_itself b.axioms g in
+    let fewer : Each b.axioms g (facts d) = subst (Each b.axioms g) (sym ef) (fewer_facts b.axioms g c (each_left b.axioms g (facts c) held itself)) in
+    record {
+      proper = record { is_whole = whole; order = order; letters = el ∙ p.letters };
+      passes = passes_otherwise b.axioms held c held c held d s.block s.block et en (each_append b.axioms g (facts d) held fewer (each_right b.axioms g (facts c) held itself)) (no_step_law b.axioms held c s.block);
+    }
+
+functor_reaches : (W : Context → Type 0) (b : Basis) → ReadsWell b.env W → (held : List Formula) → (s : State) → IsProper W b held s.context → (t : DeffuncTree) (o : Result State ProofRefusal) → DefinesFunctor b.env s t o → WhereOk o (Reaches W b held s held)
+functor_reaches W b reads held s p t o (introductions.not_read r l h) = tt
+functor_reaches W b reads held s p t o (introductions.defined f l h) =
+    let i : IsInOrder held (without_previous s.context) = now_in_order held s.context p.order in
+    named_reaches W b held s p (with_functor s.context f) l (reads.with_functor_read s.context p.is_whole s.left l t f h) (record { said = i.said; held_in_force = i.held_in_force }) refl refl refl refl
+
+predicate_reaches : (W : Context → Type 0) (b : Basis) → ReadsWell b.env W → (held : List Formula) → (s : State) → IsProper W b held s.context → (t : DefpredTree) (o : Result State ProofRefusal) → DefinesPredicate b.env s t o → WhereOk o (Reaches W b held s held)
+predicate_reaches W b reads held s p t o (introductions.not_read r l h) = tt
+predicate_reaches W b reads held s p t o (introductions.defined q l h) =
+    let i : IsInOrder held (without_previous s.context) = now_in_order held s.context p.order in
+    named_reaches W b held s p (with_predicate s.context q) l (reads.with_predicate_read s.context p.is_whole s.left l t q h) (record { said = i.said; held_in_force = i.held_in_force }) refl refl refl refl
+
 pub introduced_walks : (W : Context → Type 0) (b : Basis) → ReadsWell b.env W → (held : List Formula) → IsGrounded b held → (at : Extent) (first : Place) (s : State) → IsProper W b held s.context → (t : IntroductionTree) (o : Walked State) → Introduces b.env at first s t o → WhereMade o (λ os u. AreMet b.axioms b.clauses os → Reaches W b held s held u)
 introduced_walks W b reads held g at first s p t o (introductions.considers u q h) = considered_walks W b reads held g at first s p u q h
 introduced_walks W b reads held g at first s p t o (introductions.reconsiders u q h) = reconsidered_walks W b reads held g at first s p u q h
 introduced_walks W b reads held g at first s p t o (introductions.sets u q h) =
     made_without (λ os x. AreMet b.axioms b.clauses os → Reaches W b held s held x) q
     (ok_mapped (Reaches W b held s held) (λ x. AreMet b.axioms b.clauses [] → Reaches W b held s held x) q (λ x y met. y) (each_set W b reads held g first s p (members u.named) q h))
-introduced_walks W b reads held g at first s p t o (introductions.private_functor u) = tt
-introduced_walks W b reads held g at first s p t o (introductions.private_predicate u) = tt
+introduced_walks W b reads held g at first s p t o (introductions.private_functor u q h) =
+    made_without (λ os x. AreMet b.axioms b.clauses os → Reaches W b held s held x) q
+    (ok_mapped (Reaches W b held s held) (λ x. AreMet b.axioms b.clauses [] → Reaches W b held s held x) q (λ x y met. y) (functor_reaches W b reads held s p u q h))
+introduced_walks W b reads held g at first s p t o (introductions.private_predicate u q h) =
+    made_without (λ os x. AreMet b.axioms b.clauses os → Reaches W b held s held x) q
+    (ok_mapped (Reaches W b held s held) (λ x. AreMet b.axioms b.clauses [] → Reaches W b held s held x) q (λ x y met. y) (predicate_reaches W b reads held s p u q h))

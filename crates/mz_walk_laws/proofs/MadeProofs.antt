@@ -18,6 +18,8 @@ use Rattle.mz_formulas.specs.declared.sentence.Sentence.{Sentence}
 use Rattle.mz_tree_proof.specs.Reasoning.{JustData, CompactData, StatementData, StepData, StepList, SupposeList, more_supposes}
 use Rattle.mz_tree_proof.specs.declared.equality_step.EqualityStepTree.{EqualityStepTree}
 use Rattle.mz_tree_proof.specs.declared.introduction.ConsiderTree.{ConsiderTree}
+use Rattle.mz_tree_proof.specs.declared.introduction.DeffuncTree.{DeffuncTree}
+use Rattle.mz_tree_proof.specs.declared.introduction.DefpredTree.{DefpredTree}
 use Rattle.mz_tree_proof.specs.declared.introduction.IntroductionTree.{IntroductionTree}
 use Rattle.mz_tree_proof.specs.declared.introduction.NamedTermTree.{NamedTermTree}
 use Rattle.mz_tree_proof.specs.declared.introduction.ReconsiderTree.{ReconsiderTree}
@@ -39,6 +41,8 @@ use Rattle.mz_obligations.specs.declared.obligation.Obligation.{Obligation}
 use Rattle.mz_parts.specs.Declarations.{declared_in}
 use Rattle.mz_parts.specs.Propositions.{hypotheses_in}
 use Rattle.mz_parts.specs.Joined.{joined_within}
+use Rattle.mz_given.specs.declared.given.Given.{Given}
+use Rattle.mz_given.specs.declared.given.Given.TheVariants.{ByStatements, ByScheme}
 use Rattle.mz_justified.specs.Justified as justified
 use Rattle.mz_justified.specs.Justified.{Owes, Justified}
 use Rattle.mz_justified.specs.declared.proof_fault.ProofRefusal.{ProofRefusal}
@@ -49,7 +53,7 @@ use Rattle.mz_walk.specs.Performing.{Performs, PerformsAlone, stating, stating_i
 use Rattle.mz_walk.specs.Skeleton as skeleton
 use Rattle.mz_walk.specs.Skeleton.{lets, Letting, letting, letting_then, LetsDeclared, LetsReserved, Lets, Assuming, assuming, assuming_then, AssumesOne, Assumes, conditions_in, LetsSuch, Gives, TakesOne, StepsOn}
 use Rattle.mz_walk.specs.Introductions as introductions
-use Rattle.mz_walk.specs.Introductions.{OwesEach, JustifiesEach, Considers, Retypes, Reconsiders, SetsOne, Introduces}
+use Rattle.mz_walk.specs.Introductions.{OwesEach, JustifiesEach, Considers, Retypes, Reconsiders, SetsOne, DefinesFunctor, DefinesPredicate, Introduces}
 use Rattle.mz_walk.specs.Compact as compact
 use Rattle.mz_walk.specs.Compact.{place_behind, JustifiesSides}
 use Rattle.mz_walk.specs.Walk as walk
@@ -156,15 +160,24 @@ set_same : (e : Environment) (first : Place) (s : State) (n : NamedTermTree) (o 
 set_same e first s n o (introductions.not_read r l h) = tt
 set_same e first s n o (introductions.set d l q h k) = alone_same e first (with_left s l) (read.Set d) q k
 
+functor_same : (e : Environment) (s : State) (t : DeffuncTree) (o : Result State ProofRefusal) → DefinesFunctor e s t o → WhereOk o (SameLetters s)
+functor_same e s t o (introductions.not_read r l h) = tt
+functor_same e s t o (introductions.defined f l h) = refl
+
+predicate_same : (e : Environment) (s : State) (t : DefpredTree) (o : Result State ProofRefusal) → DefinesPredicate e s t o → WhereOk o (SameLetters s)
+predicate_same e s t o (introductions.not_read r l h) = tt
+predicate_same e s t o (introductions.defined p l h) = refl
+
 -- justifications
-owed_made : (e : Environment) (at : Extent) (c : Context) (ss : List Statement) (s : Statement) (place : Place) (o : Obligation) → Owes e at c ss s place o → IsMadeAt at c.letters o
-owed_made e at c ss s place o h = (h.extent_is, h.letters_are)
+owed_made : (e : Environment) (at : Extent) (c : Context) (given : Given) (s : Statement) (place : Place) (o : Obligation) → Owes e at c given s place o → IsMadeAt at c.letters o
+owed_made e at c (ByStatements ss) s place o h = (h.extent_is, h.letters_are)
+owed_made e at c (ByScheme x ss) s place o h = (h.extent_is, h.letters_are)
 
 justified_made : (e : Environment) (at : Extent) (c : Context) (first place : Place) (linked : Bool) (t : SimpleTree) (s : Statement) (l : Left) (o : Result Obligation ProofRefusal) (m : Left) → Justified e at c first linked place t s l o m → WhereOk o (IsMadeAt at c.letters)
 justified_made e at c first place linked t s l o m (justified.not_grounded r after h) = tt
 justified_made e at c first place linked t s l o m (justified.owed ss x after h k) = owed_made e at c ss s (justified.place_of place t) x k
 
-each_made : (e : Environment) (at : Extent) (c : Context) (given : List Statement) (place : Place) (ss : List Statement) (os : List Obligation) → OwesEach e at c given place ss os → AreMadeAt at c.letters os
+each_made : (e : Environment) (at : Extent) (c : Context) (given : Given) (place : Place) (ss : List Statement) (os : List Obligation) → OwesEach e at c given place ss os → AreMadeAt at c.letters os
 each_made e at c given place ss os introductions.owes_none = none_made at c.letters
 each_made e at c given place ss os (introductions.owes_more s ts o ps h more) = more_made at c.letters o ps (owed_made e at c given s place o h) (each_made e at c given place ts ps more)
 
@@ -219,8 +232,8 @@ introduced_made : (e : Environment) (at : Extent) (first : Place) (s : State) (t
 introduced_made e at first s t o (introductions.considers u q h) = considered_made e at first s u q h
 introduced_made e at first s t o (introductions.reconsiders u q h) = reconsidered_made e at first s u q h
 introduced_made e at first s t o (introductions.sets u q h) = alone_made at s q (each_same (SetsOne e first) letters_at (set_same e first) s (members u.named) q h)
-introduced_made e at first s t o (introductions.private_functor u) = tt
-introduced_made e at first s t o (introductions.private_predicate u) = tt
+introduced_made e at first s t o (introductions.private_functor u q h) = alone_made at s q (functor_same e s u q h)
+introduced_made e at first s t o (introductions.private_predicate u q h) = alone_made at s q (predicate_same e s u q h)
 
 mutual
   justifies_made : (e : Environment) (at : Extent) (c : Context) (first place : Place) (linked : Bool) (j : JustData) (x : Sentence) (l : Left) (w : Walked Left) → Justifies e at c first linked place j x l w → WhereMade w (λ os m. AreMadeAt at c.letters os)

@@ -55,7 +55,7 @@ more_grounded b held more each g = record {
   clauses = λ k is. cut_each b.axioms more held (clause_formula k) each (g.clauses k is);
   steps = g.steps;
   expansions = g.expansions;
-  theorems = λ s is. (cut_each b.axioms more held (erase s.statement) each (g.theorems s is).0, (g.theorems s is).1);
+  theorems = λ s is. (cut_each b.axioms more held (erase s.statement) each (g.theorems s is).0, (g.theorems s is).1, (g.theorems s is).2);
   schemes = g.schemes;
   chains = g.chains;
 }

@@ -42,7 +42,7 @@ use Rattle.mz_justified.specs.declared.proof_fault.ProofRefusal.{ProofRefusal}
 use Rattle.mz_block_laws.specs.Orders.{Stands, AllStand, StepStands, IsInOrder}
 use Rattle.mz_block_laws.specs.Passing.{Keeps, Passes}
 use Rattle.mz_block_laws.specs.BlockLaws.{AreStated}
-use Rattle.mz_block_laws.specs.Met.{IsMet, AreMet, AreKnown}
+use Rattle.mz_block_laws.specs.Met.{IsMet, AreMet}
 use Rattle.mz_block_laws.proofs.OrderLemmas.{all_typed, sentence_stands_law}
 use Rattle.mz_block_laws.proofs.OrderProofs.{variables_in_order, stated_in_order, proof_in_order, now_in_order}
 use Rattle.mz_block_laws.proofs.BlockProofs.{at_end, from_start, now_law, case_law, sentence_law}
@@ -53,12 +53,13 @@ use Rattle.mz_walk.specs.Compact.{stated_under, place_behind}
 use Rattle.mz_walk.specs.declared.compact.Compact.{Compact}
 use Rattle.mz_walk.specs.Walk as walk
 use Rattle.mz_walk.specs.Walk.{step_of, is_truth, is_proved, stated_in, Cases, no_cases, with_case, disjunction_of, behind_cases, Justifies, Proves, Says, SaysNow, States, Goes, Splits, Supposes, GoesAll}
+use Rattle.mz_given.specs.declared.given.Given.{Given}
 use Rattle.mz_walk_laws.specs.Grounds.{Basis, IsGrounded, ReadsWell, IsProper}
 use Rattle.mz_walk_laws.specs.WalkLaws.{SkeletonLaw, JustificationLaw, StatementLaw}
 use Rattle.mz_walk_laws.proofs.Outcomes.{WhereOk, WhereMade, ok_mapped, ok_under, made_mapped, made_without, made_behind, made_led, made_one, within_is}
 use Rattle.mz_walk_laws.proofs.ReadingLemmas.{AllStanding, one_more_stands, propositions_stand, whole_with, joined_stands}
 use Rattle.mz_walk_laws.proofs.PerformLemmas.{variables_letters, Reaches, reaches_itself, reaches_further, performs_reaches, held_behind, nothing_standing, Walks}
-use Rattle.mz_walk_laws.proofs.JustifiedProofs.{met_left, met_right, met_first, met_rest, grounds_known, owed_derives, justified_derives, AllDerived, sides_justified}
+use Rattle.mz_walk_laws.proofs.JustifiedProofs.{GivenKnown, met_left, met_right, met_first, met_rest, grounds_known, owed_derives, justified_derives, AllDerived, sides_justified}
 use Rattle.mz_walk_laws.proofs.SkeletonProofs.{with_other_left, steps_on_reach}
 use Rattle.mz_walk_laws.proofs.IntroductionProofs.{to_other_left, introduced_walks}
 use Rattle.mz_walk_laws.proofs.CompactProofs.{CompactStands, compact_stands}
@@ -241,7 +242,7 @@ case_of W b reads held c p first ps all x is r =
     }
 
 -- a split
-split_walks : (W : Context → Type 0) (b : Basis) → ReadsWell b.env W → (held : List Formula) → IsGrounded b held → (at : Extent) (first place : Place) (s : State) → IsProper W b held s.context → is_now s.block ≡ false → (given : List Statement) → AreKnown b.axioms held s.context given → (us : SupposeList) → IsMore us → (os : List Obligation) (x : Cases) → HasSupposed W b held s.context us os x → (y : Statement) → within statement_keeps first (disjunction_of x.suppositions) ≡ Ok y → (o : Obligation) → Owes b.env at s.context given y place o → AreMet b.axioms b.clauses (o ∷ os) → Reaches W b held s held (behind_cases s x.left)
+split_walks : (W : Context → Type 0) (b : Basis) → ReadsWell b.env W → (held : List Formula) → IsGrounded b held → (at : Extent) (first place : Place) (s : State) → IsProper W b held s.context → is_now s.block ≡ false → (given : Given) → GivenKnown b held s.context given → (us : SupposeList) → IsMore us → (os : List Obligation) (x : Cases) → HasSupposed W b held s.context us os x → (y : Statement) → within statement_keeps first (disjunction_of x.suppositions) ≡ Ok y → (o : Obligation) → Owes b.env at s.context given y place o → AreMet b.axioms b.clauses (o ∷ os) → Reaches W b held s held (behind_cases s x.left)
 split_walks W b reads held g at first place s p now given known us more os x supposes y is o owes met =
     let c : Context = s.context in
     let cases : AreCases b.axioms held c x.suppositions × (IsMore us → IsSome x.suppositions) = supposes p (met_rest b.axioms b.clauses o os met) in

@@ -12,6 +12,8 @@ use Rattle.mz_context.specs.declared.constants.Constant.{Constant}
 use Rattle.mz_context.specs.declared.context.Context.{Context}
 use Rattle.mz_context.specs.declared.labelled.LabelledStatement.{LabelledStatement}
 use Rattle.mz_context.specs.declared.letters.NamedLetter.{NamedLetter}
+use Rattle.mz_context.specs.declared.private.PrivateFunctor.{PrivateFunctor}
+use Rattle.mz_context.specs.declared.private.PrivatePredicate.{PrivatePredicate}
 use Rattle.mz_ground.specs.declared.clause.Clause.{Clause}
 use Rattle.mz_environment.specs.declared.environment.Environment.{Environment}
 use Rattle.mz_types.specs.Known.{letters_clauses, typing}
@@ -23,6 +25,9 @@ use Rattle.mz_formulas.specs.Declarations.{reserved_variable}
 use Rattle.mz_formulas.specs.declared.sentence.Sentence.{Sentence}
 use Rattle.mz_names.specs.declared.variable.Variable.{Variable}
 use Rattle.mz_resolve.specs.Calls.{TermRead, TypeRead, SentenceRead}
+use Rattle.mz_tree_proof.specs.declared.introduction.DeffuncTree.{DeffuncTree}
+use Rattle.mz_tree_proof.specs.declared.introduction.DefpredTree.{DefpredTree}
+use Rattle.mz_private.specs.Private.{FunctorRead, PredicateRead, with_functor, with_predicate}
 use Rattle.mz_thesis_laws.specs.StepLaws.{AreUnfoldings}
 use Rattle.mz_steps.specs.Changes.{statement_of, with_stated}
 use Rattle.mz_block_laws.specs.Orders.{TermStands, TypeStands, Stands, AllStand, EqualStands, IsInOrder}
@@ -59,6 +64,8 @@ pub record ReadsWell (e : Environment) (whole : Context → Type 0) : Type 0 whe
   pub with_one : (c : Context) → whole c → (k : Constant) → TypeStands (next c) k.ty → EqualStands (next c) k.equal → whole (with_constant c k)
   pub with_some : (c : Context) → whole c → (ps : List LabelledStatement) → ((p : LabelledStatement) → Contains ps p → Stands (next c) (statement_of p)) → whole (with_stated c ps)
   pub posed : (c : Context) → whole c → (s : Statement) → Stands (next c) s → whole (record c { thesis = Some s })
+  pub with_functor_read : (c : Context) → whole c → (l m : Left) (t : DeffuncTree) (f : PrivateFunctor) → FunctorRead e c 0 l t (Ok f) m → whole (with_functor c f)
+  pub with_predicate_read : (c : Context) → whole c → (l m : Left) (t : DefpredTree) (p : PrivatePredicate) → PredicateRead e c 0 l t (Ok p) m → whole (with_predicate c p)
   pub unlinked : (c : Context) → whole c → whole (record c { previous = None })
 
 -- a context in which one may reason

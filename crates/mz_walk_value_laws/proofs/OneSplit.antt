@@ -19,6 +19,7 @@ use Rattle.mz_obligations.specs.declared.obligation.Extent.{Extent}
 use Rattle.mz_obligations.specs.declared.obligation.Obligation.{Obligation}
 use Rattle.mz_parts.specs.Joined.{joined_within}
 use Rattle.mz_parts.specs.Propositions.{PropositionsRead, hypotheses_in}
+use Rattle.mz_given.specs.declared.given.Given.{Given}
 use Rattle.mz_justified.specs.Justified.{Grounds, Owes, place_of}
 use Rattle.mz_justified.specs.declared.proof_fault.ProofRefusal.{ProofRefusal}
 use Rattle.mz_justified.specs.declared.proof_fault.ProofRefusal.TheVariants.{StepNoFit, Resolve}
@@ -109,19 +110,19 @@ SuppositionsAs e c (more_supposes (CaseSuppose p h q ds end semicolon) us) l o =
 abbrev split_made : State → List Obligation → Cases → Obligation → Walked State
 split_made s os x o = Made (o ∷ os) (behind_cases s x.left)
 
-abbrev OwedNext : Environment → Extent → State → SplitTree → List Statement → List Obligation → Cases → Statement → Walked State → Type 0
+abbrev OwedNext : Environment → Extent → State → SplitTree → Given → List Obligation → Cases → Statement → Walked State → Type 0
 OwedNext e at s t given os x y o = Makes (Owes e at s.context given y (place_of t.semicolon t.simple)) (split_made s os x) o
 
-abbrev OwedIs : Environment → Extent → State → SplitTree → List Statement → List Obligation → Cases → Result Statement Refusal → Walked State → Type 0
+abbrev OwedIs : Environment → Extent → State → SplitTree → Given → List Obligation → Cases → Result Statement Refusal → Walked State → Type 0
 OwedIs e at s t given os x z o = NextOk unread (OwedNext e at s t given os x) z o
 
-abbrev CasesNext : Environment → Extent → State → Place → SplitTree → List Statement → List Obligation → Cases → Walked State → Type 0
+abbrev CasesNext : Environment → Extent → State → Place → SplitTree → Given → List Obligation → Cases → Walked State → Type 0
 CasesNext e at s first t given os x o = OwedIs e at s t given os x (within statement_keeps first (disjunction_of x.suppositions)) o
 
-abbrev GroundedNext : Environment → Extent → State → Place → SplitTree → SupposeList → List Statement → Left → Walked State → Type 0
+abbrev GroundedNext : Environment → Extent → State → Place → SplitTree → SupposeList → Given → Left → Walked State → Type 0
 GroundedNext e at s first t us given l o = After (Supposes e at s.context us l) (NextMade (CasesNext e at s first t given)) o
 
-abbrev GroundsIt : Environment → State → Place → SplitTree → Result (List Statement) ProofRefusal → Left → Type 0
+abbrev GroundsIt : Environment → State → Place → SplitTree → Result Given ProofRefusal → Left → Type 0
 GroundsIt e s first t o a = Grounds e s.context first (is_some t.then) t.semicolon t.simple s.left o a
 
 abbrev JustifiedSplit : Environment → Extent → State → Place → SplitTree → SupposeList → Walked State → Type 0
@@ -202,7 +203,7 @@ splits_as e at s first t us o (wk.cases_too_large _ _ _ _ given l os x r a h i k
 splits_as e at s first t us o (wk.split _ _ _ _ given l os x y u a h i k g) =
     (None, a, (Ok given, l, h, (Made os x, i, subst (λ (z : Result Statement Refusal). OwedIs e at s t given os x z o) (sym k) (u, g, refl))))
 
-one_cases_next : (e : Environment) (at : Extent) (s : State) (first : Place) (t : SplitTree) (given : List Statement) (os : List Obligation) (x : Cases) → AtMostOne (CasesNext e at s first t given os x)
+one_cases_next : (e : Environment) (at : Extent) (s : State) (first : Place) (t : SplitTree) (given : Given) (os : List Obligation) (x : Cases) → AtMostOne (CasesNext e at s first t given os x)
 one_cases_next e at s first t given os x =
     one_next_ok unread (OwedNext e at s t given os x)
     (λ (y : Statement). one_made (Owes e at s.context given y (place_of t.semicolon t.simple)) (split_made s os x) (one_owed e at s.context given y (place_of t.semicolon t.simple)))
@@ -211,7 +212,7 @@ one_cases_next e at s first t given os x =
 one_justified_split : (e : Environment) (at : Extent) (t : SplitTree) (us : SupposeList) → OneCases e at us → (s : State) (first : Place) → AtMostOne (JustifiedSplit e at s first t us)
 one_justified_split e at t us one s first =
     one_after_read (GroundsIt e s first t) refused (GroundedNext e at s first t us) (one_ground e s.context first (is_some t.then) t.semicolon t.simple s.left)
-    (λ (given : List Statement) (l : Left). one_after (Supposes e at s.context us l) (NextMade (CasesNext e at s first t given)) (one s.context l) (one_next_made (CasesNext e at s first t given) (one_cases_next e at s first t given)))
+    (λ (given : Given) (l : Left). one_after (Supposes e at s.context us l) (NextMade (CasesNext e at s first t given)) (one s.context l) (one_next_made (CasesNext e at s first t given) (one_cases_next e at s first t given)))
 
 one_split_next : (e : Environment) (at : Extent) (t : SplitTree) (us : SupposeList) → OneCases e at us → (s : State) (first : Place) (q : Option ProofRefusal) → AtMostOne (SplitNext e at s first t us q)
 one_split_next e at t us one s first (Some r) o p h k = h ∙ sym k

@@ -37,6 +37,7 @@ use Rattle.mz_reading_laws.proofs.CallProofs.{term_call_law, type_call_law, sent
 use Rattle.mz_reading_laws.proofs.StepProofs.{context_after_law}
 use Rattle.mz_block_laws.specs.Orders.{TermStands, TypeStands, AllStand, EqualStands}
 use Rattle.mz_whole_laws.specs.WholeLaws.{ReadsWellLaw}
+use Rattle.mz_whole_laws.proofs.PrivateProofs.{functor_whole, predicate_whole}
 use Rattle.mz_whole_laws.proofs.StandingLemmas.{term_usable_in, type_usable_in, statement_usable_in, term_stands, type_stands, statement_stands}
 
 -- declared variables, and a statement behind them
@@ -89,5 +90,7 @@ reads_well_law e closed_e = record {
   with_one = λ c whole k w u. constant_law 0 c k whole (type_usable_in c k.ty w, equal_usable c k.equal u);
   with_some = λ c whole ps all. context_after_law 0 c whole (State Truth) refl Unchanged tt ps (λ p is. statement_usable_in c p.statement (all p is));
   posed = λ c whole s w. thesis_law 0 c s whole (statement_usable_in c s w);
+  with_functor_read = λ c whole l m t f h. functor_whole e closed_e c whole l m t f h;
+  with_predicate_read = λ c whole l m t p h. predicate_whole e closed_e c whole l m t p h;
   unlinked = λ c whole. previous_law 0 c whole;
 }

@@ -194,7 +194,7 @@ const JUSTIFICATIONS: [(bool, Row); 9] = [
     (true, ("", "A.R1", "by B", "7 41")),
     (true, ("A.R2", "A.R1", "by B", "4 43")),
     (false, ("", "A.R1", "proof end", "7 42")),
-    (false, ("", "A.R1", "from S", "1 10")),
+    (false, ("", "A.R1", "from S", "6 43")),
 ];
 
 #[test]

@@ -11,7 +11,7 @@ use mz_justified::walker::Walker;
 use mz_logic::texts::push_formula;
 use mz_names::refusal::Refusal;
 use mz_nf::problem::Problem;
-use mz_obligations::obligation::{Duty, Extent, Obligations};
+use mz_obligations::obligation::{Duty, Extent, Obligations, SchemeVerdict};
 use mz_pproof::forms::{ProofForm, ProofTree};
 use mz_pproof::parse::proof;
 use mz_proof::proving::Proving;
@@ -73,6 +73,16 @@ fn push_problem(rt: &impl Abort, alloc: Global, out: &mut Vec<u8>, p: &Problem) 
     push_formula(alloc, out, &p.conclusion).expect(rt, "memory");
 }
 
+fn push_verdict(rt: &impl Abort, alloc: Global, out: &mut Vec<u8>, verdict: SchemeVerdict) {
+    let text = match verdict {
+        SchemeVerdict::Fits => format!(in alloc; " from fits"),
+        SchemeVerdict::NoFit => format!(in alloc; " from no fit"),
+        SchemeVerdict::PremiseCount(n) => format!(in alloc; " from count {n}"),
+        SchemeVerdict::PremiseNoFit(n) => format!(in alloc; " from premise {n}"),
+    };
+    push_text(rt, out, text.expect(rt, "memory").as_str());
+}
+
 fn obligations_text(rt: &impl Abort, alloc: Global, os: &Obligations) -> Vec<u8> {
     let mut out = Vec::new(alloc);
     for o in &os.items {
@@ -84,7 +94,7 @@ fn obligations_text(rt: &impl Abort, alloc: Global, os: &Obligations) -> Vec<u8>
         push_text(rt, &mut out, column.as_str());
         match &o.duty {
             Duty::By(p) => push_problem(rt, alloc, &mut out, p),
-            Duty::From(_) => push_text(rt, &mut out, " from"),
+            Duty::From(verdict) => push_verdict(rt, alloc, &mut out, *verdict),
         }
     }
     out

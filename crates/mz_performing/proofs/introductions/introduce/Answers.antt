@@ -1,4 +1,4 @@
-use Rattle.mz_performing.proofs.SetLemmas.{told_considers, told_reconsiders, told_sets}
+use Rattle.mz_performing.proofs.SetLemmas.{told_considers, told_reconsiders, told_sets, told_private_functor, told_private_predicate}
 use Rattle.mz_performing.proofs.introductions.introduce.Goals as goal
 
 pub returns-in-Consider : goal.returns-in-Consider
@@ -9,3 +9,9 @@ returns-in-Reconsider c = told_reconsiders _ _ _ _ _ _ _ _ _ _ c.in-Reconsider.i
 
 pub returns-in-Set : goal.returns-in-Set
 returns-in-Set c = told_sets _ _ _ _ _ _ _ _ _ c.in-Set.is c.set_all.ensures
+
+pub returns-in-Deffunc : goal.returns-in-Deffunc
+returns-in-Deffunc c = told_private_functor _ _ _ _ _ _ _ _ _ c.in-Deffunc.is c.define_functor.ensures
+
+pub returns-in-Defpred : goal.returns-in-Defpred
+returns-in-Defpred c = told_private_predicate _ _ _ _ _ _ _ _ _ c.in-Defpred.is c.define_predicate.ensures
