@@ -41,7 +41,7 @@ fn read_item<P: ProveSteps, D: DefineItems, T: RegisterItems, S: StructItems, C:
         ItemTree::Reserve(t) => as_of_item(read_reserve(alloc, s, os, t)),
         ItemTree::Theorem(t) => as_of_item(read_theorem::<P>(alloc, s, os, t)),
         ItemTree::Statement(t) => as_of_item(read_statement::<P>(alloc, s, os, t)),
-        ItemTree::Scheme(t) => C::scheme(alloc, s, os, t),
+        ItemTree::Scheme(t) => C::scheme::<P>(alloc, s, os, t),
         ItemTree::Definition(t) => D::definition::<S>(alloc, s, os, t),
         ItemTree::Notation(t) => D::notation(alloc, s, t),
         ItemTree::Registration(t) => T::registration(alloc, s, os, t),

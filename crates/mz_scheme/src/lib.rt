@@ -1,4 +1,6 @@
 //! Schemes, taken.
 #![tactic(auto)]
 
+pub mod heading;
+pub mod parameters;
 pub mod stating;

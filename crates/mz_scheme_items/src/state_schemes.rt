@@ -6,15 +6,16 @@ use mz_obligations::obligation::Obligations;
 use mz_standing::standing::Standing;
 use mz_taken::item_fault::ItemFault;
 use mz_tree_item::schemes::SchemeTree;
+use mz_walk::prove_steps::ProveSteps;
 use std::alloc::Global;
 
 /// What takes schemes.
 pub trait StateSchemes {
-    /// Takes a scheme. Its obligations are put behind the others.
+    /// Takes a scheme, whose justification is taken by `P`. Its obligations are put behind the others.
     ///
     /// # Errors
     /// The first refusal in the order of the text, with its place; or there was no memory.
-    fn scheme(
+    fn scheme<P: ProveSteps>(
         alloc: Global,
         s: &mut Standing,
         os: &mut Obligations,

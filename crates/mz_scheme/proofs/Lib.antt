@@ -1,0 +1,4 @@
+pub mod LoopLemmas
+pub mod ParameterLemmas
+pub mod HeadingLemmas
+pub mod StateLemmas
