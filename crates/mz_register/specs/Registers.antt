@@ -1,10 +1,9 @@
 -- What comes of a block of registrations.
-use Rattle.mz_justified.specs.declared.proof_fault.ProofRefusal.TheVariants.{NotBuilt}
+use Rattle.mz_registered.specs.Blocks.{TakesBlock}
 use Rattle.mz_standing.specs.declared.standing.Standing.{Standing}
-use Rattle.mz_taken.specs.Taken.{Taken, Refused}
-use Rattle.mz_taken.specs.declared.item_fault.ItemRefusal.TheVariants.{Proof}
+use Rattle.mz_taken.specs.Taken.{Taken}
 use Rattle.mz_tree_item.specs.declared.registration.RegistrationTree.{RegistrationTree}
 
--- registrations aren't built
-pub data Registers (s : Standing) (t : RegistrationTree) : Taken Standing → Type 0 where
-  not_built : Registers s t (Refused (Proof (NotBuilt t.registration)))
+-- its headings are taken one after another, and behind it its loci are out of force
+abbrev pub Registers : Standing → RegistrationTree → Taken Standing → Type 0
+Registers s t o = TakesBlock s t o

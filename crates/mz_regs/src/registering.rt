@@ -1,23 +1,24 @@
 //! Blocks of registrations, taken.
-use mz_justified::proof_fault::ProofRefusal;
 use mz_obligations::obligation::Obligations;
+use mz_proof::proving::Proving;
 use mz_register::register_items::RegisterItems;
+use mz_registering::block::take_block;
 use mz_standing::standing::Standing;
-use mz_taken::item_fault::{ItemFault, ItemRefusal};
+use mz_taken::item_fault::ItemFault;
 use mz_tree_item::registration::RegistrationTree;
 use std::alloc::Global;
 
-/// What takes blocks of registrations: they aren't built.
+/// What takes blocks of registrations.
 #[derive(Clone, Copy, Debug)]
 pub struct Registering;
 
 impl RegisterItems for Registering {
     fn registration(
-        _alloc: Global,
-        _s: &mut Standing,
-        _os: &mut Obligations,
+        alloc: Global,
+        s: &mut Standing,
+        os: &mut Obligations,
         tree: &RegistrationTree,
     ) -> Result<(), ItemFault> {
-        Err(ItemFault::Refused(ItemRefusal::Proof(ProofRefusal::NotBuilt(tree.registration))))
+        take_block::<Proving>(alloc, s, os, tree)
     }
 }

@@ -1,0 +1,4 @@
+//! Laws of blocks of registrations.
+#![tactic(auto)]
+
+pub mod laws;
