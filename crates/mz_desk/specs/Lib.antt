@@ -3,4 +3,5 @@ pub mod Found
 pub mod Difference
 pub mod State
 pub mod Desk
+pub mod Own
 pub mod Look

@@ -1,5 +1,5 @@
 //! The desk: what is kept under the lock.
-ghost use Rattle.std.specs.Prelude.{◌≡◌, ◌<◌, ◌≤◌, [], ℕ, true, false, length, slice_set, IfOk, IfErr, OnOk, OnErr};
+ghost use Rattle.std.specs.Prelude.{◌≡◌, ◌<◌, ◌≤◌, [], ℕ, true, false, length, slice_set, IfOk, IfErr, OnOk, OnErr, MatchOption};
 ghost use Rattle.std.specs.Arc.{arc_value};
 ghost use Rattle.mz_axioms.specs.Library.{Sound};
 ghost use Rattle.std.specs.List.{sum_by};
@@ -11,11 +11,12 @@ ghost use Rattle.mz_rows.specs.Entries.{entries_of};
 ghost use Rattle.mz_rows.specs.Table.{is_ready, number_at};
 ghost use Rattle.mz_desk.specs.Found.{IsFound, IsFreshFor, outcome_from};
 ghost use Rattle.mz_desk.specs.Look.{IsLook};
+ghost use Rattle.mz_desk.specs.Own.{HasOwnInput, GivesOwnInput};
 ghost use Rattle.mz_desk.specs.Desk.{Takes, Answers, NoneIsReady, Stands, Strays, Publishes, Reclaims, IsFirstUnsettled, AllAreSettled};
 
 use crate::claim::Claim;
-use crate::input::{job_of, why_not};
-use crate::job::{Done, Found, Job, Strayed};
+use crate::input::{job_of, not_claimed, why_not};
+use crate::job::{Done, Found, Job, Strayed, Why};
 use crate::look::{Look, built_in_look, look_in};
 use mz_axioms::checker::Semantics;
 use mz_axioms::exports::Exports;
@@ -125,6 +126,13 @@ impl<C: Semantics> Desk<C> {
         self.table.library()
     }
 
+    /// The turns that made the rows, from the first on.
+    pub fn turns(&self) -> &[Turn]
+        ensures { result.now ≡ self.now.turns }
+    {
+        self.turns.as_slice()
+    }
+
     /// What each desk keeps: its rows are those after its turns; so there is one for each article, its library is
     /// sound, each settled row is the verdict of its article, and where all are settled they are the verdicts.
     pub fn law(&self)
@@ -172,6 +180,7 @@ impl<C: Semantics> Desk<C> {
         requires ready { is_ready self.old.corpus.articles self.old.rows row ≡ true }
         requires first { (k : ℕ) → k < length self.old.corpus.articles → is_ready self.old.corpus.articles self.old.rows k ≡ true → number_at self.old.corpus.articles row ≤ number_at self.old.corpus.articles k }
         ensures ok { IfOk result (λ j. Takes self.old worker self.new j) }
+        ensures own { IfOk result (λ j. HasOwnInput C.is_outcome self.old.corpus.articles j) }
         ensures err { OnErr result (self.new ≡ self.old) }
     {
         self.table.corpus().law();
@@ -187,7 +196,8 @@ impl<C: Semantics> Desk<C> {
     /// What is answered where no row is ready.
     fn rest(&self) -> Claim
         requires { NoneIsReady self.now }
-        ensures { (w : ℕ) → Answers self.now w self.now result }
+        ensures answers { (w : ℕ) → Answers self.now w self.now result }
+        ensures own { GivesOwnInput C.is_outcome self.now.corpus.articles result }
     {
         self.table.corpus().law();
         let _len = self.table.len();
@@ -199,9 +209,12 @@ impl<C: Semantics> Desk<C> {
         }
     }
 
-    /// Gives the worker the first ready row, in the order of names. After want of memory nothing has changed.
+    /// Gives the worker the first ready row, in the order of names. The job's input is its article's own on each
+    /// desk over the corpus. After want of memory nothing has changed.
     pub fn claim(&mut self, alloc: Global, worker: u32) -> Result<Claim, AllocError>
         ensures ok { IfOk result (λ x. Answers self.old worker self.new x) }
+        ensures own { IfOk result (λ x. GivesOwnInput C.is_outcome self.old.corpus.articles x) }
+        ensures corpus { self.new.corpus ≡ self.old.corpus }
         ensures err { OnErr result (self.new ≡ self.old) }
     {
         match self.table.first_ready() {
@@ -227,6 +240,22 @@ impl<C: Semantics> Desk<C> {
         self.turns.push_reserved(Turn::Publish(row as u32, worker));
     }
 
+    /// Publishes a result where there is no reason against it, and gives it back with the reason else.
+    fn publish_unless(&mut self, done: Done<C>, why: Option<Why>) -> Result<(), Strayed<C>>
+        requires { MatchOption why (Stands self.old.corpus.articles self.old.rows done.job) (λ w. Strays self.old.corpus.articles self.old.rows done.job w) }
+        ensures ok { OnOk result (Publishes self.old self.new done) }
+        ensures err { IfErr result (λ s. (self.new ≡ self.old) × (s.done ≡ done) × Strays self.old.corpus.articles self.old.rows done.job s.why) }
+        ensures corpus { self.new.corpus ≡ self.old.corpus }
+    {
+        match why {
+            Some(why) => Err(Strayed { done, why }),
+            None => {
+                self.settle(done);
+                Ok(())
+            }
+        }
+    }
+
     /// Publishes a result. It takes no memory.
     ///
     /// # Errors
@@ -236,13 +265,24 @@ impl<C: Semantics> Desk<C> {
         ensures err { IfErr result (λ s. (self.new ≡ self.old) × (s.done ≡ done) × Strays self.old.corpus.articles self.old.rows done.job s.why) }
     {
         self.table.corpus().law();
-        match why_not(&self.table, done.job()) {
-            Some(why) => Err(Strayed { done, why }),
-            None => {
-                self.settle(done);
-                Ok(())
-            }
-        }
+        let why = why_not(&self.table, done.job());
+        self.publish_unless(done, why)
+    }
+
+    /// Publishes a result whose job a desk over the same corpus gave, as `publish` does. It compares no input: each
+    /// dependency has one verdict, so the job's input is this desk's own. It takes no memory.
+    ///
+    /// # Errors
+    /// The result, exactly where its row isn't claimed by its worker, and how the row is; nothing has changed then.
+    pub fn publish_own(&mut self, done: Done<C>) -> Result<(), Strayed<C>>
+        requires own { HasOwnInput C.is_outcome self.old.corpus.articles done.job }
+        ensures ok { OnOk result (Publishes self.old self.new done) }
+        ensures err { IfErr result (λ s. (self.new ≡ self.old) × (s.done ≡ done) × Strays self.old.corpus.articles self.old.rows done.job s.why) }
+        ensures corpus { self.new.corpus ≡ self.old.corpus }
+    {
+        self.table.corpus().law();
+        let why = not_claimed(&self.table, done.job());
+        self.publish_unless(done, why)
     }
 
     /// Takes every claim away. It takes no memory.

@@ -6,7 +6,7 @@ ghost use Rattle.mz_corpus.specs.Corpus.{IsAscending};
 ghost use Rattle.mz_turns.specs.Row.{Row};
 ghost use Rattle.mz_turns.specs.Library.{library_of, is_used_by};
 ghost use Rattle.mz_axioms.specs.Library.{AreInOrder};
-ghost use Rattle.mz_desk.specs.Desk.{HasText, IsJobOf, IsInputOf, DiffersIn, Stands, Strays};
+ghost use Rattle.mz_desk.specs.Desk.{HasText, IsJobOf, IsInputOf, IsClaimedFor, DiffersIn, Stands, Strays};
 ghost use Rattle.mz_desk.specs.Difference.{AreRising, AreTexts, number_of_export};
 
 use crate::differences::{exports_differ, is_used_by, vocabularies_differ};
@@ -149,10 +149,9 @@ fn differing_input(article: &Article, library: &[Arc<Export>], job: &Job) -> Opt
     }
 }
 
-/// Why a result doesn't stand.
-pub fn why_not(table: &Table, job: &Job) -> Option<Why>
-    requires order { AreInOrder (library_of table.now.rows) }
-    ensures { MatchOption result (Stands table.now.corpus.articles table.now.rows job.now) (λ why. Strays table.now.corpus.articles table.now.rows job.now why) }
+/// Why the row of a job's name isn't claimed by its worker.
+pub fn not_claimed(table: &Table, job: &Job) -> Option<Why>
+    ensures { MatchOption result (IsClaimedFor table.now.corpus.articles table.now.rows job.now) (λ why. Strays table.now.corpus.articles table.now.rows job.now why) }
 {
     table.corpus().law();
     let row = place_of(table.corpus().articles(), &job.name);
@@ -160,8 +159,31 @@ pub fn why_not(table: &Table, job: &Job) -> Option<Why>
         return Some(Why::NotClaimed(None));
     }
     let state = table.state(row);
-    if !state.is_claimed_by(job.worker) {
-        return Some(Why::NotClaimed(Some(state)));
+    if state.is_claimed_by(job.worker) {
+        None
+    } else {
+        Some(Why::NotClaimed(Some(state)))
     }
+}
+
+/// Why the input of a claimed job isn't its article's own.
+fn why_stale(table: &Table, job: &Job) -> Option<Why>
+    requires claimed { IsClaimedFor table.now.corpus.articles table.now.rows job.now }
+    requires order { AreInOrder (library_of table.now.rows) }
+    ensures { MatchOption result (Stands table.now.corpus.articles table.now.rows job.now) (λ why. Strays table.now.corpus.articles table.now.rows job.now why) }
+{
+    table.corpus().law();
+    let row = place_of(table.corpus().articles(), &job.name);
     differing_input(table.corpus().get(row), table.library().as_slice(), job)
+}
+
+/// Why a result doesn't stand.
+pub fn why_not(table: &Table, job: &Job) -> Option<Why>
+    requires order { AreInOrder (library_of table.now.rows) }
+    ensures { MatchOption result (Stands table.now.corpus.articles table.now.rows job.now) (λ why. Strays table.now.corpus.articles table.now.rows job.now why) }
+{
+    match not_claimed(table, job) {
+        Some(why) => Some(why),
+        None => why_stale(table, job),
+    }
 }

@@ -66,6 +66,8 @@ use denote.RattleType.{RattleType}
 use Rattle.std.proofs.marker.PhantomData.TheSendSync as PhantomDataS
 use Rattle.mz_turns.proofs.turn.Turn.TheSendSync as TurnS
 use Rattle.mz_axioms.specs.declared.checker.Semantics.{Ghosts}
+use Rattle.mz_workers.specs.declared.board.SharedCorpus.{Ghosts as CorpusGhosts}
+use Rattle.mz_workers.specs.contracts.board.Board as Board
 use Rattle.mz_turns.specs.contracts.turn.Turn as Turn
 use Rattle.std.specs.contracts.vec.Vec as Vec
 use Rattle.std.specs.contracts.alloc.Global as Global
@@ -605,3 +607,6 @@ turns-send = search (TurnS.the_send, crosses, sendable) depth 60 fits 20000
 
 pub Desk-send : (C : RattleType) (g : Ghosts C.Denot) → IsSend C → IsSend (Desk.the_row C g)
 Desk-send C g s = record { owned = λ d vs x. ((λ vss. (tt, (Table-send.owned x.0.table vss.0, (turns-send.owned x.0.turns vss.1.0, ((PhantomDataS.the_send C).owned x.0.of vss.1.1.0, tt))))), tt); leaving = λ k d w. tt }
+
+pub Board-send : (C K : RattleType) (g : Ghosts C.Denot) (h : CorpusGhosts K.Denot) → IsSend C → IsSend K → IsSend (Board.the_row C K g h)
+Board-send C K g h s t = record { owned = λ d vs x. ((λ vss. (tt, ((Desk-send C g s).owned x.0.desk vss.0, ((PhantomDataS.the_send K).owned x.0.of vss.1.0, tt)))), tt); leaving = λ k d w. tt }

@@ -1,14 +1,14 @@
 //! All the work.
-ghost use Rattle.std.specs.Prelude.{◌≡◌, ◌≤◌, ◌<◌, ◌^◌, [], IfOk, OnOk, IsTrue, IsFalse};
+ghost use Rattle.std.specs.Prelude.{◌≡◌, ◌≤◌, ◌<◌, ◌^◌, IfOk, OnOk, IsTrue, IsFalse};
 ghost use Rattle.std.specs.Arc.{arc_value};
 ghost use Rattle.mz_axioms.specs.Library.{Sound};
 ghost use Rattle.mz_turns.specs.Library.{library_of};
 ghost use Rattle.mz_turns.specs.Verdicts.{AreVerdicts};
-ghost use Rattle.mz_turns.specs.Machine.{Starts};
 ghost use Rattle.mz_desk.specs.Job.{Done};
 ghost use Rattle.mz_desk.specs.Desk.{AllAreSettled, Stands, Publishes};
 ghost use Rattle.mz_workers.specs.Work.{work_left};
 
+use crate::board::{Board, SharedCorpus};
 use crate::work::work;
 use mz_axioms::checker::Checker;
 use mz_corpus::corpus::Corpus;
@@ -18,20 +18,24 @@ use mz_desk::job::Job;
 use mz_desk::laws::answers_law;
 use mz_io::gate::Gate;
 use std::alloc::{AllocError, Global};
+use std::marker::Brand;
 use std::sync::{Arc, Condvar, Mutex, Wait};
 use std::thread;
 use std::thread::Threads;
 
-/// Runs the workers over the desk, and takes it out of its lock again.
-fn run_workers<C: Checker, G: Gate, R: Threads + Wait + Sync>(
+/// Runs so many workers over the desk, and takes it out of its lock again. A worker that stops leaves rows that are not settled.
+pub fn run_workers<C: Checker, K: SharedCorpus + Send, G: Gate, R: Threads + Wait + Sync>(
     rt: &R,
     alloc: Global,
     desk: Desk<C>,
     checker: &C,
     gate: &G,
     workers: u32,
-) -> Desk<C> {
-    let desk = Mutex::new(desk);
+) -> Desk<C>
+    requires { desk.corpus ≡ K.corpus }
+    ensures { result.corpus ≡ desk.corpus }
+{
+    let board: Mutex<Board<C, K>> = Mutex::new(Board::new(desk));
     let bell = Condvar::new();
     let ended = thread::map_indices(
         rt,
@@ -39,10 +43,10 @@ fn run_workers<C: Checker, G: Gate, R: Threads + Wait + Sync>(
         workers as usize,
         &|i: usize| -> Result<(), AllocError>
             requires { i < 2 ^ 32 }
-        { work(rt, alloc, &desk, &bell, checker, gate, i as u32) },
+        { work(rt, alloc, &board, &bell, checker, gate, i as u32) },
     );
     drop(ended);
-    desk.into_inner()
+    board.into_inner().into_desk()
 }
 
 /// Checks a job and publishes its result, where it stands.
@@ -111,23 +115,6 @@ fn finish<C: Checker, R: Threads + Wait + Sync>(
     Ok(desk)
 }
 
-/// The desk, or a new one where it isn't over the corpus.
-fn over<C: Checker>(
-    alloc: Global,
-    desk: Desk<C>,
-    corpus: Arc<Corpus>,
-) -> Result<Desk<C>, AllocError>
-    ensures corpus { IfOk result (λ s. s.corpus ≡ arc_value corpus) }
-    ensures kept { desk.corpus ≡ arc_value corpus → IfOk result (λ s. s ≡ desk) }
-    ensures opened { (desk.corpus ≡ arc_value corpus → ⊥) → IfOk result (λ s. Starts s.corpus.articles s.rows × (s.turns ≡ [])) }
-{
-    if desk.corpus().is_same(&corpus) {
-        Ok(desk)
-    } else {
-        Desk::open(alloc, corpus)
-    }
-}
-
 /// A desk over the corpus with every row settled, by this many workers, 1 to 16. The rows are the verdicts of
 /// the articles, whatever the workers do and in whatever order they come to the lock.
 ///
@@ -150,9 +137,8 @@ pub fn run_all<C: Checker, G: Gate, R: Threads + Wait + Sync>(
     ensures verdicts { IfOk result (λ s. AreVerdicts C.is_outcome (arc_value corpus).articles s.rows) }
     ensures sound { IfOk result (λ s. Sound (library_of s.rows)) }
 {
-    let desk = Desk::open(alloc, Arc::try_clone(&corpus)?)?;
-    let desk = run_workers(rt, alloc, desk, checker, gate, workers);
-    let mut desk = over(alloc, desk, corpus)?;
+    let desk = Desk::open(alloc, corpus)?;
+    let mut desk = run_workers::<C, Brand, G, R>(rt, alloc, desk, checker, gate, workers);
     desk.reclaim();
     finish(rt, alloc, desk, checker)
 }

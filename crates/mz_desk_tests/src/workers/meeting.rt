@@ -1,5 +1,5 @@
 //! How many articles are checked at once.
-use crate::desk::corpora::corpus;
+use crate::desk::corpora::corpus_of;
 use crate::desk::plain::Plain;
 use crate::workers::events::Event;
 use mz_axioms::checker::{Checker, Semantics};
@@ -8,6 +8,7 @@ use mz_base::name::Name;
 use mz_base::vocabularies::Vocabularies;
 use mz_core::outcome::Outcome;
 use mz_io::gate::OpenGate;
+use mz_turns::turn::Turn;
 use mz_workers::run_all::run_all;
 use std::alloc::{AllocError, Global};
 use std::sync::Wait;
@@ -62,20 +63,20 @@ impl Checker for Meeting {
     }
 }
 
-/// Nine articles that rest on none, by name, direct dependencies and text.
-const NINE: [(&str, &str, &str); 9] = [
-    ("AA", "", "a"),
-    ("AB", "", "a"),
-    ("AC", "", "a"),
-    ("AD", "", "a"),
-    ("AE", "", "a"),
-    ("AF", "", "a"),
-    ("AG", "", "a"),
-    ("AH", "", "a"),
-    ("AI", "", "a"),
-];
+/// Nine articles that rest on none.
+const NINE: &str = "AA::a AB::a AC::a AD::a AE::a AF::a AG::a AH::a AI::a";
 
-/// As many workers as were asked for check at once, and no more.
+/// How many of the first turns, one for each worker, are claims by this one.
+fn claims_by(turns: &[Turn], workers: u32, worker: u32) -> usize {
+    turns
+        .iter()
+        .take(workers as usize)
+        .filter(|turn| matches!(turn, Turn::Take(_, by) if *by == worker))
+        .count()
+}
+
+/// As many workers as were asked for check at once, and no more; each has a number of its own, from 0 on. Since none
+/// publishes before all have claimed, the first turns are their claims.
 #[test]
 fn as_many_are_checked_at_once_as_there_are_workers(rt: HostRuntime) {
     let alloc: Global = rt.alloc();
@@ -86,10 +87,13 @@ fn as_many_are_checked_at_once_as_there_are_workers(rt: HostRuntime) {
             inside: AtomicU64::new(0),
             passed: AtomicU64::new(0),
         };
-        let corpus = corpus(alloc, &NINE).expect(&rt, "a corpus");
+        let corpus = corpus_of(&rt, alloc, NINE);
         let desk = run_all(&rt, alloc, corpus, &checker, &OpenGate, workers).expect(&rt, "memory");
         assert!(&rt; desk.verdicts().is_ok());
         assert!(&rt; checker.met.was_in_time());
         assert!(&rt; checker.passed.load(Ordering::SeqCst) == 0);
+        for worker in 0..workers {
+            assert!(&rt; claims_by(desk.turns(), workers, worker) == 1);
+        }
     }
 }

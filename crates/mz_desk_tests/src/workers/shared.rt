@@ -1,18 +1,19 @@
 //! What the tests of workers share.
-ghost use Rattle.std.specs.Prelude.{◌<◌, ◌^◌};
+ghost use Rattle.std.specs.Prelude.{◌≡◌, ◌<◌, ◌^◌};
 
 use crate::desk::corpora::{diamond, name_of};
 use crate::desk::letters::letter;
 use crate::workers::scripted::Scripted;
 use mz_axioms::checker::Semantics;
 use mz_axioms::exports::Exports;
-use mz_base::name::Name;
 use mz_compare::items::export_equal;
 use mz_core::verdict::{Entry, Verdicts};
 use mz_desk::desk::Desk;
 use mz_io::gate::Gate;
+use mz_workers::board::{Board, SharedCorpus};
 use mz_workers::work::work;
 use std::alloc::{AllocError, Global};
+use std::marker::Brand;
 use std::process::Abort;
 use std::sync::{Condvar, Mutex, Wait};
 use std::thread;
@@ -24,11 +25,6 @@ const ARTICLES: [&str; 4] = ["DD", "DB", "DC", "DA"];
 /// The library where all of them are accepted, in the order of names.
 pub const LIBRARY: [&str; 7] = ["DA", "DB", "DC", "DD", "HIDDEN", "TARSKI_0", "TARSKI_A"];
 
-/// The name that the word spells.
-pub fn name<R: Abort>(rt: &R, word: &str) -> Name {
-    name_of(word).expect(rt, "a name")
-}
-
 /// Whether the desk has these verdicts of the four articles, by their letters.
 pub fn has_verdicts<C: Semantics, R: Abort>(rt: &R, desk: &Desk<C>, letters: &str) -> bool {
     let Ok(verdicts) = desk.verdicts() else {
@@ -39,7 +35,7 @@ pub fn has_verdicts<C: Semantics, R: Abort>(rt: &R, desk: &Desk<C>, letters: &st
     }
     let wanted = ARTICLES.iter().zip(letters.as_bytes());
     for (entry, (word, wanted)) in verdicts.items.iter().zip(wanted) {
-        if entry.name != name(rt, word) || letter(entry) != *wanted {
+        if entry.name != name_of(rt, word) || letter(entry) != *wanted {
             return false;
         }
     }
@@ -52,7 +48,7 @@ pub fn has_library<C: Semantics, R: Abort>(rt: &R, desk: &Desk<C>, names: &[&str
         return false;
     }
     for (export, word) in desk.library().as_slice().iter().zip(names) {
-        if export.name != name(rt, word) {
+        if export.name != name_of(rt, word) {
             return false;
         }
     }
@@ -115,9 +111,22 @@ pub fn by_two<G: Gate, R: Abort + Threads + Wait + Sync>(
     checker: &Scripted,
     gate: &G,
 ) -> (Desk<Scripted>, usize) {
-    let corpus = diamond(alloc, "b").expect(rt, "a corpus");
+    let corpus = diamond(rt, alloc, "b");
     let desk: Desk<Scripted> = Desk::open(alloc, corpus).expect(rt, "memory");
-    let desk = Mutex::new(desk);
+    two_over::<Brand, G, R>(rt, alloc, desk, checker, gate)
+}
+
+/// The desk after two workers on two threads, and how many of them stopped.
+fn two_over<K: SharedCorpus + Send, G: Gate, R: Abort + Threads + Wait + Sync>(
+    rt: &R,
+    alloc: Global,
+    desk: Desk<Scripted>,
+    checker: &Scripted,
+    gate: &G,
+) -> (Desk<Scripted>, usize)
+    requires { desk.corpus ≡ K.corpus }
+{
+    let board: Mutex<Board<Scripted, K>> = Mutex::new(Board::new(desk));
     let bell = Condvar::new();
     let ended = thread::map_indices(
         rt,
@@ -125,26 +134,42 @@ pub fn by_two<G: Gate, R: Abort + Threads + Wait + Sync>(
         2,
         &|i: usize| -> Result<(), AllocError>
             requires { i < 2 ^ 32 }
-        { one_of_two(rt, alloc, &desk, &bell, checker, gate, i as u32) },
+        { one_of_two(rt, alloc, &board, &bell, checker, gate, i as u32) },
     );
     let ended = ended.expect(rt, "memory");
     let stopped = ended.iter().filter(|e| e.is_err()).count();
-    (desk.into_inner(), stopped)
+    (board.into_inner().into_desk(), stopped)
 }
 
 /// A worker, which begins the event where it stops.
-fn one_of_two<G: Gate, R: Threads + Wait + Sync>(
+fn one_of_two<K: SharedCorpus, G: Gate, R: Threads + Wait + Sync>(
     rt: &R,
     alloc: Global,
-    desk: &Mutex<Desk<Scripted>>,
+    board: &Mutex<Board<Scripted, K>>,
     bell: &Condvar,
     checker: &Scripted,
     gate: &G,
     worker: u32,
 ) -> Result<(), AllocError> {
-    let ended = work(rt, alloc, desk, bell, checker, gate, worker);
+    let ended = work(rt, alloc, board, bell, checker, gate, worker);
     if ended.is_err() {
         checker.event.happen();
     }
     ended
+}
+
+/// The desk after one worker, and whether it stopped.
+pub fn one_over<K: SharedCorpus, G: Gate, R: Threads + Wait + Sync>(
+    rt: &R,
+    alloc: Global,
+    desk: Desk<Scripted>,
+    checker: &Scripted,
+    gate: &G,
+) -> (Desk<Scripted>, bool)
+    requires { desk.corpus ≡ K.corpus }
+{
+    let board: Mutex<Board<Scripted, K>> = Mutex::new(Board::new(desk));
+    let bell = Condvar::new();
+    let ended = work(rt, alloc, &board, &bell, checker, gate, 0);
+    (board.into_inner().into_desk(), ended.is_err())
 }

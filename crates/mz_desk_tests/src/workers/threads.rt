@@ -1,13 +1,11 @@
 //! Workers on several threads. What one article's check waits for, another worker has to bring about.
 ghost use Rattle.std.specs.Prelude.{◌≤◌};
 
-use crate::desk::corpora::diamond;
+use crate::desk::corpora::{diamond, name_of};
 use crate::desk::plain::Plain;
 use crate::workers::events::Hold;
 use crate::workers::scripted::Scripted;
-use crate::workers::shared::{
-    LIBRARY, by_two, has_library, has_verdicts, is_accepted, is_same, name,
-};
+use crate::workers::shared::{LIBRARY, by_two, has_library, has_verdicts, is_accepted, is_same};
 use mz_desk::desk::Desk;
 use mz_io::gate::OpenGate;
 use mz_workers::run_all::run_all;
@@ -25,7 +23,7 @@ fn desk_by<R: Abort + Threads + Wait + Sync>(
 ) -> Desk<Plain>
     requires { (1 ≤ workers) × (workers ≤ 16) }
 {
-    let corpus = diamond(alloc, text_of_db).expect(rt, "a corpus");
+    let corpus = diamond(rt, alloc, text_of_db);
     run_all(rt, alloc, corpus, &Plain, &OpenGate, workers).expect(rt, "memory")
 }
 
@@ -56,7 +54,7 @@ fn one_worker_and_many(rt: HostRuntime) {
 fn a_gate_holds_one_until_another_has_entered(rt: HostRuntime) {
     let alloc: Global = rt.alloc();
     let gate = Hold::new();
-    let corpus = diamond(alloc, "b").expect(&rt, "a corpus");
+    let corpus = diamond(&rt, alloc, "b");
     let desk = run_all(&rt, alloc, corpus, &Plain, &gate, 4).expect(&rt, "memory");
     assert!(&rt; gate.entered.was_in_time());
     assert!(&rt; is_accepted(&rt, &desk));
@@ -77,8 +75,8 @@ fn a_gate_over_a_bare_desk(rt: HostRuntime) {
 #[test]
 fn a_check_waits_for_another(rt: HostRuntime) {
     let alloc: Global = rt.alloc();
-    let checker = Scripted::waiting(name(&rt, "DB"), name(&rt, "DC"));
-    let corpus = diamond(alloc, "b").expect(&rt, "a corpus");
+    let checker = Scripted::waiting(name_of(&rt, "DB"), name_of(&rt, "DC"));
+    let corpus = diamond(&rt, alloc, "b");
     let desk = run_all(&rt, alloc, corpus, &checker, &OpenGate, 2).expect(&rt, "memory");
     assert!(&rt; checker.event.was_in_time());
     assert!(&rt; is_accepted(&rt, &desk));
@@ -88,7 +86,7 @@ fn a_check_waits_for_another(rt: HostRuntime) {
 #[test]
 fn a_check_waits_for_another_over_a_bare_desk(rt: HostRuntime) {
     let alloc: Global = rt.alloc();
-    let checker = Scripted::waiting(name(&rt, "DB"), name(&rt, "DC"));
+    let checker = Scripted::waiting(name_of(&rt, "DB"), name_of(&rt, "DC"));
     let (desk, stopped) = by_two(&rt, alloc, &checker, &OpenGate);
     assert!(&rt; stopped == 0);
     assert!(&rt; checker.event.was_in_time());

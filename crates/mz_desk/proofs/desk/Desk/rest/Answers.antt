@@ -4,8 +4,8 @@ use Rattle.mz_desk.specs.Desk.{NoneIsReady, AllAreSettled}
 use Rattle.mz_desk.proofs.DeskLemmas.{all_finished}
 use Rattle.mz_desk.proofs.desk.Desk.rest.Goals as goal
 
-pub returns-in-None : goal.returns-in-None
-returns-in-None g c = λ w.
+pub returns-in-None-clause-answers : goal.returns-in-None-clause-answers
+returns-in-None-clause-answers g c = λ w.
     let t = c.self.inside.table in
     let law = subst IsCorpus (c.deref.ensures ∙ c.corpus.ensures) c.law.ensures in
     let none = subst NoneIsReady (sym c.self.view_is) c.requires in (

@@ -5,6 +5,8 @@ use Rattle.mz_turns.specs.declared.turn.Turn.TheVariants.{Take}
 use Rattle.mz_rows.specs.Table.{is_ready}
 use Rattle.mz_rows.proofs.ReadyLemmas.{ready_is}
 use Rattle.mz_desk.proofs.DeskLemmas.{good, taken_turn, sum_by-taken_count, ready_text}
+use Rattle.mz_desk.specs.Own.{HasOwnInput}
+use Rattle.mz_desk.proofs.OwnLemmas.{own_given}
 use Rattle.mz_desk.proofs.desk.Desk.take.Goals as goal
 
 pub job_of-requires-clause-within : goal.job_of-requires-clause-within
@@ -43,3 +45,11 @@ invariant_of-self-2 g c =
           (taken_turn g.C.Semantics.is_outcome t.corpus.articles c.self.inside.turns.items c.push_reserved.new.self.items t.rows c.claim.new.self.rows c.args.row c.args.worker c.self.invariant.0 ready e c.claim.ensures.rows),
       omega (arith, n, c.claims-claims.ensures.count, c.push_reserved.ensures.len, c.push_reserved.ensures.capacity, c.reserve.ensures.len, c.in_ok-reserve.ensures),
     )
+
+pub returns-clause-own : goal.returns-clause-own
+returns-clause-own g c =
+    let t = c.self.inside.table in
+    let law = subst IsCorpus (c.deref.ensures ∙ c.corpus.ensures) c.law.ensures in
+    let ready = subst (λ s. is_ready s.corpus.articles s.rows c.args.row ≡ true) (sym c.self.view_is) c.requires.ready in
+    subst (λ s. HasOwnInput g.C.Semantics.is_outcome s.corpus.articles c.in_ok-job.job) c.self.view_is
+    (own_given g.C.Semantics.is_outcome g.C.Semantics.answers_name t.corpus law c.self.inside.turns.items t.rows c.self.invariant.0 c.args.row c.args.worker c.in_ok-job.job ready c.in_ok-job.ensures)
