@@ -7,3 +7,6 @@ mod defined;
 mod definitions;
 mod faults;
 mod others;
+mod registered;
+mod registrations;
+mod schemes;

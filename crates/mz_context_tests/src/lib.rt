@@ -1,4 +1,4 @@
-//! Contexts, names, what fits, types, theses, steps, references and sizes, worked out by hand.
+//! Contexts, names, what fits, theses, steps, references and sizes, worked out by hand.
 #![tactic(auto)]
 
 #[cfg(test)]
@@ -17,5 +17,3 @@ mod standings;
 mod steps;
 #[cfg(test)]
 mod theses;
-#[cfg(test)]
-mod types;

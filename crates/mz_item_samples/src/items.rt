@@ -9,11 +9,8 @@ use mz_core::item::Item;
 use mz_core::notation::{Meaning, Notation};
 use mz_core::notations::Notations;
 use mz_core::pattern::Pattern;
-use mz_core::redefinition::{FunctorRedefinition, ModeRedefinition};
-use mz_core::registration::{
-    ConditionalRegistration, ExistentialRegistration, FunctorialRegistration,
-};
-use mz_core::soft_type::SoftType;
+use mz_core::redefinition::FunctorRedefinition;
+use mz_core::registration::ExistentialRegistration;
 use mz_core::soft_types::SoftTypes;
 use mz_core::structure::{Field, Fields, Structure};
 use mz_logic::kind::Kind;
@@ -59,8 +56,6 @@ pub enum ItemRow {
     Attribute(&'static str, PatternRow, &'static str),
     Mode(&'static str, PatternRow, TypeRow, &'static str),
     Functor(&'static str, PatternRow, TypeRow, &'static str),
-    /// A mode whose pattern reads to the first type, with the type of its definition and a new one.
-    ModeAgain(TypeRow, PatternRow, TypeRow, TypeRow),
     /// A functor whose pattern reads to the term, with the type of its definition and a new one.
     FunctorAgain(&'static str, PatternRow, TypeRow, TypeRow),
     Notation(NotationRow),
@@ -68,10 +63,6 @@ pub enum ItemRow {
     Primitive(NotationRow),
     /// Some object of the type has the adjectives, on these loci.
     Existential(&'static [TypeRow], &'static str, TypeRow),
-    /// Each object of the type that has the first adjectives has the others.
-    Conditional(&'static [TypeRow], &'static str, &'static str, TypeRow),
-    /// The term has the adjectives.
-    Functorial(&'static [TypeRow], &'static str, &'static str),
     /// A structure without loci: its symbols, its ancestors, its fields and its notations.
     Structure(SymbolsRow, &'static [TypeRow], &'static [FieldRow], &'static [NotationRow]),
 }
@@ -205,27 +196,6 @@ fn functor(
     Ok(Item::FunctorMeans(means(alloc, Kind::Functor, s, p, t, text)?))
 }
 
-/// A mode whose pattern reads to the first type, with the type of its definition and a new one.
-pub fn mode_again(
-    alloc: Global,
-    read: TypeRow,
-    p: PatternRow,
-    old: TypeRow,
-    new: SoftType,
-) -> Result<Item, SampleFault> {
-    let new = Box::new(alloc, new)?;
-    let pattern = Box::new(alloc, pattern(alloc, Kind::Mode, p)?)?;
-    let mode = Box::new(alloc, ty(alloc, read)?)?;
-    let old = ty(alloc, old)?;
-    Ok(Item::RedefinedMode(ModeRedefinition {
-        pattern: Box::into_inner(pattern),
-        mode: Box::into_inner(mode),
-        old,
-        ty: Some(Box::into_inner(new)),
-        meaning: None,
-    }))
-}
-
 fn functor_again(
     alloc: Global,
     read: &str,
@@ -254,32 +224,6 @@ fn existential(alloc: Global, loci: &[TypeRow], xs: &str, t: TypeRow) -> Result<
         loci,
         adjectives,
         ty,
-    }))
-}
-
-fn conditional(
-    alloc: Global,
-    loci: &[TypeRow],
-    from: &str,
-    to: &str,
-    t: TypeRow,
-) -> Result<Item, SampleFault> {
-    let loci = types(alloc, loci)?;
-    let from = adjectives(alloc, from)?;
-    let to = adjectives(alloc, to)?;
-    let ty = ty(alloc, t)?;
-    Ok(Item::Conditional(ConditionalRegistration { loci, from, to, ty }))
-}
-
-fn functorial(alloc: Global, loci: &[TypeRow], text: &str, xs: &str) -> Result<Item, SampleFault> {
-    let loci = types(alloc, loci)?;
-    let term = Box::new(alloc, term(alloc, text)?)?;
-    let adjectives = adjectives(alloc, xs)?;
-    Ok(Item::Functorial(FunctorialRegistration {
-        loci,
-        term: Box::into_inner(term),
-        adjectives,
-        ty: None,
     }))
 }
 
@@ -329,13 +273,10 @@ pub fn item(alloc: Global, row: ItemRow) -> Result<Item, SampleFault> {
         ItemRow::Attribute(s, p, text) => attribute(alloc, s, p, text),
         ItemRow::Mode(s, p, t, text) => mode(alloc, s, p, t, text),
         ItemRow::Functor(s, p, t, text) => functor(alloc, s, p, t, text),
-        ItemRow::ModeAgain(read, p, old, new) => mode_again(alloc, read, p, old, ty(alloc, new)?),
         ItemRow::FunctorAgain(read, p, old, new) => functor_again(alloc, read, p, old, new),
         ItemRow::Notation(n) => Ok(Item::Notation(notation(alloc, n)?)),
         ItemRow::Primitive(n) => Ok(Item::Primitive(notation(alloc, n)?)),
         ItemRow::Existential(loci, xs, t) => existential(alloc, loci, xs, t),
-        ItemRow::Conditional(loci, from, to, t) => conditional(alloc, loci, from, to, t),
-        ItemRow::Functorial(loci, text, xs) => functorial(alloc, loci, text, xs),
         ItemRow::Structure(s, ancestors, fs, ns) => structure(alloc, s, ancestors, fs, ns),
     }
 }

@@ -1,7 +1,32 @@
 //! Articles of theorems and statements.
 use crate::articles::checking::{Row, check_all};
 
-const ARTICLES: [Row; 39] = [
+const ARTICLES: [Row; 45] = [
+    // private functors and predicates are no items
+    ("environ begin deffunc F(object) = $1;", "accepted 0"),
+    (
+        "environ begin defpred P[object] means $1 = $1;",
+        "accepted 0",
+    ),
+    // a theorem may use them, where their bodies have no constant of the article's own level
+    (
+        "environ begin deffunc F(object) = $1; defpred P[object] means F($1) = $1; theorem for x being object holds P[x];",
+        "accepted 1",
+    ),
+    (
+        "environ begin consider c being object such that c = c; deffunc F(object) = c; theorem for x being object holds x = F(x);",
+        "1:116 33",
+    ),
+    // behind the number of its arguments
+    (
+        "environ begin consider c being object such that c = c; deffunc F(object) = c; theorem for x being object holds x = F(x,x);",
+        "1:116 32",
+    ),
+    // the scheme of TARSKI_0: what equals an element of A is one
+    (
+        "environ schemes TARSKI_0; begin\ntheorem for A being set ex X being set st for x being object holds x in X iff ex y being object st y in A & y = x\nproof let A be set;\nB: for x,y,z being object st x = y & x = z holds y = z;\nthus thesis from TARSKI_0:sch 1(B);\nend;",
+        "accepted 1",
+    ),
     // a theorem of equal sides
     (
         "environ begin theorem for x being object holds x = x;",

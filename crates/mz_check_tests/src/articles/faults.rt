@@ -1,7 +1,7 @@
 //! Which fault of an article is told.
 use crate::articles::checking::{Row, check_all};
 
-const FAULTS: [Row; 17] = [
+const FAULTS: [Row; 18] = [
     // the environment part comes first
     ("environ vocabularies V begin .", "1:24 14"),
     // then the vocabularies
@@ -32,22 +32,34 @@ const FAULTS: [Row; 17] = [
     ),
     // the forms of items that aren't built
     ("environ begin notation end;", "1:15 10"),
-    // registrations
-    ("environ begin registration end;", "1:15 10"),
-    // schemes
-    (
-        "environ begin scheme S { P[object] } : for x being object holds P[x] implies P[x] proof thus thesis; end;",
-        "1:15 10",
-    ),
-    // `from`
+    // a scheme that isn't there
     (
         "environ begin theorem for x being object holds x = x from S;",
-        "1:54 10",
+        "1:59 43",
     ),
-    // private functors
-    ("environ begin deffunc F(object) = $1;", "1:15 10"),
-    // private predicates
-    ("environ begin defpred P[object] means $1 = $1;", "1:15 10"),
+    // the scheme of TARSKI_0 where it isn't let in
+    (
+        "environ begin theorem for x being object holds x = x from TARSKI_0:sch 1;",
+        "1:59 43",
+    ),
+    // and where it is, with no premise, beside another statement, and with another premise
+    (
+        "environ schemes TARSKI_0; begin\ntheorem for x being object holds x = x from TARSKI_0:sch 1;",
+        "2:40 67 1",
+    ),
+    (
+        "environ schemes TARSKI_0; begin\nB: for x being object holds x = x;\ntheorem for x being object holds x = x from TARSKI_0:sch 1(B);",
+        "3:40 66",
+    ),
+    (
+        "environ schemes TARSKI_0; begin\nB: for x being object holds x = x;\ntheorem for A being set ex X being set st for x being object holds x in X iff ex y being object st y in A & y = x\nproof let A be set;\nthus thesis from TARSKI_0:sch 1(B);\nend;",
+        "5:13 68 1",
+    ),
+    // a private functor without its number of arguments
+    (
+        "environ begin deffunc F(object) = $1; F(F()) = F();",
+        "1:41 32",
+    ),
     // a formula of 131,059 nodes, and its quantifier
     (
         "environ begin theorem for x being object holds x = x iff (x = x iff (x = x iff (x = x iff (x = x iff (x = x iff (x = x iff (x = x iff (x = x iff (x = x iff (x = x iff (x = x iff (x = x iff x = x))))))))))));",

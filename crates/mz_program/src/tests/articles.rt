@@ -260,16 +260,16 @@ const ITEM_FAULTS: [(&[u8], &str); 26] = [
         "1:47 16 ends early",
     ),
     (
-        b"environ begin notation let X,Y be set; synonym X = Y for X in Y; end;",
-        "1:15 10 not built",
+        b"environ begin definition let X,Y be set; redefine pred X = Y means X in Y; end;",
+        "1:42 10 not built",
     ),
     (
-        b"environ begin\ntheorem for x,y being object holds x = y;\nscheme S { P[object] } : for x being object holds P[x];",
-        "3:1 10 not built",
+        b"environ begin\ntheorem for x,y being object holds x = y;\nscheme S { P[object] } : for x being object holds Q[x];",
+        "3:51 33 unknown variable",
     ),
     (
         b"environ begin theorem for x being object holds x = x from S(A);",
-        "1:54 10 not built",
+        "1:59 43 unknown label",
     ),
     (b"environ begin theorem contradiction;", "1:36 61 open 1"),
     (

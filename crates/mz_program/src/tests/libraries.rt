@@ -14,7 +14,7 @@ use std::process::Abort;
 use std::sync::Wait;
 use std::thread::Threads;
 
-const FIRST: &str = "environ begin theorem for x being object holds x = x;";
+pub const FIRST: &str = "environ begin theorem for x being object holds x = x;";
 
 const ACCEPTED: &str =
     "A accepted 1 theorems, 0 definitions, 0 registrations, 0 schemes\ntotal 1 accepted, 0 rejected, 0 blocked, 0 cyclic, 0 missing\n";
@@ -43,7 +43,7 @@ const OPEN: &[(&str, &str)] = &[
 ];
 
 /// DD over DB and DC, which are over DA.
-const DIAMOND: &[(&str, &str)] = &[
+pub const DIAMOND: &[(&str, &str)] = &[
     ("da", FIRST),
     (
         "db",
@@ -73,64 +73,142 @@ pub fn diamond(words: &'static [&'static str]) -> Row {
     ample_row(words, DIAMOND, DIAMOND_REPORT, Status::Accepted)
 }
 
-fn rows() -> [Row; 17] {
-    let circle =
-        "D accepted 0 theorems, 0 definitions, 0 registrations, 0 schemes\nA cyclic\nB cyclic\nC blocked by A\ntotal 1 accepted, 0 rejected, 1 blocked, 2 cyclic, 0 missing\n";
-    let open =
-        "A14 rejected 2 faults\n  2:41 61 open 1\n  3:42 61 open 1\nB14 blocked by A14\ntotal 0 accepted, 1 rejected, 1 blocked, 0 cyclic, 0 missing\n";
-    let lonely =
-        "X missing\nA blocked by X\ntotal 0 accepted, 0 rejected, 1 blocked, 0 cyclic, 1 missing\n";
-    let missing = "NOFILE missing\ntotal 0 accepted, 0 rejected, 0 blocked, 0 cyclic, 1 missing\n";
-    let open_step =
-        "A rejected 1 faults\n  1:55 61 open 1\ntotal 0 accepted, 1 rejected, 0 blocked, 0 cyclic, 0 missing\n";
-    let empty =
-        "A accepted 0 theorems, 0 definitions, 0 registrations, 0 schemes\ntotal 1 accepted, 0 rejected, 0 blocked, 0 cyclic, 0 missing\n";
-    [
-        ample_row(&["A"], ONE, ACCEPTED, Status::Accepted),
-        ample_row(&["a"], ONE, ACCEPTED, Status::Accepted),
-        ample_row(&["A", "A"], ONE, ACCEPTED, Status::Accepted),
-        ample_row(&["--", "A"], ONE, ACCEPTED, Status::Accepted),
-        ample_row(&["--list", "A"], ONE, LISTED, Status::Accepted),
-        ample_row(&["A", "B", "C", "D"], CIRCLE, circle, Status::Rejected),
-        ample_row(&["B14"], OPEN, open, Status::Rejected),
-        ample_row(&["--list", "B14"], OPEN, open, Status::Rejected),
-        ample_row(&["A"], LONELY, lonely, Status::Rejected),
-        ample_row(&["NOFILE"], ONE, missing, Status::Rejected),
-        diamond(&["DD"]),
-        diamond(&["--workers", "4", "DD"]),
-        diamond(&["DD", "--workers=16", "DA", "DB"]),
-        ample_row(
-            &["--workers", "2", "DD", "--list"],
-            DIAMOND,
-            DIAMOND_LISTED,
-            Status::Accepted,
-        ),
-        ample_row(
-            &["A"],
-            &[(
-                "a",
-                "environ begin theorem for x,y being object holds x = y;",
-            )],
-            open_step,
-            Status::Rejected,
-        ),
-        ample_row(&["A"], &[("a", "environ begin")], empty, Status::Accepted),
-        Row {
-            vocabularies: &[("v", "Rc=")],
-            ..ample_row(
-                &["A"],
-                &[("a", "environ vocabularies V; begin")],
-                empty,
-                Status::Accepted,
-            )
-        },
-    ]
-}
+const CIRCLE_REPORT: &str =
+    "D accepted 0 theorems, 0 definitions, 0 registrations, 0 schemes\nA cyclic\nB cyclic\nC blocked by A\ntotal 1 accepted, 0 rejected, 1 blocked, 2 cyclic, 0 missing\n";
+
+const OPEN_REPORT: &str =
+    "A14 rejected 2 faults\n  2:41 61 open 1\n  3:42 61 open 1\nB14 blocked by A14\ntotal 0 accepted, 1 rejected, 1 blocked, 0 cyclic, 0 missing\n";
+
+const LONELY_REPORT: &str =
+    "X missing\nA blocked by X\ntotal 0 accepted, 0 rejected, 1 blocked, 0 cyclic, 1 missing\n";
+
+const NO_FILE_REPORT: &str =
+    "NOFILE missing\ntotal 0 accepted, 0 rejected, 0 blocked, 0 cyclic, 1 missing\n";
+
+const STEP_REPORT: &str =
+    "A rejected 1 faults\n  1:55 61 open 1\ntotal 0 accepted, 1 rejected, 0 blocked, 0 cyclic, 0 missing\n";
+
+const EMPTY_REPORT: &str =
+    "A accepted 0 theorems, 0 definitions, 0 registrations, 0 schemes\ntotal 1 accepted, 0 rejected, 0 blocked, 0 cyclic, 0 missing\n";
+
+/// One open step.
+const STEP: &[(&str, &str)] = &[(
+    "a",
+    "environ begin theorem for x,y being object holds x = y;",
+)];
+
+/// No item.
+const EMPTY: &[(&str, &str)] = &[("a", "environ begin")];
+
+/// The words of a run, its articles, what it writes, and how it ends.
+const RUNS: [(&[&str], &[(&str, &str)], &str, Status); 12] = [
+    (&["A"], ONE, ACCEPTED, Status::Accepted),
+    (&["a"], ONE, ACCEPTED, Status::Accepted),
+    (&["A", "A"], ONE, ACCEPTED, Status::Accepted),
+    (&["--", "A"], ONE, ACCEPTED, Status::Accepted),
+    (&["--list", "A"], ONE, LISTED, Status::Accepted),
+    (
+        &["A", "B", "C", "D"],
+        CIRCLE,
+        CIRCLE_REPORT,
+        Status::Rejected,
+    ),
+    (&["B14"], OPEN, OPEN_REPORT, Status::Rejected),
+    (&["--list", "B14"], OPEN, OPEN_REPORT, Status::Rejected),
+    (&["A"], LONELY, LONELY_REPORT, Status::Rejected),
+    (&["NOFILE"], ONE, NO_FILE_REPORT, Status::Rejected),
+    (&["A"], STEP, STEP_REPORT, Status::Rejected),
+    (&["A"], EMPTY, EMPTY_REPORT, Status::Accepted),
+];
 
 #[test]
 fn libraries_have_their_reports(rt: HostRuntime) {
-    for row in &rows() {
-        let _calls = check_row(&rt, rt.alloc(), row, &OpenGate);
+    for (words, articles, report, status) in RUNS {
+        let row = ample_row(words, articles, report, status);
+        let _calls = check_row(&rt, rt.alloc(), &row, &OpenGate);
+    }
+}
+
+/// By one worker and by many, for one name of the library and for several.
+#[test]
+fn each_order_has_the_report(rt: HostRuntime) {
+    let plain: [&[&str]; 3] = [
+        &["DD"],
+        &["--workers", "4", "DD"],
+        &["DD", "--workers=16", "DA", "DB"],
+    ];
+    for words in plain {
+        let _calls = check_row(&rt, rt.alloc(), &diamond(words), &OpenGate);
+    }
+    let words = &["--workers", "2", "DD", "--list"];
+    let row = ample_row(words, DIAMOND, DIAMOND_LISTED, Status::Accepted);
+    let _calls = check_row(&rt, rt.alloc(), &row, &OpenGate);
+}
+
+/// A vocabulary that the article names.
+const VOCABULARIES: &[(&str, &str)] = &[("v", "Rc=")];
+
+/// The article that names it.
+const NAMING: &[(&str, &str)] = &[("a", "environ vocabularies V; begin")];
+
+#[test]
+fn a_vocabulary_is_fetched(rt: HostRuntime) {
+    let row = Row {
+        vocabularies: VOCABULARIES,
+        ..ample_row(&["A"], NAMING, EMPTY_REPORT, Status::Accepted)
+    };
+    assert!(&rt; check_row(&rt, rt.alloc(), &row, &OpenGate) == 2);
+}
+
+/// Two predicates with one symbol, and articles that use them.
+const NOTATIONS: &[(&str, &str)] = &[
+    (
+        "p8",
+        "environ vocabularies V8; begin definition let x,y be object; pred x ## y means x = y; end;",
+    ),
+    (
+        "q8",
+        "environ vocabularies V8; begin definition let x,y be object; pred x ## y means not x = y; end;",
+    ),
+    (
+        "r8",
+        "environ vocabularies V8; notations P8, Q8; constructors P8, Q8; theorems Q8; begin theorem for x being object holds not x ## x by Q8:def 1;",
+    ),
+    (
+        "s8",
+        "environ vocabularies V8; notations Q8, P8; constructors P8, Q8; theorems Q8; begin theorem for x being object holds not x ## x by Q8:def 1;",
+    ),
+    ("m8", "environ vocabularies V8; notations P8; begin"),
+];
+
+/// The words of a run over them, what it writes, and how it ends.
+const NOTATION_RUNS: [(&[&str], &str, Status); 3] = [
+    (
+        &["R8"],
+        "P8 accepted 0 theorems, 1 definitions, 0 registrations, 0 schemes\nQ8 accepted 0 theorems, 1 definitions, 0 registrations, 0 schemes\nR8 accepted 1 theorems, 0 definitions, 0 registrations, 0 schemes\ntotal 3 accepted, 0 rejected, 0 blocked, 0 cyclic, 0 missing\n",
+        Status::Accepted,
+    ),
+    (
+        &["S8"],
+        "P8 accepted 0 theorems, 1 definitions, 0 registrations, 0 schemes\nQ8 accepted 0 theorems, 1 definitions, 0 registrations, 0 schemes\nS8 rejected 1 faults\n  1:128 61 open 1\ntotal 2 accepted, 1 rejected, 0 blocked, 0 cyclic, 0 missing\n",
+        Status::Rejected,
+    ),
+    (
+        &["M8"],
+        "P8 accepted 0 theorems, 1 definitions, 0 registrations, 0 schemes\nM8 rejected 1 faults\n  1:36 27 missing constructor 1\ntotal 1 accepted, 1 rejected, 0 blocked, 0 cyclic, 0 missing\n",
+        Status::Rejected,
+    ),
+];
+
+/// The latest notation is meant; a notation isn't let in without its constructor.
+#[test]
+fn the_latest_notation_is_meant(rt: HostRuntime) {
+    for (words, report, status) in NOTATION_RUNS {
+        let row = Row {
+            vocabularies: &[("v8", "R##")],
+            ..ample_row(words, NOTATIONS, report, status)
+        };
+        let _calls = check_row(&rt, rt.alloc(), &row, &OpenGate);
     }
 }
 
@@ -158,84 +236,48 @@ fn faulty_words_are_refused(rt: HostRuntime) {
     }
 }
 
-/// Calls of shelf and sink that fail: a run with such a call, and how many calls of the shelf there were.
-fn failing_rows() -> [(Row, u64); 8] {
-    let vocabulary = ample_row(
-        &["A"],
-        &[("a", "environ vocabularies V; begin")],
-        "",
-        Status::ReadFault,
-    );
-    let unread = ample_row(&["DD"], DIAMOND, "", Status::ReadFault);
-    let one = ample_row(&["A"], ONE, ACCEPTED, Status::Accepted);
-    let unwritten = ample_row(&["A"], ONE, "A accepted", Status::WriteFault);
-    let unlisted = ample_row(&["--list", "A"], ONE, ACCEPTED, Status::WriteFault);
-    [
-        (
-            Row {
-                failing_fetch: 3,
-                ..unread
-            },
-            3,
-        ),
-        (
-            Row {
-                failing_fetch: 1,
-                ..unread
-            },
-            1,
-        ),
-        (
-            Row {
-                failing_fetch: 2,
-                ..vocabulary
-            },
-            2,
-        ),
-        (
-            Row {
-                failing_fetch: 2,
-                ..one
-            },
-            1,
-        ),
-        (
-            Row {
-                failing_write: 2,
-                ..one
-            },
-            1,
-        ),
-        (
-            Row {
-                failing_write: 2,
-                step: 10,
-                ..unwritten
-            },
-            1,
-        ),
-        (
-            Row {
-                failing_write: 1,
-                report: "",
-                ..unwritten
-            },
-            1,
-        ),
-        (
-            Row {
-                failing_write: 2,
-                ..unlisted
-            },
-            1,
-        ),
-    ]
+/// Calls of the shelf that fail: the words and the articles of a run, which call fails, and how the run ends.
+const FAILING_FETCHES: [(&[&str], &[(&str, &str)], u64, Status); 3] = [
+    (&["DD"], DIAMOND, 3, Status::ReadFault),
+    (&["DD"], DIAMOND, 1, Status::ReadFault),
+    (&["A"], NAMING, 2, Status::ReadFault),
+];
+
+/// That call is the last. A call behind the last one isn't made.
+#[test]
+fn failed_fetches_end_the_run(rt: HostRuntime) {
+    for (words, articles, call, status) in FAILING_FETCHES {
+        let row = Row {
+            failing_fetch: call,
+            ..ample_row(words, articles, "", status)
+        };
+        assert!(&rt; check_row(&rt, rt.alloc(), &row, &OpenGate) == call);
+    }
+    let row = Row {
+        failing_fetch: 2,
+        ..ample_row(&["A"], ONE, ACCEPTED, Status::Accepted)
+    };
+    assert!(&rt; check_row(&rt, rt.alloc(), &row, &OpenGate) == 1);
 }
 
+/// Calls of the sink that fail: the words of a run, which call fails, how many bytes each takes, what was written, and how
+/// the run ends.
+const FAILING_WRITES: [(&[&str], u64, usize, &str, Status); 4] = [
+    (&["A"], 2, 1_048_576, ACCEPTED, Status::Accepted),
+    (&["A"], 2, 10, "A accepted", Status::WriteFault),
+    (&["A"], 1, 1_048_576, "", Status::WriteFault),
+    (&["--list", "A"], 2, 1_048_576, ACCEPTED, Status::WriteFault),
+];
+
 #[test]
-fn failed_calls_end_the_run(rt: HostRuntime) {
-    for (row, calls) in &failing_rows() {
-        assert!(&rt; check_row(&rt, rt.alloc(), row, &OpenGate) == *calls);
+fn failed_writes_end_the_run(rt: HostRuntime) {
+    for (words, call, step, report, status) in FAILING_WRITES {
+        let row = Row {
+            failing_write: call,
+            step,
+            ..ample_row(words, ONE, report, status)
+        };
+        assert!(&rt; check_row(&rt, rt.alloc(), &row, &OpenGate) == 1);
     }
 }
 

@@ -62,8 +62,8 @@ impl Event {
 
 /// A gate that holds DB, which is row 1, until DC, which is row 2, has entered.
 #[derive(Drop)]
-struct Hold {
-    entered: Event,
+pub struct Hold {
+    pub entered: Event,
 }
 
 impl Gate for Hold {
