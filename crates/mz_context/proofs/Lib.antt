@@ -1,2 +1,3 @@
+pub mod OccurringLemmas
 pub mod PlaceLemmas
 pub mod RoundLemmas

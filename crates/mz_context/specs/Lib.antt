@@ -2,3 +2,4 @@ pub mod Context
 pub mod Changes
 pub mod Gather
 pub mod Grown
+pub mod Occurring

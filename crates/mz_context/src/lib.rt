@@ -7,5 +7,6 @@ pub mod gather;
 pub mod labelled;
 pub mod labelled_schemes;
 pub mod letters;
+pub mod occurring;
 pub mod private;
 pub mod reserved;

@@ -1,3 +1,4 @@
 pub mod OpenedLemmas
 pub mod AddedLemmas
 pub mod AskedLemmas
+pub mod OccurringLemmas

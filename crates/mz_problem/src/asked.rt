@@ -7,6 +7,7 @@ ghost use Rattle.mz_core.specs.Parts.{parts};
 ghost use Rattle.mz_core.specs.Erasure.{erase};
 ghost use Rattle.mz_context.specs.Context.{numbers};
 ghost use Rattle.mz_context.specs.Gather.{below};
+ghost use Rattle.mz_context.specs.Occurring.{formula_constants};
 ghost use Rattle.mz_problem.specs.Opened.{guards_from};
 ghost use Rattle.mz_problem.specs.Asked.{occurs_in_some, known_in, formulas_of, parts_of, problem_of, AskedAt, Asks};
 
@@ -14,6 +15,7 @@ use crate::added::added;
 use crate::opened::{guards_from, is_universal, open};
 use mz_context::constants::Constants;
 use mz_context::gather::{known_of_all, reached};
+use mz_context::occurring::{in_order, push_formula};
 use mz_core::erasure::erase;
 use mz_core::parts::parts;
 use mz_core::soft_types::SoftTypes;
@@ -81,17 +83,23 @@ fn formulas_of(alloc: Global, given: &Statements, s: &Statement) -> Result<Formu
     Ok(out)
 }
 
+/// The constants below `count` that occur in the formulas, as often and in the order in which they stand.
+fn met_constants(alloc: Global, fs: &Formulas, count: u32) -> Result<Vec<u32>, AllocError>
+    ensures { IfOk result (λ ns. ns.items ≡ flat_map (formula_constants count) fs.now) }
+{
+    let mut out = Vec::new(alloc);
+    for f in &fs.items {
+        push_formula(f, count, &mut out)?;
+    }
+    Ok(out)
+}
+
 /// The numbers below `count` of constants that occur in the formulas.
 fn occurring(alloc: Global, fs: &Formulas, count: u32) -> Result<Vec<u32>, AllocError>
     ensures { IfOk result (λ cs. cs.items ≡ below (occurs_in_some fs.now) count) }
 {
-    let mut out = Vec::new(alloc);
-    for c in 0..count {
-        if fs.have_constant(c) {
-            out.push(c)?;
-        }
-    }
-    Ok(out)
+    let met = met_constants(alloc, fs, count)?;
+    Ok(in_order(met))
 }
 
 fn numbers(constants: &Constants) -> Result<u32, AllocError>
