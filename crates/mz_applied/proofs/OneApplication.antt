@@ -12,7 +12,7 @@ use Rattle.mz_context.specs.declared.context.Context.{Context}
 use Rattle.mz_context.specs.declared.private.PrivateFunctor.{PrivateFunctor}
 use Rattle.mz_context.specs.declared.private.PrivatePredicate.{PrivatePredicate}
 use Rattle.mz_environment.specs.declared.environment.Environment.{Environment}
-use Rattle.mz_types.specs.Known.{typing}
+use Rattle.mz_choice.specs.Resolution.{typing}
 use Rattle.mz_names.specs.Names.{private_functor, private_predicate, functor_letter, predicate_letter}
 use Rattle.mz_names.specs.declared.refusal.Refusal.{Refusal}
 use Rattle.mz_names.specs.declared.refusal.Refusal.TheVariants.{UnknownVariable, NoNotation, UnfitArgument}

@@ -1,6 +1,6 @@
 -- What the code of private functors, private predicates and letters tells.
 use Rattle.std.proofs.Common.{◌≡◌, ℕ, Bool, true, false, List, [], ◌∷◌, length, Option, Some, None, refl, sym, ap, ◌∙◌, subst, arith}
-use Rattle.std.specs.Prelude.{◌↔◌, IsTrue, nat_eq, Result, Err}
+use Rattle.std.specs.Prelude.{◌↔◌, IsTrue, nat_eq, if◌then◌else◌, Result, Ok, Err}
 use Rattle.std.proofs.lemmas.Bool.{eqb-true, false≢true}
 use Rattle.mz_base.specs.declared.place.Place.{Place}
 use Rattle.mz_logic.specs.Term.{Term}
@@ -17,10 +17,10 @@ use Rattle.mz_ground.specs.declared.clause.Clause.{Clause}
 use Rattle.mz_environment.specs.declared.environment.Environment.{Environment}
 use Rattle.mz_fits.specs.Fits.{TypeFits}
 use Rattle.mz_fits.proofs.FitLemmas.{empty, not_both}
-use Rattle.mz_types.specs.Known.{typing}
+use Rattle.mz_choice.specs.Resolution.{typing}
 use Rattle.mz_names.specs.Names.{private_functor, private_predicate, functor_letter, predicate_letter}
 use Rattle.mz_names.specs.declared.refusal.Refusal.{Refusal}
-use Rattle.mz_names.specs.declared.refusal.Refusal.TheVariants.{UnknownVariable, NoNotation, UnfitArgument}
+use Rattle.mz_names.specs.declared.refusal.Refusal.TheVariants.{UnknownVariable, NoNotation, UnfitArgument, TooLarge}
 use Rattle.mz_sizes.specs.Sizes.{term_keeps, statement_keeps}
 use Rattle.mz_applied.specs.Within.{within}
 use Rattle.mz_applied.specs.Private as pr
@@ -89,15 +89,38 @@ told_admits e c place usable places ts fit n i ef h = pr.admits (same_count _ _ 
 
 pub ruleset admits_rules = (told_other_number, told_unfit, told_not_usable, told_admits)
 
+-- a body at arguments, measured first
+kept : (X : Type 0) (keeps : X → Bool) (place : Place) (x y : X) (b : Bool) → b ≡ keeps y → b ≡ true → x ≡ y → Ok x ≡ within keeps place y
+kept X keeps place x y b eb h e = ap Ok e ∙ sym (ap (λ c. if c then Ok y else Err (TooLarge place)) (sym eb ∙ h))
+
+beyond : (X : Type 0) (keeps : X → Bool) (place : Place) (y : X) (b : Bool) → b ≡ keeps y → b ≡ false → Err (TooLarge place) ≡ within keeps place y
+beyond X keeps place y b eb h = sym (ap (λ c. if c then Ok y else Err (TooLarge place)) (sym eb ∙ h))
+
+pub told_kept_term : (place : Place) (t u : Term) (b : Bool) → b ≡ term_keeps u → b ≡ true → t ≡ u → Ok t ≡ within term_keeps place u
+told_kept_term place t u b eb h e = kept Term term_keeps place t u b eb h e
+
+pub told_large_term : (place : Place) (u : Term) (b : Bool) → b ≡ term_keeps u → b ≡ false → Err (TooLarge place) ≡ within term_keeps place u
+told_large_term place u b eb h = beyond Term term_keeps place u b eb h
+
+pub ruleset term_rules = (told_kept_term, told_large_term)
+
+pub told_kept_statement : (place : Place) (s t : Statement) (b : Bool) → b ≡ statement_keeps t → b ≡ true → s ≡ t → Ok s ≡ within statement_keeps place t
+told_kept_statement place s t b eb h e = kept Statement statement_keeps place s t b eb h e
+
+pub told_large_statement : (place : Place) (t : Statement) (b : Bool) → b ≡ statement_keeps t → b ≡ false → Err (TooLarge place) ≡ within statement_keeps place t
+told_large_statement place t b eb h = beyond Statement statement_keeps place t b eb h
+
+pub ruleset statement_rules = (told_kept_statement, told_large_statement)
+
 pub told_functor_refused : (e : Environment) (c : Context) (least : ℕ) (place : Place) (name : List ℕ) (ts : List Term) (f : PrivateFunctor) (usable : Bool) (q : Option Refusal) (r : Refusal) → private_functor c name ≡ Some f → usable ≡ is_functor_usable least f → Admits e c place usable f.places ts q → q ≡ Some r → AppliesFunctor e c least place name ts (Err r)
 told_functor_refused e c least place name ts f usable q r ef eu h eq =
     pr.functor_refused f r ef (subst (λ o. Admits e c place (is_functor_usable least f) f.places ts o) eq (subst (λ b. Admits e c place b f.places ts q) eu h))
 
-pub told_functor_expanded : (e : Environment) (c : Context) (least : ℕ) (place : Place) (name : List ℕ) (ts : List Term) (f : PrivateFunctor) (usable : Bool) (q : Option Refusal) (t : Term) (x : Result Term Refusal) → private_functor c name ≡ Some f → usable ≡ is_functor_usable least f → Admits e c place usable f.places ts q → q ≡ None → t ≡ substitute 0 (argument_at ts) f.body → x ≡ within term_keeps place t → AppliesFunctor e c least place name ts x
-told_functor_expanded e c least place name ts f usable q t x ef eu h eq et ex =
+pub told_functor_expanded : (e : Environment) (c : Context) (least : ℕ) (place : Place) (name : List ℕ) (ts : List Term) (f : PrivateFunctor) (usable : Bool) (q : Option Refusal) (x : Result Term Refusal) → private_functor c name ≡ Some f → usable ≡ is_functor_usable least f → Admits e c place usable f.places ts q → q ≡ None → x ≡ within term_keeps place (substitute 0 (argument_at ts) f.body) → AppliesFunctor e c least place name ts x
+told_functor_expanded e c least place name ts f usable q x ef eu h eq ex =
     let P : Result Term Refusal → Type 0 = λ y. AppliesFunctor e c least place name ts y in
     let done : P (within term_keeps place (substitute 0 (argument_at ts) f.body)) = pr.functor_expanded f ef (subst (λ o. Admits e c place (is_functor_usable least f) f.places ts o) eq (subst (λ b. Admits e c place b f.places ts q) eu h)) in
-    subst P (sym (ex ∙ ap (within term_keeps place) et)) done
+    subst P (sym ex) done
 
 pub told_functor_letter : (e : Environment) (c : Context) (least : ℕ) (place : Place) (name : List ℕ) (ts : List Term) (l : Option NamedLetter) (x : Result Term Refusal) → private_functor c name ≡ None → l ≡ functor_letter c name → x ≡ term_of_letter place ts l → AppliesFunctor e c least place name ts x
 told_functor_letter e c least place name ts l x ef el ex =
@@ -110,11 +133,11 @@ pub told_predicate_refused : (e : Environment) (c : Context) (least : ℕ) (plac
 told_predicate_refused e c least place name ts p usable q r ep eu h eq =
     pr.predicate_refused p r ep (subst (λ o. Admits e c place (is_predicate_usable least p) p.places ts o) eq (subst (λ b. Admits e c place b p.places ts q) eu h))
 
-pub told_predicate_expanded : (e : Environment) (c : Context) (least : ℕ) (place : Place) (name : List ℕ) (ts : List Term) (p : PrivatePredicate) (usable : Bool) (q : Option Refusal) (s : Statement) (x : Result Statement Refusal) → private_predicate c name ≡ Some p → usable ≡ is_predicate_usable least p → Admits e c place usable p.places ts q → q ≡ None → s ≡ substitute_statement 0 (argument_at ts) p.body → x ≡ within statement_keeps place s → AppliesPredicate e c least place name ts x
-told_predicate_expanded e c least place name ts p usable q s x ep eu h eq es ex =
+pub told_predicate_expanded : (e : Environment) (c : Context) (least : ℕ) (place : Place) (name : List ℕ) (ts : List Term) (p : PrivatePredicate) (usable : Bool) (q : Option Refusal) (x : Result Statement Refusal) → private_predicate c name ≡ Some p → usable ≡ is_predicate_usable least p → Admits e c place usable p.places ts q → q ≡ None → x ≡ within statement_keeps place (substitute_statement 0 (argument_at ts) p.body) → AppliesPredicate e c least place name ts x
+told_predicate_expanded e c least place name ts p usable q x ep eu h eq ex =
     let P : Result Statement Refusal → Type 0 = λ y. AppliesPredicate e c least place name ts y in
     let done : P (within statement_keeps place (substitute_statement 0 (argument_at ts) p.body)) = pr.predicate_expanded p ep (subst (λ o. Admits e c place (is_predicate_usable least p) p.places ts o) eq (subst (λ b. Admits e c place b p.places ts q) eu h)) in
-    subst P (sym (ex ∙ ap (within statement_keeps place) es)) done
+    subst P (sym ex) done
 
 pub told_predicate_letter : (e : Environment) (c : Context) (least : ℕ) (place : Place) (name : List ℕ) (ts : List Term) (l : Option NamedLetter) (x : Result Statement Refusal) → private_predicate c name ≡ None → l ≡ predicate_letter c name → x ≡ statement_of_letter place ts l → AppliesPredicate e c least place name ts x
 told_predicate_letter e c least place name ts l x ep el ex =

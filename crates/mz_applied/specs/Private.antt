@@ -14,7 +14,7 @@ use Rattle.mz_context.specs.declared.private.PrivatePredicate.{PrivatePredicate}
 use Rattle.mz_ground.specs.declared.clause.Clause.{Clause}
 use Rattle.mz_environment.specs.declared.environment.Environment.{Environment}
 use Rattle.mz_fits.specs.Fits.{TypeFits}
-use Rattle.mz_types.specs.Known.{typing}
+use Rattle.mz_choice.specs.Resolution.{typing}
 use Rattle.mz_names.specs.Names.{private_functor, private_predicate, functor_letter, predicate_letter, letter_sym, letter_places}
 use Rattle.mz_names.specs.Scope.{term_from, statement_from}
 use Rattle.mz_names.specs.declared.refusal.Refusal.{Refusal}

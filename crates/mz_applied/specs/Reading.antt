@@ -4,7 +4,7 @@ use Rattle.mz_base.specs.declared.place.Place.{Place}
 use Rattle.mz_core.specs.declared.notation.Meaning.{Meaning}
 use Rattle.mz_context.specs.declared.context.Context.{Context}
 use Rattle.mz_environment.specs.declared.environment.Environment.{Environment}
-use Rattle.mz_types.specs.Known.{typing}
+use Rattle.mz_choice.specs.Resolution.{typing}
 use Rattle.mz_names.specs.declared.refusal.Refusal.{Refusal}
 use Rattle.mz_choice.specs.declared.choice.Applied.{Applied}
 use Rattle.mz_choice.specs.declared.choice.Wanted.{Wanted}

@@ -1,12 +1,17 @@
 //! Private functors and predicates, and letters, applied to arguments.
 ghost use Rattle.std.specs.Prelude.{◌≡◌, ◌↔◌, IfOk, IsTrue, Some, None};
 ghost use Rattle.std.specs.Option.{option_copied};
-ghost use Rattle.mz_types.specs.Known.{typing};
+ghost use Rattle.mz_logic.specs.Substitution.{substitute, argument_at};
+ghost use Rattle.mz_core.specs.TypeSubstitution.{substitute_statement};
+ghost use Rattle.mz_choice.specs.Resolution.{typing};
 ghost use Rattle.mz_names.specs.Names.{functor_letter, predicate_letter};
+ghost use Rattle.mz_sizes.specs.Sizes.{term_keeps, statement_keeps};
+ghost use Rattle.mz_applied.specs.Within.{within};
 ghost use Rattle.mz_applied.specs.Private.{PlacesFit, Admits, is_functor_usable, is_predicate_usable, term_of_letter, statement_of_letter, AppliesFunctor, AppliesPredicate};
 
 use crate::within::{within_statement, within_term};
 use mz_base::place::Place;
+use mz_choice::resolve::typing;
 use mz_context::constants::Constants;
 use mz_context::context::Context;
 use mz_context::letters::NamedLetter;
@@ -18,6 +23,7 @@ use mz_core::type_substitution::substitute_statement;
 use mz_environment::environment::Environment;
 use mz_fits::fits::type_fits;
 use mz_ground::clause::Clause;
+use mz_instance_sizes::expansions::{is_statement_kept_at, is_term_kept_at};
 use mz_logic::beyond::Beyond;
 use mz_logic::substitution::substitute;
 use mz_logic::term::{Term, Terms};
@@ -26,7 +32,6 @@ use mz_names::names::{
 };
 use mz_names::refusal::Refusal;
 use mz_names::scope::{statement_from, term_from};
-use mz_types::known::typing;
 use std::alloc::{AllocError, Global};
 
 /// Whether each argument fits the type of its place.
@@ -156,6 +161,42 @@ fn statement_of_letter(
     }
 }
 
+/// The term with the arguments for its places, or `TooLarge`. It is measured before it is made.
+#[tactic(auto, using(crate::proofs::PrivateLemmas::term_rules))]
+fn expanded_term(
+    alloc: Global,
+    place: Place,
+    body: &Term,
+    ts: &Terms,
+) -> Result<Result<Term, Refusal>, AllocError>
+    ensures { IfOk result (λ o. o ≡ within term_keeps place (substitute 0 (argument_at ts.now) body.now)) }
+{
+    let kept = is_term_kept_at(alloc, body, ts)?;
+    if !kept {
+        return Ok(Err(Refusal::TooLarge(place)));
+    }
+    let t = substitute(alloc, body, 0, ts, Beyond::Zero)?;
+    Ok(Ok(t))
+}
+
+/// The same of a statement.
+#[tactic(auto, using(crate::proofs::PrivateLemmas::statement_rules))]
+fn expanded_statement(
+    alloc: Global,
+    place: Place,
+    body: &Statement,
+    ts: &Terms,
+) -> Result<Result<Statement, Refusal>, AllocError>
+    ensures { IfOk result (λ o. o ≡ within statement_keeps place (substitute_statement 0 (argument_at ts.now) body.now)) }
+{
+    let kept = is_statement_kept_at(alloc, body, ts)?;
+    if !kept {
+        return Ok(Err(Refusal::TooLarge(place)));
+    }
+    let s = substitute_statement(alloc, body, 0, ts, Beyond::Zero)?;
+    Ok(Ok(s))
+}
+
 /// What the identifier at the place is read to with arguments in parentheses: the body of the private functor at the
 /// arguments, or else the functor letter with them. Constants below `least` may not be used.
 ///
@@ -183,11 +224,7 @@ pub fn applied_functor(
             let usable = is_functor_usable(least, f);
             match refusal_of(alloc, env, ctx, place, usable, &f.places, &ts)? {
                 Some(r) => Ok(Err(r)),
-                None => {
-                    let t = substitute(alloc, &f.body, 0, &ts, Beyond::Zero)?;
-                    let o = within_term(place, t);
-                    Ok(o)
-                }
+                None => expanded_term(alloc, place, &f.body, &ts),
             }
         }
     }
@@ -218,11 +255,7 @@ pub fn applied_predicate(
             let usable = is_predicate_usable(least, p);
             match refusal_of(alloc, env, ctx, place, usable, &p.places, &ts)? {
                 Some(r) => Ok(Err(r)),
-                None => {
-                    let s = substitute_statement(alloc, &p.body, 0, &ts, Beyond::Zero)?;
-                    let o = within_statement(place, s);
-                    Ok(o)
-                }
+                None => expanded_statement(alloc, place, &p.body, &ts),
             }
         }
     }

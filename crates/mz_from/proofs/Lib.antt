@@ -1,3 +1,4 @@
 pub mod LetterLemmas
 pub mod VerdictLemmas
 pub mod OneVerdict
+pub mod KeptLemmas

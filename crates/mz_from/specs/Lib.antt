@@ -1,3 +1,4 @@
 pub mod Letters
 pub mod Verdict
+pub mod Kept
 pub mod Laws

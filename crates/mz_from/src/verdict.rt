@@ -17,7 +17,7 @@ use mz_logic::letters::Letters;
 use mz_obligations::obligation::SchemeVerdict;
 use std::alloc::{AllocError, Global};
 
-fn follow_statement(
+pub(crate) fn follow_statement(
     alloc: Global,
     letters: &mut Letters,
     p: &Statement,
@@ -30,7 +30,7 @@ fn follow_statement(
     follow(alloc, letters, &f, &g)
 }
 
-fn follow_premises(
+pub(crate) fn follow_premises(
     alloc: Global,
     letters: &mut Letters,
     premises: &[Statement],

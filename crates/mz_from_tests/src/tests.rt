@@ -1,5 +1,5 @@
 //! One loop over each table.
-use crate::rows::{FIXED, VERDICTS};
+use crate::rows::{FIXED, KEPT, VERDICTS};
 use mz_base::text::Text;
 use mz_context::constants::{Constant, Constants};
 use mz_core::adjectives::Adjectives;
@@ -11,6 +11,7 @@ use mz_core::soft_types::SoftTypes;
 use mz_core::statement::Statement;
 use mz_core::statements::Statements;
 use mz_following::following::follow;
+use mz_from::kept::from_keeps;
 use mz_from::verdict::fit_scheme;
 use mz_ground::clause::Clause;
 use mz_logic::formula::{Formula, FormulaNode};
@@ -126,6 +127,19 @@ fn verdict_of(
     Ok(fit_scheme(alloc, &none, &constants, &scheme, &cited, &s)?)
 }
 
+fn is_kept(
+    alloc: Global,
+    of_functors: &str,
+    of_scheme: &str,
+    step: &str,
+) -> Result<bool, SampleFault> {
+    let scheme = scheme(alloc, of_functors, of_scheme)?;
+    let q = sequent(alloc, step)?;
+    let cited = statements(alloc, &q.premises)?;
+    let s = statement(alloc, &q.conclusion)?;
+    Ok(from_keeps(alloc, &scheme, &cited, &s)?)
+}
+
 fn number(word: &str) -> Option<u64> {
     let (digit, rest) = word.as_bytes().split_first()?;
     if rest.is_empty() && digit.is_ascii_digit() {
@@ -212,6 +226,20 @@ fn schemes_are_judged(rt: HostRuntime) {
             let wanted = verdict(wanted.trim()).expect(&rt, "a verdict");
             let found = verdict_of(alloc, of_functors, of_scheme, step).expect(&rt, "sequents");
             assert!(rt; found == wanted, "{line}");
+        }
+    }
+}
+
+#[test]
+fn instances_keep_the_limits(rt: HostRuntime) {
+    let alloc = rt.alloc();
+    for line in KEPT.lines() {
+        if is_row(line) {
+            let (of_functors, rest) = line.split_once('#').expect(&rt, "a row");
+            let (of_scheme, rest) = rest.split_once('#').expect(&rt, "a row");
+            let (step, wanted) = rest.split_once('#').expect(&rt, "a row");
+            let kept = is_kept(alloc, of_functors, of_scheme, step).expect(&rt, "a scheme");
+            assert!(rt; kept == (wanted.trim() == "kept"), "{line}");
         }
     }
 }

@@ -1,5 +1,5 @@
 -- Statements that introduce names lead to one outcome at most.
-use Rattle.std.proofs.Common.{◌≡◌, Bool, List, [], ◌∷◌, map, Option, refl, sym, subst}
+use Rattle.std.proofs.Common.{◌≡◌, Bool, true, List, [], ◌∷◌, map, Option, Some, None, refl, sym, subst}
 use Rattle.std.specs.Prelude.{Result, Ok, Err, is_some}
 use Rattle.mz_base.specs.declared.place.Place.{Place}
 use Rattle.mz_core.specs.Statement.{Statement}
@@ -29,6 +29,7 @@ use Rattle.mz_parts.specs.Described.{DescriptionRead}
 use Rattle.mz_parts.specs.Named.{NamedRead, RetypedRead}
 use Rattle.mz_parts.specs.declared.described.Description.{Description}
 use Rattle.mz_given.specs.declared.given.Given.{Given}
+use Rattle.mz_justified.specs.Kept.{justifications_keep}
 use Rattle.mz_justified.specs.Justified.{Grounds, Owes, Justified, place_of}
 use Rattle.mz_justified.specs.declared.proof_fault.ProofRefusal.{ProofRefusal}
 use Rattle.mz_justified.specs.declared.proof_fault.ProofRefusal.TheVariants.{StepNoFit, Resolve, TooManyObligations}
@@ -83,19 +84,33 @@ SpentNext e at c first linked place t ss m o = AfterRead (Grounds e c first link
 abbrev too_many : Place → SimpleTree → Walked Left
 too_many place t = Refused (TooManyObligations (place_of place t))
 
+abbrev IsTooLarge : Place → Walked Left → Type 0
+IsTooLarge first o = o ≡ Refused (Resolve (TooLarge first))
+
 abbrev SpentIs : Environment → Extent → Context → Place → Bool → Place → SimpleTree → List Statement → Option Left → Walked Left → Type 0
 SpentIs e at c first linked place t ss z o = NextSome (too_many place t) (SpentNext e at c first linked place t ss) z o
 
+abbrev KeptAs : Environment → Extent → Context → Place → Bool → Place → SimpleTree → List Statement → Option Left → Walked Left → Type 0
+KeptAs e at c first linked place t ss z o = IfSo (justifications_keep e c linked t ss) (SpentIs e at c first linked place t ss z o) (IsTooLarge first o)
+
 abbrev EachAs : Environment → Extent → Context → Place → Bool → Place → SimpleTree → List Statement → Left → Walked Left → Type 0
 EachAs e at c first linked place t [] l o = o ≡ Made [] l
-EachAs e at c first linked place t (s ∷ ss) l o = SpentIs e at c first linked place t (s ∷ ss) (spent_for ss l) o
+EachAs e at c first linked place t (s ∷ ss) l o = KeptAs e at c first linked place t (s ∷ ss) (spent_for ss l) o
+
+-- those whose instances keep the limits, where so many are left
+kept_as : (e : Environment) (at : Extent) (c : Context) (first : Place) (linked : Bool) (place : Place) (t : SimpleTree) (ss : List Statement) (z q : Option Left) (o : Walked Left) →
+    justifications_keep e c linked t ss ≡ true → z ≡ q → SpentIs e at c first linked place t ss q o → KeptAs e at c first linked place t ss z o
+kept_as e at c first linked place t ss z q o n h k =
+    if_so (justifications_keep e c linked t ss) (SpentIs e at c first linked place t ss z o) (IsTooLarge first o) n (subst (λ (y : Option Left). SpentIs e at c first linked place t ss y o) (sym h) k)
 
 each_as : (e : Environment) (at : Extent) (c : Context) (first : Place) (linked : Bool) (place : Place) (t : SimpleTree) (ss : List Statement) (l : Left) (o : Walked Left) →
     JustifiesEach e at c first linked place t ss l o → EachAs e at c first linked place t ss l o
 each_as e at c first linked place t ss l o (int.none_owed _) = refl
-each_as e at c first linked place t ss l o (int.too_many s rest _ h) = subst (λ (z : Option Left). SpentIs e at c first linked place t (s ∷ rest) z o) (sym h) refl
-each_as e at c first linked place t ss l o (int.not_grounded s rest _ m after r h k) = subst (λ (z : Option Left). SpentIs e at c first linked place t (s ∷ rest) z o) (sym h) (Err r, after, k, refl)
-each_as e at c first linked place t ss l o (int.each_owed s rest given _ m after os h k i) = subst (λ (z : Option Left). SpentIs e at c first linked place t (s ∷ rest) z o) (sym h) (Ok given, after, k, (os, i, refl))
+each_as e at c first linked place t ss l o (int.too_large s rest _ n) =
+    if_not (justifications_keep e c linked t (s ∷ rest)) (SpentIs e at c first linked place t (s ∷ rest) (spent_for rest l) o) (IsTooLarge first o) n refl
+each_as e at c first linked place t ss l o (int.too_many s rest _ n h) = kept_as e at c first linked place t (s ∷ rest) (spent_for rest l) None o n h refl
+each_as e at c first linked place t ss l o (int.not_grounded s rest _ m after r n h k) = kept_as e at c first linked place t (s ∷ rest) (spent_for rest l) (Some m) o n h (Err r, after, k, refl)
+each_as e at c first linked place t ss l o (int.each_owed s rest given _ m after os n h k i) = kept_as e at c first linked place t (s ∷ rest) (spent_for rest l) (Some m) o n h (Ok given, after, k, (os, i, refl))
 
 one_spent : (e : Environment) (at : Extent) (c : Context) (first : Place) (linked : Bool) (place : Place) (t : SimpleTree) (ss : List Statement) (m : Left) → AtMostOne (SpentNext e at c first linked place t ss m)
 one_spent e at c first linked place t ss m =
@@ -107,7 +122,8 @@ one_each_justified e at c first linked place t [] l =
     one_by (JustifiesEach e at c first linked place t [] l) (EachAs e at c first linked place t [] l) (each_as e at c first linked place t [] l) (one_value (Made [] l))
 one_each_justified e at c first linked place t (s ∷ ss) l =
     one_by (JustifiesEach e at c first linked place t (s ∷ ss) l) (EachAs e at c first linked place t (s ∷ ss) l) (each_as e at c first linked place t (s ∷ ss) l)
-    (one_next_some (too_many place t) (SpentNext e at c first linked place t (s ∷ ss)) (one_spent e at c first linked place t (s ∷ ss)) (spent_for ss l))
+    (one_if (justifications_keep e c linked t (s ∷ ss)) (SpentIs e at c first linked place t (s ∷ ss) (spent_for ss l)) (IsTooLarge first)
+    (one_next_some (too_many place t) (SpentNext e at c first linked place t (s ∷ ss)) (one_spent e at c first linked place t (s ∷ ss)) (spent_for ss l)) (one_value (Refused (Resolve (TooLarge first)))))
 
 -- a step that follows no statement
 abbrev no_fit : Place → Walked State

@@ -1,5 +1,5 @@
 -- What the code of justifications tells.
-use Rattle.std.proofs.Common.{◌≡◌, List, [], ◌∷◌, ◌++◌, refl, sym, ap, ◌∙◌, subst, Option, Some, None, Bool, true, false}
+use Rattle.std.proofs.Common.{◌≡◌, List, [], ◌∷◌, refl, sym, ap, ◌∙◌, subst, Option, Some, None, Bool, true, false}
 use Rattle.std.specs.Bool.{OnTrue, OnFalse}
 use Rattle.std.specs.Prelude.{Result, Ok, Err, not}
 use Rattle.mz_base.specs.declared.place.Place.{Place}
@@ -15,7 +15,6 @@ use Rattle.mz_justified.specs.Justified.{place_of, Grounds}
 use Rattle.mz_given.specs.Given.{statements_given, behind_some, cited_in, given_in}
 use Rattle.mz_given.specs.declared.given.Given.{Given}
 use Rattle.mz_given.specs.declared.given.Given.TheVariants.{ByStatements, ByScheme}
-use Rattle.mz_justified.specs.declared.proof_fault.ProofRefusal.{ProofRefusal}
 use Rattle.mz_justified.specs.declared.proof_fault.ProofRefusal.TheVariants.{StepNoFit, UnknownLabel, TooManyObligations}
 
 -- a statement just before, where one is wanted

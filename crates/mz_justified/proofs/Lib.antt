@@ -1,2 +1,3 @@
 pub mod GroundLemmas
+pub mod KeptLemmas
 pub mod OweLemmas

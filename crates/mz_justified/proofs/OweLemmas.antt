@@ -1,5 +1,5 @@
 -- What the code of obligations tells.
-use Rattle.std.proofs.Common.{◌≡◌, List, [], ◌∷◌, ◌++◌, refl, sym, ap, ◌∙◌, subst, Option, Some, None, Bool}
+use Rattle.std.proofs.Common.{◌≡◌, List, [], ◌∷◌, ◌++◌, refl, sym, ◌∙◌, subst, Option, Some, None, Bool, true, false}
 use Rattle.std.specs.Prelude.{Result, Ok, Err, MatchOption}
 use Rattle.mz_base.specs.declared.place.Place.{Place}
 use Rattle.mz_core.specs.Statement.{Statement}
@@ -18,10 +18,12 @@ use Rattle.mz_obligations.specs.declared.obligation.SchemeVerdict.{SchemeVerdict
 use Rattle.mz_from.specs.Verdict.{IsVerdict}
 use Rattle.mz_given.specs.declared.given.Given.{Given}
 use Rattle.mz_given.specs.declared.given.Given.TheVariants.{ByStatements, ByScheme}
+use Rattle.mz_names.specs.declared.refusal.Refusal.TheVariants.{TooLarge}
 use Rattle.mz_justified.specs.Answers.{OnMade}
+use Rattle.mz_justified.specs.Kept.{justification_keeps}
 use Rattle.mz_justified.specs.Justified as ju
 use Rattle.mz_justified.specs.Justified.{place_of, Grounds, Owes, Justified, IsPut, Put}
-use Rattle.mz_justified.specs.declared.proof_fault.ProofRefusal.{ProofRefusal}
+use Rattle.mz_justified.specs.declared.proof_fault.ProofRefusal.TheVariants.{Resolve}
 use Rattle.mz_justified.specs.declared.proof_fault.ProofFault.{ProofFault}
 use Rattle.mz_justified.specs.declared.proof_fault.ProofFault.TheVariants.{Refused, Memory}
 
@@ -67,17 +69,24 @@ told_put e at c ss s place old new o h en = record { obligation = o; is_owed = h
 pub ruleset oblige_rules = (told_put)
 
 pub told_justified : (e : Environment) (at : Extent) (c : Context) (first : Place) (linked : Bool) (behind place : Place) (t : SimpleTree) (s : Statement) (left after : Left) (p : Result Given ProofFault) (ss : Given) (old new : List Obligation) →
-    OnMade p (λ o. Grounds e c first linked behind t left o after) → p ≡ Ok ss → place ≡ place_of behind t → IsPut (Owes e at c ss s place) old new → IsPut (λ o. Justified e at c first linked behind t s left (Ok o) after) old new
-told_justified e at c first linked behind place t s left after p ss old new h ep el k =
+    justification_keeps e c linked t s ≡ true → OnMade p (λ o. Grounds e c first linked behind t left o after) → p ≡ Ok ss → place ≡ place_of behind t → IsPut (Owes e at c ss s place) old new → IsPut (λ o. Justified e at c first linked behind t s left (Ok o) after) old new
+told_justified e at c first linked behind place t s left after p ss old new n h ep el k =
     record {
       obligation = k.obligation;
-      is_owed = ju.owed ss k.obligation after (subst (λ q. OnMade q (λ o. Grounds e c first linked behind t left o after)) ep h) (subst (λ q. Owes e at c ss s q k.obligation) el k.is_owed);
+      is_owed = ju.owed ss k.obligation after n (subst (λ q. OnMade q (λ o. Grounds e c first linked behind t left o after)) ep h) (subst (λ q. Owes e at c ss s q k.obligation) el k.is_owed);
       is_last = k.is_last;
     }
 
 pub told_not_justified : (X : Type 0) (e : Environment) (at : Extent) (c : Context) (first : Place) (linked : Bool) (behind : Place) (t : SimpleTree) (s : Statement) (left after : Left) (p : Result Given ProofFault) (f : ProofFault) (old new : List Obligation) →
-    OnMade p (λ o. Grounds e c first linked behind t left o after) → p ≡ Err f → OnMade {X = X} (Err f) (Put (λ o. Justified e at c first linked behind t s left o after) old new)
-told_not_justified X e at c first linked behind t s left after p (Refused r) old new h ep = ju.not_grounded r after (subst (λ q. OnMade q (λ o. Grounds e c first linked behind t left o after)) ep h)
-told_not_justified X e at c first linked behind t s left after p Memory old new h ep = tt
+    justification_keeps e c linked t s ≡ true → OnMade p (λ o. Grounds e c first linked behind t left o after) → p ≡ Err f → OnMade {X = X} (Err f) (Put (λ o. Justified e at c first linked behind t s left o after) old new)
+told_not_justified X e at c first linked behind t s left after p (Refused r) old new n h ep = ju.not_grounded r after n (subst (λ q. OnMade q (λ o. Grounds e c first linked behind t left o after)) ep h)
+told_not_justified X e at c first linked behind t s left after p Memory old new n h ep = tt
 
 pub ruleset justify_rules = (told_justified, told_not_justified)
+
+pub told_too_large : (X : Type 0) (e : Environment) (at : Extent) (c : Context) (first : Place) (linked : Bool) (behind : Place) (t : SimpleTree) (s : Statement) (left after : Left) (b : Bool) (f : ProofFault) (old new : List Obligation) →
+    b ≡ justification_keeps e c linked t s → b ≡ false → f ≡ Refused (Resolve (TooLarge first)) → OnMade {X = X} (Err f) (Put (λ o. Justified e at c first linked behind t s left o after) old new)
+told_too_large X e at c first linked behind t s left after b f old new eb n ef =
+    subst (λ y. OnMade {X = X} (Err y) (Put (λ o. Justified e at c first linked behind t s left o after) old new)) (sym ef) (ju.too_large after (sym eb ∙ n))
+
+pub ruleset large_rules = (told_too_large)

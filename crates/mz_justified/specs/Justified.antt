@@ -1,5 +1,5 @@
 -- What a justification without a proof gives.
-use Rattle.std.specs.Prelude.{◌≡◌, ◌++◌, ◌∷◌, Bool, List, [], Option, Some, None, Result, Ok, Err}
+use Rattle.std.specs.Prelude.{◌≡◌, ◌++◌, ◌∷◌, Bool, true, false, List, [], Option, Some, None, Result, Ok, Err}
 use Rattle.mz_base.specs.declared.place.Place.{Place}
 use Rattle.mz_core.specs.Statement.{Statement}
 use Rattle.mz_core.specs.declared.outcome.Left.{Left}
@@ -21,8 +21,10 @@ use Rattle.mz_obligations.specs.declared.obligation.Duty.TheVariants.{From as Du
 use Rattle.mz_obligations.specs.declared.obligation.Extent.{Extent}
 use Rattle.mz_obligations.specs.declared.obligation.Obligation.{Obligation}
 use Rattle.mz_obligations.specs.declared.obligation.SchemeVerdict.{SchemeVerdict}
+use Rattle.mz_names.specs.declared.refusal.Refusal.TheVariants.{TooLarge}
+use Rattle.mz_justified.specs.Kept.{justification_keeps}
 use Rattle.mz_justified.specs.declared.proof_fault.ProofRefusal.{ProofRefusal}
-use Rattle.mz_justified.specs.declared.proof_fault.ProofRefusal.TheVariants.{StepNoFit, UnknownLabel, TooManyObligations}
+use Rattle.mz_justified.specs.declared.proof_fault.ProofRefusal.TheVariants.{StepNoFit, UnknownLabel, Resolve, TooManyObligations}
 
 -- its place: the word `by` or `from`, or the place of the token behind the statement where neither is written
 abbrev pub place_of : Place → SimpleTree → Place
@@ -57,11 +59,14 @@ abbrev pub Owes : Environment → Extent → Context → Given → Statement →
 Owes e at c (ByStatements ss) s place o = IsObligation (typing e c) e.expansions c.constants ss s place at (letters_clauses c.letters) o
 Owes e at c (ByScheme x cited) s place o = IsFollowed (typing e c) c.constants x cited s place at (letters_clauses c.letters) o
 
--- the obligation of the statement by its justification, and what is left behind it; or the refusal
+-- the obligation of the statement by its justification, and what is left behind it; or the refusal. That an instance of a scheme is too
+-- large stands at the step's first token, so before what is refused at the justification
 pub data Justified (e : Environment) (at : Extent) (c : Context) (first : Place) (linked : Bool) (behind : Place) (t : SimpleTree) (s : Statement) (left : Left) : Result Obligation ProofRefusal → Left → Type 0 where
-  not_grounded : (r : ProofRefusal) (after : Left) → Grounds e c first linked behind t left (Err r) after → Justified e at c first linked behind t s left (Err r) after
-  owed : (g : Given) (o : Obligation) (after : Left) → Grounds e c first linked behind t left (Ok g) after → Owes e at c g s (place_of behind t) o →
-      Justified e at c first linked behind t s left (Ok o) after
+  too_large : (after : Left) → justification_keeps e c linked t s ≡ false → Justified e at c first linked behind t s left (Err (Resolve (TooLarge first))) after
+  not_grounded : (r : ProofRefusal) (after : Left) → justification_keeps e c linked t s ≡ true → Grounds e c first linked behind t left (Err r) after →
+      Justified e at c first linked behind t s left (Err r) after
+  owed : (g : Given) (o : Obligation) (after : Left) → justification_keeps e c linked t s ≡ true → Grounds e c first linked behind t left (Ok g) after →
+      Owes e at c g s (place_of behind t) o → Justified e at c first linked behind t s left (Ok o) after
 
 -- it is put behind the obligations before it
 pub record IsPut (owes : Obligation → Type 0) (old new : List Obligation) : Type 0 where

@@ -1,12 +1,14 @@
 //! The obligation of a statement by its justification.
-ghost use Rattle.std.specs.Prelude.{◌≡◌, ◌++◌, IfOk, OnOk};
+ghost use Rattle.std.specs.Prelude.{◌≡◌, ◌++◌, true, IfOk, OnOk};
 ghost use Rattle.mz_types.specs.Known.{letters_clauses, typing};
 ghost use Rattle.mz_given.specs.declared.given.Given.TheVariants.{ByStatements, ByScheme};
 ghost use Rattle.mz_from.specs.Verdict.{IsVerdict};
 ghost use Rattle.mz_justified.specs.Answers.{OnMade};
+ghost use Rattle.mz_justified.specs.Kept.{justification_keeps};
 ghost use Rattle.mz_justified.specs.Justified.{place_of, Owes, Justified, IsPut, Put};
 
 use crate::grounds::{ground, place_of};
+use crate::kept::justification_keeps;
 use crate::proof_fault::ProofFault;
 use crate::walker::{Opening, Walker};
 use mz_base::place::Place;
@@ -176,13 +178,42 @@ pub fn oblige(
     os.push(o)
 }
 
-/// Puts the obligation of the statement, by its justification, behind the others, and takes it off what the article has left.
-/// `first` is the place of the step's first token, `linked` says that the step begins with `then` or `hence`, and `behind` is
-/// the place of the token behind the statement.
+/// The same of a justification whose instances keep the limits.
 ///
 /// Refusals, in this order: `StepNoFit` at the step where it is linked and follows no statement; `TooManyObligations` at the
 /// justification; `UnknownLabel` at the first reference that cites nothing, that of a scheme among them.
 #[tactic(auto, using(crate::proofs::OweLemmas::justify_rules))]
+fn justify_kept(
+    walker: Walker<'_>,
+    ctx: &Context,
+    opening: Opening,
+    behind: Place,
+    tree: &SimpleTree,
+    s: &Statement,
+    left: &mut Left,
+    os: &mut Obligations,
+) -> Result<(), ProofFault>
+    requires { justification_keeps walker.env.now ctx.now opening.linked tree.now s.now ≡ true }
+    ensures { OnMade result (Put (λ o. Justified walker.entry.env.now walker.entry.at ctx.now opening.first opening.linked behind tree.now s.now left.old o left.new) os.old os.new) }
+{
+    match ground(walker, ctx, opening, behind, tree, left) {
+        Ok(given) => {
+            oblige(walker, ctx, &given, s, place_of(behind, tree), os)?;
+            Ok(())
+        }
+        Err(f) => Err(f),
+    }
+}
+
+/// Puts the obligation of the statement, by its justification, behind the others, and takes it off what the article has left.
+/// `first` is the place of the step's first token, `linked` says that the step begins with `then` or `hence`, and `behind` is
+/// the place of the token behind the statement.
+///
+/// Refusals, in this order: `TooLarge` at the step where an instance of a scheme that the justification makes is beyond the limits of an
+/// expression; `StepNoFit` at the step where it is linked and follows no statement; `TooManyObligations` at the justification;
+/// `UnknownLabel` at the first reference that cites nothing, that of a scheme among them. Where one of the last two is told, no instance
+/// is made.
+#[tactic(auto, using(crate::proofs::OweLemmas::large_rules))]
 pub fn justify_simply(
     walker: Walker<'_>,
     ctx: &Context,
@@ -195,11 +226,9 @@ pub fn justify_simply(
 ) -> Result<(), ProofFault>
     ensures { OnMade result (Put (λ o. Justified walker.entry.env.now walker.entry.at ctx.now opening.first opening.linked behind tree.now s.now left.old o left.new) os.old os.new) }
 {
-    match ground(walker, ctx, opening, behind, tree, left) {
-        Ok(given) => {
-            oblige(walker, ctx, &given, s, place_of(behind, tree), os)?;
-            Ok(())
-        }
-        Err(f) => Err(f),
+    let kept = justification_keeps(walker, ctx, opening.linked, tree, s)?;
+    if !kept {
+        return Err(ProofFault::too_large(opening.first));
     }
+    justify_kept(walker, ctx, opening, behind, tree, s, left, os)
 }

@@ -3,5 +3,6 @@
 
 pub mod grounds;
 pub mod justified;
+pub mod kept;
 pub mod proof_fault;
 pub mod walker;

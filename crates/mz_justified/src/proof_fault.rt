@@ -1,6 +1,8 @@
 //! Why a reasoning isn't taken.
 ghost use Rattle.std.specs.Prelude.{◌≡◌};
-ghost use Rattle.mz_justified.specs.declared.proof_fault.ProofFault.TheVariants.{Memory};
+ghost use Rattle.mz_names.specs.declared.refusal.Refusal.TheVariants.{TooLarge};
+ghost use Rattle.mz_justified.specs.declared.proof_fault.ProofRefusal.TheVariants.{Resolve};
+ghost use Rattle.mz_justified.specs.declared.proof_fault.ProofFault.TheVariants.{Refused, Memory};
 
 use mz_base::place::Place;
 use mz_names::refusal::Refusal;
@@ -24,6 +26,15 @@ pub enum ProofRefusal {
 pub enum ProofFault {
     Refused(ProofRefusal),
     Memory,
+}
+
+impl ProofFault {
+    /// Something that a step makes is beyond the limits of an expression: `TooLarge` at the step's first token.
+    pub fn too_large(first: Place) -> ProofFault
+        ensures { result ≡ Refused (Resolve (TooLarge first)) }
+    {
+        ProofFault::Refused(ProofRefusal::Resolve(Refusal::TooLarge(first)))
+    }
 }
 
 impl From<AllocError> for ProofFault {

@@ -23,13 +23,15 @@ use Rattle.mz_obligations.specs.declared.obligation.Extent.{Extent}
 use Rattle.mz_obligations.specs.declared.obligation.Obligation.{Obligation}
 use Rattle.mz_problem_laws.proofs.OneProblemProofs.{one_problem_law}
 use Rattle.mz_tree_proof.specs.declared.references.SimpleTree.{SimpleTree}
+use Rattle.mz_names.specs.declared.refusal.Refusal.TheVariants.{TooLarge}
+use Rattle.mz_justified.specs.Kept.{justification_keeps}
 use Rattle.mz_justified.specs.Justified as ju
 use Rattle.mz_justified.specs.Justified.{place_of, Grounds, Owes, Justified}
 use Rattle.mz_justified.specs.declared.proof_fault.ProofRefusal.{ProofRefusal}
-use Rattle.mz_justified.specs.declared.proof_fault.ProofRefusal.TheVariants.{StepNoFit, UnknownLabel, TooManyObligations}
+use Rattle.mz_justified.specs.declared.proof_fault.ProofRefusal.TheVariants.{StepNoFit, UnknownLabel, Resolve, TooManyObligations}
 use Rattle.mz_justified_laws.specs.Determined.{SameLeft}
 use Rattle.mz_justified_laws.specs.Laws.{OneGroundLaw, OneOwedLaw, OneJustificationLaw}
-use Rattle.mz_justified_laws.proofs.Sequence.{determined_by, IsMade, determined_made, ThenRead, determined_then, as_it_is}
+use Rattle.mz_justified_laws.proofs.Sequence.{IfSo, if_so, if_not, determined_by, determined_if, IsRefused, determined_refused, IsMade, determined_made, ThenRead, determined_then, as_it_is}
 
 -- what is given, or the refusal, as a function of the parts that are looked at one after another
 abbrev by_given : Place → Option Given → Result Given ProofRefusal
@@ -129,16 +131,27 @@ one_owed e at c (ByScheme x cited) s place o p h k =
 abbrev OwedNext : Environment → Extent → Context → Place → SimpleTree → Statement → Given → Left → Result Obligation ProofRefusal → Left → Type 0
 OwedNext e at c behind t s ss l = IsMade (Owes e at c ss s (place_of behind t)) l
 
+abbrev KeptAs : Environment → Extent → Context → Place → Bool → Place → SimpleTree → Statement → Left → Result Obligation ProofRefusal → Left → Type 0
+KeptAs e at c first linked behind t s left = ThenRead (Grounds e c first linked behind t left) as_it_is (OwedNext e at c behind t s)
+
+abbrev LargeAs : Place → Result Obligation ProofRefusal → Left → Type 0
+LargeAs first = IsRefused (Resolve (TooLarge first))
+
 abbrev JustifiedAs : Environment → Extent → Context → Place → Bool → Place → SimpleTree → Statement → Left → Result Obligation ProofRefusal → Left → Type 0
-JustifiedAs e at c first linked behind t s left = ThenRead (Grounds e c first linked behind t left) as_it_is (OwedNext e at c behind t s)
+JustifiedAs e at c first linked behind t s left o a = IfSo (justification_keeps e c linked t s) (KeptAs e at c first linked behind t s left o a) (LargeAs first o a)
 
 justified_as : (e : Environment) (at : Extent) (c : Context) (first : Place) (linked : Bool) (behind : Place) (t : SimpleTree) (s : Statement) (left : Left) (o : Result Obligation ProofRefusal) (a : Left) →
     Justified e at c first linked behind t s left o a → JustifiedAs e at c first linked behind t s left o a
-justified_as e at c first linked behind t s left o a (ju.not_grounded r _ h) = (Err r, a, h, refl)
-justified_as e at c first linked behind t s left o a (ju.owed ss x _ h k) = (Ok ss, a, h, (x, k, refl, refl))
+justified_as e at c first linked behind t s left o a (ju.too_large _ n) = if_not (justification_keeps e c linked t s) (KeptAs e at c first linked behind t s left o a) (LargeAs first o a) n refl
+justified_as e at c first linked behind t s left o a (ju.not_grounded r _ n h) =
+    if_so (justification_keeps e c linked t s) (KeptAs e at c first linked behind t s left o a) (LargeAs first o a) n (Err r, a, h, refl)
+justified_as e at c first linked behind t s left o a (ju.owed ss x _ n h k) =
+    if_so (justification_keeps e c linked t s) (KeptAs e at c first linked behind t s left o a) (LargeAs first o a) n (Ok ss, a, h, (x, k, refl, refl))
 
 pub one_justification : OneJustificationLaw
 one_justification e at c first linked behind t s left =
     determined_by (Justified e at c first linked behind t s left) (JustifiedAs e at c first linked behind t s left) (justified_as e at c first linked behind t s left)
+    (determined_if (justification_keeps e c linked t s) (KeptAs e at c first linked behind t s left) (LargeAs first)
     (determined_then (Grounds e c first linked behind t left) as_it_is (OwedNext e at c behind t s) (one_ground e c first linked behind t left)
     (λ (ss : Given) (l : Left). determined_made (Owes e at c ss s (place_of behind t)) l (one_owed e at c ss s (place_of behind t))))
+    (determined_refused (Resolve (TooLarge first))))

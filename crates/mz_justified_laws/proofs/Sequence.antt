@@ -135,3 +135,15 @@ determined_then {X} {F} part bad next one then o p a b h k =
 -- a refusal is told as it is
 abbrev pub as_it_is : {X : Type 0} → X → X
 as_it_is r = r
+
+-- the one or the other, by a test
+pub determined_if : {X Y : Type 0} (test : Bool) (A B : Result X Y → Left → Type 0) → IsDetermined A → IsDetermined B → IsDetermined (λ (o : Result X Y) (a : Left). IfSo test (A o a) (B o a))
+determined_if true A B one other o p a b h k = one o p a b h k
+determined_if false A B one other o p a b h k = other o p a b h k
+
+-- a refusal alone
+abbrev pub IsRefused : {X Y : Type 0} → Y → Result X Y → Left → Type 0
+IsRefused r o a = o ≡ Err r
+
+pub determined_refused : {X Y : Type 0} (r : Y) → IsDetermined {X = X} {Y = Y} (IsRefused r)
+determined_refused r o p a b h k = (h ∙ sym k, any_left o r a b h)

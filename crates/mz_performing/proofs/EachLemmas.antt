@@ -12,12 +12,15 @@ use Rattle.mz_tree_proof.specs.declared.references.SimpleTree.{SimpleTree}
 use Rattle.mz_obligations.specs.Obligations.{obligation_spent}
 use Rattle.mz_obligations.specs.declared.obligation.Extent.{Extent}
 use Rattle.mz_obligations.specs.declared.obligation.Obligation.{Obligation}
+use Rattle.mz_names.specs.declared.refusal.Refusal.TheVariants.{TooLarge}
 use Rattle.mz_justified.specs.Answers.{OnMade}
+use Rattle.mz_justified.specs.Kept.{justifications_keep}
 use Rattle.mz_given.specs.declared.given.Given.{Given}
 use Rattle.mz_justified.specs.Justified.{Grounds, Owes, IsPut, place_of}
 use Rattle.mz_justified.specs.declared.proof_fault.ProofFault.{ProofFault}
+use Rattle.mz_justified.specs.declared.proof_fault.ProofFault.TheVariants as fault
 use Rattle.mz_justified.specs.declared.proof_fault.ProofRefusal.{ProofRefusal}
-use Rattle.mz_justified.specs.declared.proof_fault.ProofRefusal.TheVariants.{TooManyObligations}
+use Rattle.mz_justified.specs.declared.proof_fault.ProofRefusal.TheVariants.{Resolve, TooManyObligations}
 use Rattle.mz_walk.specs.Walked.{Walked, Made, Refused}
 use Rattle.mz_walk.specs.Introductions as it
 use Rattle.mz_walk.specs.Introductions.{spent_then, spent_for, OwesEach, JustifiesEach}
@@ -75,28 +78,44 @@ pub told_none : (e : Environment) (at : Extent) (c : Context) (first : Place) (l
 told_none e at c first linked place t ss l os er =
     record { made = []; is_made = subst (λ xs. JustifiesEach e at c first linked place t xs l (Made [] l)) (sym (empty ss er)) (it.none_owed l); are_last = sym (append-nil os) }
 
-pub told_too_many : (e : Environment) (at : Extent) (c : Context) (first : Place) (linked : Bool) (place p : Place) (t : SimpleTree) (ss more : List Statement) (s : Statement) (l : Left) → ss ≡ s ∷ more → spent_for more l ≡ None → p ≡ place_of place t →
+kept_of : (e : Environment) (c : Context) (linked : Bool) (t : SimpleTree) (ss more : List Statement) (s : Statement) → justifications_keep e c linked t ss ≡ true → ss ≡ s ∷ more → justifications_keep e c linked t (s ∷ more) ≡ true
+kept_of e c linked t ss more s n er = subst (λ xs. justifications_keep e c linked t xs ≡ true) er n
+
+true_false : true ≡ false → ⊥
+true_false e = cc
+
+large_of : (e : Environment) (at : Extent) (c : Context) (first : Place) (linked : Bool) (place : Place) (t : SimpleTree) (ss : List Statement) (l : Left) → justifications_keep e c linked t ss ≡ false → JustifiesEach e at c first linked place t ss l (Refused (Resolve (TooLarge first)))
+large_of e at c first linked place t [] l n = absurd (true_false n)
+large_of e at c first linked place t (s ∷ ss) l n = it.too_large s ss l n
+
+pub told_too_large : (X : Type 0) (e : Environment) (at : Extent) (c : Context) (first : Place) (linked : Bool) (place : Place) (t : SimpleTree) (slice ss : List Statement) (l after : Left) (os ps : List Obligation) (b : Bool) (f : ProofFault) →
+    b ≡ justifications_keep e c linked t slice → slice ≡ ss → b ≡ false → f ≡ fault.Refused (Resolve (TooLarge first)) → OnMade {X = X} (Err f) (Brings (λ o. JustifiesEach e at c first linked place t ss l o) after os ps)
+told_too_large X e at c first linked place t slice ss l after os ps b f eb es n ef =
+    subst (λ y. OnMade {X = X} (Err y) (Brings (λ o. JustifiesEach e at c first linked place t ss l o) after os ps)) (sym ef)
+    (large_of e at c first linked place t ss l (ap (justifications_keep e c linked t) (sym es) ∙ (sym eb ∙ n)))
+
+pub told_too_many : (e : Environment) (at : Extent) (c : Context) (first : Place) (linked : Bool) (place p : Place) (t : SimpleTree) (ss more : List Statement) (s : Statement) (l : Left) → justifications_keep e c linked t ss ≡ true → ss ≡ s ∷ more → spent_for more l ≡ None → p ≡ place_of place t →
     JustifiesEach e at c first linked place t ss l (Refused (TooManyObligations p))
-told_too_many e at c first linked place p t ss more s l er h ep =
-    subst (λ xs. JustifiesEach e at c first linked place t xs l (Refused (TooManyObligations p))) (sym er) (subst (λ x. JustifiesEach e at c first linked place t (s ∷ more) l (Refused (TooManyObligations x))) (sym ep) (it.too_many s more l h))
+told_too_many e at c first linked place p t ss more s l n er h ep =
+    subst (λ xs. JustifiesEach e at c first linked place t xs l (Refused (TooManyObligations p))) (sym er) (subst (λ x. JustifiesEach e at c first linked place t (s ∷ more) l (Refused (TooManyObligations x))) (sym ep) (it.too_many s more l (kept_of e c linked t ss more s n er) h))
 
 pub told_not_grounded : (X : Type 0) (e : Environment) (at : Extent) (c : Context) (first : Place) (linked : Bool) (place : Place) (t : SimpleTree) (ss more : List Statement) (s : Statement) (l m after : Left) (os ps : List Obligation) (x : Result Given ProofFault) (f : ProofFault) →
-    ss ≡ s ∷ more → spent_for more l ≡ Some m → OnMade x (λ o. Grounds e c first linked place t m o after) → x ≡ Err f →
+    justifications_keep e c linked t ss ≡ true → ss ≡ s ∷ more → spent_for more l ≡ Some m → OnMade x (λ o. Grounds e c first linked place t m o after) → x ≡ Err f →
     OnMade {X = X} (Err f) (Brings (λ o. JustifiesEach e at c first linked place t ss l o) after os ps)
-told_not_grounded X e at c first linked place t ss more s l m after os ps x f er h g ex =
+told_not_grounded X e at c first linked place t ss more s l m after os ps x f n er h g ex =
     let P : Result Given ProofRefusal → Type 0 = λ o. Grounds e c first linked place t m o after in
     let Q : Result X ProofRefusal → Type 0 = Brings (λ o. JustifiesEach e at c first linked place t ss l o) after os ps in
-    on_err P Q x f ex g (λ r k. subst (λ xs. JustifiesEach e at c first linked place t xs l (Refused r)) (sym er) (it.not_grounded s more l m after r h k))
+    on_err P Q x f ex g (λ r k. subst (λ xs. JustifiesEach e at c first linked place t xs l (Refused r)) (sym er) (it.not_grounded s more l m after r (kept_of e c linked t ss more s n er) h k))
 
 pub told_each_owed : (e : Environment) (at : Extent) (c : Context) (first : Place) (linked : Bool) (place p : Place) (t : SimpleTree) (ss more : List Statement) (given : Given) (s : Statement) (l m after : Left) (os ps : List Obligation) (x : Result Given ProofFault) →
-    ss ≡ s ∷ more → spent_for more l ≡ Some m → OnMade x (λ o. Grounds e c first linked place t m o after) → x ≡ Ok given → p ≡ place_of place t → IsBrought (OwesEach e at c given p ss) os ps →
+    justifications_keep e c linked t ss ≡ true → ss ≡ s ∷ more → spent_for more l ≡ Some m → OnMade x (λ o. Grounds e c first linked place t m o after) → x ≡ Ok given → p ≡ place_of place t → IsBrought (OwesEach e at c given p ss) os ps →
     IsBrought (λ qs. JustifiesEach e at c first linked place t ss l (Made qs after)) os ps
-told_each_owed e at c first linked place p t ss more given s l m after os ps x er h g ex ep b =
+told_each_owed e at c first linked place p t ss more given s l m after os ps x n er h g ex ep b =
     let P : Result Given ProofRefusal → Type 0 = λ o. Grounds e c first linked place t m o after in
     let owed : OwesEach e at c given (place_of place t) (s ∷ more) b.made = subst (λ xs. OwesEach e at c given (place_of place t) xs b.made) er (subst (λ y. OwesEach e at c given y ss b.made) ep b.is_made) in
     record {
       made = b.made;
-      is_made = subst (λ xs. JustifiesEach e at c first linked place t xs l (Made b.made after)) (sym er) (it.each_owed s more given l m after b.made h (on_ok P x given ex g) owed);
+      is_made = subst (λ xs. JustifiesEach e at c first linked place t xs l (Made b.made after)) (sym er) (it.each_owed s more given l m after b.made (kept_of e c linked t ss more s n er) h (on_ok P x given ex g) owed);
       are_last = b.are_last;
     }
 
@@ -104,9 +123,11 @@ brought_as : (e : Environment) (at : Extent) (c : Context) (given : Given) (p : 
 brought_as e at c given p slice ss os ps es b = subst (λ xs. IsBrought (OwesEach e at c given p xs) os ps) es b
 
 pub told_owed_of : (e : Environment) (at : Extent) (c : Context) (first : Place) (linked : Bool) (place p : Place) (t : SimpleTree) (slice ss more : List Statement) (given : Given) (s : Statement) (l m after : Left) (os ps : List Obligation) (x : Result Given ProofFault) →
-    ss ≡ s ∷ more → spent_for more l ≡ Some m → OnMade x (λ o. Grounds e c first linked place t m o after) → x ≡ Ok given → p ≡ place_of place t → slice ≡ ss → IsBrought (OwesEach e at c given p slice) os ps →
+    justifications_keep e c linked t ss ≡ true → ss ≡ s ∷ more → spent_for more l ≡ Some m → OnMade x (λ o. Grounds e c first linked place t m o after) → x ≡ Ok given → p ≡ place_of place t → slice ≡ ss → IsBrought (OwesEach e at c given p slice) os ps →
     IsBrought (λ qs. JustifiesEach e at c first linked place t ss l (Made qs after)) os ps
-told_owed_of e at c first linked place p t slice ss more given s l m after os ps x er h g ex ep es b =
-    told_each_owed e at c first linked place p t ss more given s l m after os ps x er h g ex ep (brought_as e at c given p slice ss os ps es b)
+told_owed_of e at c first linked place p t slice ss more given s l m after os ps x n er h g ex ep es b =
+    told_each_owed e at c first linked place p t ss more given s l m after os ps x n er h g ex ep (brought_as e at c given p slice ss os ps es b)
 
 pub ruleset justify_rules = (told_none, told_too_many, told_not_grounded, told_each_owed)
+
+pub ruleset large_rules = (told_too_large)

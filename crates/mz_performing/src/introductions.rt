@@ -1,5 +1,5 @@
 //! Statements that introduce names: `consider`, `reconsider`, `set`, `deffunc` and `defpred`.
-ghost use Rattle.std.specs.Prelude.{◌≡◌, ◌∷◌, [], map, is_some, Some, None, IfOk, OnOk};
+ghost use Rattle.std.specs.Prelude.{◌≡◌, ◌∷◌, [], map, true, is_some, Some, None, IfOk, OnOk};
 ghost use Rattle.std.specs.Bool.{OnTrue, OnFalse};
 ghost use Rattle.mz_core.specs.declared.outcome.Left.{Left};
 ghost use Rattle.mz_context.specs.Context.{next};
@@ -7,6 +7,7 @@ ghost use Rattle.mz_names.specs.Closing.{there_are};
 ghost use Rattle.mz_cited.specs.Cited.{members, tree_of};
 ghost use Rattle.mz_steps.specs.declared.read_step.ReadStep.TheVariants as read;
 ghost use Rattle.mz_justified.specs.Answers.{OnMade};
+ghost use Rattle.mz_justified.specs.Kept.{justifications_keep};
 ghost use Rattle.mz_justified.specs.Justified.{Justified, Put};
 ghost use Rattle.mz_walk.specs.Walked.{state, OneByOne};
 ghost use Rattle.mz_walk.specs.Performing.{Performs};
@@ -27,6 +28,7 @@ use mz_core::type_statements::is_of_type;
 use mz_given::given::Given;
 use mz_justified::grounds::{ground, place_of};
 use mz_justified::justified::{justify_simply, oblige};
+use mz_justified::kept::justifications_keep;
 use mz_justified::proof_fault::{ProofFault, ProofRefusal};
 use mz_justified::walker::{Opening, Walker};
 use mz_names::refusal::Refusal;
@@ -83,12 +85,12 @@ fn oblige_each(
     Ok(())
 }
 
-/// Puts the obligations of the statements, which are all justified by the same references, behind the others.
+/// The same of statements for which the justification makes no instance that is too large.
 ///
 /// Refusals, in this order: `TooManyObligations` at the justification where fewer are left than there are statements, and
 /// those of the references.
 #[tactic(auto, using(crate::proofs::EachLemmas::justify_rules))]
-fn justify_each(
+fn justify_kept(
     walker: Walker<'_>,
     ctx: &Context,
     opening: Opening,
@@ -98,6 +100,7 @@ fn justify_each(
     left: &mut Left,
     os: &mut Obligations,
 ) -> Result<(), ProofFault>
+    requires { justifications_keep walker.env.now ctx.now opening.linked tree.now ss.now ≡ true }
     ensures { OnMade result (Brings (λ o. JustifiesEach walker.entry.env.now walker.entry.at ctx.now opening.first opening.linked behind tree.now ss.now left.old o) left.new os.old os.new) }
 {
     match ss.items.as_slice().split_first() {
@@ -117,6 +120,31 @@ fn justify_each(
             }
         }
     }
+}
+
+/// Puts the obligations of the statements, which are all justified by the same references, behind the others.
+///
+/// Refusals, in this order: `TooLarge` at the step where an instance of a scheme for one of them is beyond the limits;
+/// `TooManyObligations` at the justification where fewer are left than there are statements, and those of the references.
+#[tactic(auto, using(crate::proofs::EachLemmas::large_rules))]
+fn justify_each(
+    walker: Walker<'_>,
+    ctx: &Context,
+    opening: Opening,
+    behind: Place,
+    tree: &SimpleTree,
+    ss: &Statements,
+    left: &mut Left,
+    os: &mut Obligations,
+) -> Result<(), ProofFault>
+    ensures { OnMade result (Brings (λ o. JustifiesEach walker.entry.env.now walker.entry.at ctx.now opening.first opening.linked behind tree.now ss.now left.old o) left.new os.old os.new) }
+{
+    let linked = opening.linked;
+    let kept = justifications_keep(walker, ctx, linked, tree, ss.items.as_slice())?;
+    if !kept {
+        return Err(ProofFault::too_large(opening.first));
+    }
+    justify_kept(walker, ctx, opening, behind, tree, ss, left, os)
 }
 
 /// The obligation that there are such objects.

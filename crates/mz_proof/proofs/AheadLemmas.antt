@@ -1,6 +1,6 @@
 -- What the code of what is told of a split ahead tells.
 use Rattle.std.proofs.Common.{◌≡◌, ◌<◌, ◌≤◌, ◌+◌, ℕ, List, [], ◌∷◌, ◌++◌, length, map, drop, get_or, add-one, Bool, true, false, Option, Some, None, refl, sym, ap, ◌∙◌, subst}
-use Rattle.std.specs.Prelude.{Result, Ok, Err}
+use Rattle.std.specs.Prelude.{Result, Ok, Err, if◌then◌else◌}
 use Rattle.std.proofs.lemmas.List.{append-nil, append_assoc}
 use Rattle.mz_free.proofs.OccurringLemmas.{drop-at}
 use Rattle.mz_base.specs.declared.place.Place.{Place}
@@ -11,6 +11,7 @@ use Rattle.mz_context.specs.declared.context.Context.{Context}
 use Rattle.mz_context.specs.declared.labelled.LabelledStatement.{LabelledStatement}
 use Rattle.mz_environment.specs.declared.environment.Environment.{Environment}
 use Rattle.mz_names.specs.declared.refusal.Refusal.{Refusal}
+use Rattle.mz_names.specs.declared.refusal.Refusal.TheVariants.{TooLarge}
 use Rattle.mz_sizes.specs.Sizes.{statement_keeps}
 use Rattle.mz_applied.specs.Within.{within}
 use Rattle.mz_resolve.specs.Answers.{OnRead}
@@ -18,14 +19,20 @@ use Rattle.mz_resolve.specs.declared.resolve_fault.ResolveFault.{ResolveFault}
 use Rattle.mz_resolve.specs.declared.resolve_fault.ResolveFault.TheVariants as reading
 use Rattle.mz_tree_proof.specs.Reasoning.{SupposeData, SupposeList, StepList, supposes_of, CaseSuppose, more_supposes}
 use Rattle.mz_tree_proof.specs.declared.propositions.HypothesesTree.{HypothesesTree}
+use Rattle.mz_tree_proof.specs.declared.references.SimpleTree.{SimpleTree}
 use Rattle.mz_steps.specs.Changes.{statement_of}
 use Rattle.mz_parts.specs.Propositions.{PropositionsRead, hypotheses_in}
+use Rattle.mz_justified.specs.Answers.{OnMade}
+use Rattle.mz_justified.specs.Kept.{justification_keeps}
+use Rattle.mz_justified.specs.declared.proof_fault.ProofFault.{ProofFault}
+use Rattle.mz_justified.specs.declared.proof_fault.ProofFault.TheVariants as fault
+use Rattle.mz_justified.specs.declared.proof_fault.ProofRefusal.{ProofRefusal}
 use Rattle.mz_justified.specs.declared.proof_fault.ProofRefusal.TheVariants.{StepNoFit, Resolve}
 use Rattle.mz_walk.specs.Performing.{is_linked}
 use Rattle.mz_walk.specs.Walk as wa
 use Rattle.mz_walk.specs.Walk.{disjunction_of, supposed_first, SuppositionsRead, nodes_alone, Foresees}
-use Rattle.mz_performing.proofs.AnswerLemmas.{on_read}
-use Rattle.mz_proof.specs.Ahead.{IsRead, ReadsCase, AreRead, ReadsCases}
+use Rattle.mz_performing.proofs.AnswerLemmas.{on_read, on_made}
+use Rattle.mz_proof.specs.Ahead.{IsRead, ReadsCase, AreRead, ReadsCases, told_ahead, foreseen_of}
 use Rattle.mz_proof.proofs.StepLemmas.{drop-gone}
 
 -- a case
@@ -120,25 +127,48 @@ told_read_back e c d rest all l from ss sold g = g.1
 pub ruleset reading_rules = (told_first_unreadable, told_reading, told_read_turn, told_read_stop, told_read_end, told_read_back)
 
 -- what is told
-pub told_not_linked : (e : Environment) (c : Context) (first : Place) (l : Left) (linked : Bool) (us : SupposeList) (k : Bool) → k ≡ is_linked linked c.previous → k ≡ false → Foresees e first c l linked us (Some (StepNoFit first))
-told_not_linked e c first l linked us k ek e0 = wa.not_linked (sym ek ∙ e0)
+pub told_not_linked : (e : Environment) (c : Context) (first : Place) (l : Left) (linked : Bool) (t : SimpleTree) (us : SupposeList) (k : Bool) → k ≡ is_linked linked c.previous → k ≡ false → Foresees e first c l linked t us (Some (StepNoFit first))
+told_not_linked e c first l linked t us k ek e0 = wa.not_linked (sym ek ∙ e0)
 
-pub told_not_foreseen : (e : Environment) (c : Context) (first : Place) (l : Left) (linked : Bool) (us : SupposeList) (k b : Bool) (old new : List Statement) → k ≡ is_linked linked c.previous → k ≡ true → ReadsCases e c us (nodes_alone l) old new b → b ≡ false → Foresees e first c l linked us None
-told_not_foreseen e c first l linked us k b old new ek e1 h eb = wa.not_foreseen (sym ek ∙ e1) (subst (ReadsCases e c us (nodes_alone l) old new) eb h)
+pub told_not_foreseen : (e : Environment) (c : Context) (first : Place) (l : Left) (linked : Bool) (t : SimpleTree) (us : SupposeList) (k b : Bool) (old new : List Statement) → k ≡ is_linked linked c.previous → k ≡ true → ReadsCases e c us (nodes_alone l) old new b → b ≡ false → Foresees e first c l linked t us None
+told_not_foreseen e c first l linked t us k b old new ek e1 h eb = wa.not_foreseen (sym ek ∙ e1) (subst (ReadsCases e c us (nodes_alone l) old new) eb h)
 
 all_read : (e : Environment) (c : Context) (us : SupposeList) (l : Left) (old new : List Statement) (b : Bool) → ReadsCases e c us l old new b → b ≡ true → old ≡ [] → SuppositionsRead e c us l (Some new)
 all_read e c us l old new b h eb eo =
     let g : AreRead e c us l old new = subst (ReadsCases e c us l old new) eb h in
     subst (λ xs. SuppositionsRead e c us l (Some xs)) (sym (g.are_behind ∙ ap (λ xs. xs ++ g.suppositions) eo)) g.are_read
 
-pub told_beyond : (e : Environment) (c : Context) (first : Place) (l : Left) (linked : Bool) (us : SupposeList) (k b : Bool) (old new ss : List Statement) (o : Result Statement Refusal) (r : Refusal) → k ≡ is_linked linked c.previous → k ≡ true → old ≡ [] → ReadsCases e c us (nodes_alone l) old new b → b ≡ true → ss ≡ new →
-    o ≡ within statement_keeps first (disjunction_of ss) → o ≡ Err r → Foresees e first c l linked us (Some (Resolve r))
-told_beyond e c first l linked us k b old new ss o r ek e1 en h eb es eo er =
-    wa.beyond new r (sym ek ∙ e1) (all_read e c us (nodes_alone l) old new b h eb en) (ap (λ xs. within statement_keeps first (disjunction_of xs)) (sym es) ∙ (sym eo ∙ er))
+by_size : (e : Environment) (c : Context) (first : Place) (l : Left) (linked : Bool) (t : SimpleTree) (us : SupposeList) (ss : List Statement) (y : Statement) (b : Bool) → is_linked linked c.previous ≡ true → SuppositionsRead e c us (nodes_alone l) (Some ss) →
+    within statement_keeps first (disjunction_of ss) ≡ Ok y → justification_keeps e c linked t y ≡ b → Foresees e first c l linked t us (if b then None else Some (Resolve (TooLarge first)))
+by_size e c first l linked t us ss y true h k g n = wa.kept ss y h k g n
+by_size e c first l linked t us ss y false h k g n = wa.instance_beyond ss y h k g n
 
-pub told_kept : (e : Environment) (c : Context) (first : Place) (l : Left) (linked : Bool) (us : SupposeList) (k b : Bool) (old new ss : List Statement) (o : Result Statement Refusal) (y : Statement) → k ≡ is_linked linked c.previous → k ≡ true → old ≡ [] → ReadsCases e c us (nodes_alone l) old new b → b ≡ true → ss ≡ new →
-    o ≡ within statement_keeps first (disjunction_of ss) → o ≡ Ok y → Foresees e first c l linked us None
-told_kept e c first l linked us k b old new ss o y ek e1 en h eb es eo er =
-    wa.kept new y (sym ek ∙ e1) (all_read e c us (nodes_alone l) old new b h eb en) (ap (λ xs. within statement_keeps first (disjunction_of xs)) (sym es) ∙ (sym eo ∙ er))
+foreseen : (e : Environment) (c : Context) (first : Place) (l : Left) (linked : Bool) (t : SimpleTree) (us : SupposeList) (ss : List Statement) (z : Result Statement Refusal) → is_linked linked c.previous ≡ true → SuppositionsRead e c us (nodes_alone l) (Some ss) →
+    within statement_keeps first (disjunction_of ss) ≡ z → Foresees e first c l linked t us (foreseen_of e first c linked t z)
+foreseen e c first l linked t us ss (Ok y) h k g = by_size e c first l linked t us ss y (justification_keeps e c linked t y) h k g refl
+foreseen e c first l linked t us ss (Err r) h k g = wa.beyond ss r h k g
 
-pub ruleset foresee_rules = (told_not_linked, told_not_foreseen, told_beyond, told_kept)
+pub told_foreseen : {X : Type 0} (e : Environment) (c d : Context) (first : Place) (l : Left) (linked : Bool) (t : SimpleTree) (us : SupposeList) (k b : Bool) (old new ss : List Statement) (z : Result Statement Refusal) (q : Result X ProofFault) → k ≡ is_linked linked c.previous → k ≡ true → old ≡ [] → ReadsCases e c us (nodes_alone l) old new b → b ≡ true → ss ≡ new →
+    d ≡ c → z ≡ within statement_keeps first (disjunction_of ss) → OnMade q (λ o. told_ahead o ≡ foreseen_of e first d linked t z) → OnMade q (λ o. Foresees e first c l linked t us (told_ahead o))
+told_foreseen {X} e c d first l linked t us k b old new ss z q ek e1 en h eb es ed ez g =
+    let P : Result X ProofRefusal → Type 0 = λ o. told_ahead o ≡ foreseen_of e first d linked t z in
+    let Q : Result X ProofRefusal → Type 0 = λ o. Foresees e first c l linked t us (told_ahead o) in
+    let there : Foresees e first c l linked t us (foreseen_of e first c linked t z) =
+    foreseen e c first l linked t us new z (sym ek ∙ e1) (all_read e c us (nodes_alone l) old new b h eb en) (ap (λ xs. within statement_keeps first (disjunction_of xs)) (sym es) ∙ sym ez) in
+    on_made P Q q g
+    (λ x m. subst (Foresees e first c l linked t us) (sym (m ∙ ap (λ w. foreseen_of e first w linked t z) ed)) there)
+    (λ r m. subst (Foresees e first c l linked t us) (sym (m ∙ ap (λ w. foreseen_of e first w linked t z) ed)) there)
+
+pub ruleset foresee_rules = (told_not_linked, told_not_foreseen, told_foreseen)
+
+-- of the disjunction
+pub told_not_made : (e : Environment) (c : Context) (first : Place) (linked : Bool) (t : SimpleTree) (z : Result Statement Refusal) (r : Refusal) → z ≡ Err r → Some (Resolve r) ≡ foreseen_of e first c linked t z
+told_not_made e c first linked t z r ez = ap (foreseen_of e first c linked t) (sym ez)
+
+pub told_large_instance : (e : Environment) (c : Context) (first : Place) (linked : Bool) (t : SimpleTree) (z : Result Statement Refusal) (y : Statement) (b : Bool) → z ≡ Ok y → b ≡ justification_keeps e c linked t y → b ≡ false → Some (Resolve (TooLarge first)) ≡ foreseen_of e first c linked t z
+told_large_instance e c first linked t z y b ez eb n = sym (ap (foreseen_of e first c linked t) ez ∙ ap (λ k. if k then None else Some (Resolve (TooLarge first))) (sym eb ∙ n))
+
+pub told_kept_instance : (e : Environment) (c : Context) (first : Place) (linked : Bool) (t : SimpleTree) (z : Result Statement Refusal) (y : Statement) (b : Bool) → z ≡ Ok y → b ≡ justification_keeps e c linked t y → b ≡ true → None ≡ foreseen_of e first c linked t z
+told_kept_instance e c first linked t z y b ez eb n = sym (ap (foreseen_of e first c linked t) ez ∙ ap (λ k. if k then None else Some (Resolve (TooLarge first))) (sym eb ∙ n))
+
+pub ruleset large_rules = (told_not_made, told_large_instance, told_kept_instance)

@@ -161,31 +161,31 @@ told_end_back e at c d rest all l from ss sold os old g = g.1
 -- a split
 -- what is told ahead
 foreseen_none : {Z : Type 0} (e : Environment) (first : Place) (c : Context) (l : Left) (linked : Bool) (us : SupposeList) (tree : SplitTree) (w : Result Z ProofFault) (v : Z) → linked ≡ is_some tree.then →
-    OnMade w (λ o. Foresees e first c l linked us (told_ahead o)) → w ≡ Ok v → Foresees e first c l (is_some tree.then) us None
+    OnMade w (λ o. Foresees e first c l linked tree.simple us (told_ahead o)) → w ≡ Ok v → Foresees e first c l (is_some tree.then) tree.simple us None
 foreseen_none {Z} e first c l linked us tree w v el a ew =
-    let P : Result Z ProofRefusal → Type 0 = λ o. Foresees e first c l linked us (told_ahead o) in
-    subst (λ z. Foresees e first c l z us None) el (on_ok P w v ew a)
+    let P : Result Z ProofRefusal → Type 0 = λ o. Foresees e first c l linked tree.simple us (told_ahead o) in
+    subst (λ z. Foresees e first c l z tree.simple us None) el (on_ok P w v ew a)
 
 pub told_foreseen : {X : Type 0} (Y : Type 0) (e : Environment) (at : Extent) (c : Context) (b : Block) (first : Place) (linked : Bool) (tree : SplitTree) (us : SupposeList) (l : Left) (t : State) (os ps : List Obligation) (w : Result X ProofFault) (f : ProofFault) → linked ≡ is_some tree.then →
-    OnMade w (λ o. Foresees e first c l linked us (told_ahead o)) → w ≡ Err f → OnMade {X = Y} (Err f) (Brings (Splits e at (state c b l) first tree us) t os ps)
+    OnMade w (λ o. Foresees e first c l linked tree.simple us (told_ahead o)) → w ≡ Err f → OnMade {X = Y} (Err f) (Brings (Splits e at (state c b l) first tree us) t os ps)
 told_foreseen {X} Y e at c b first linked tree us l t os ps w f el a ew =
-    let P : Result X ProofRefusal → Type 0 = λ o. Foresees e first c l linked us (told_ahead o) in
+    let P : Result X ProofRefusal → Type 0 = λ o. Foresees e first c l linked tree.simple us (told_ahead o) in
     let Q : Result Y ProofRefusal → Type 0 = Brings (Splits e at (state c b l) first tree us) t os ps in
-    on_err P Q w f ew a (λ r k. wa.foreseen (state c b l) first tree us r (subst (λ z. Foresees e first c l z us (Some r)) el k))
+    on_err P Q w f ew a (λ r k. wa.foreseen (state c b l) first tree us r (subst (λ z. Foresees e first c l z tree.simple us (Some r)) el k))
 
 pub told_not_grounded : {Z : Type 0} (Y : Type 0) (e : Environment) (at : Extent) (c d : Context) (b : Block) (first place : Place) (linked : Bool) (tree : SplitTree) (us : SupposeList) (l m : Left) (t : State) (os ps : List Obligation) (w : Result Z ProofFault) (v : Z) (y : Result Given ProofFault) (f : ProofFault) → linked ≡ is_some tree.then → place ≡ tree.semicolon →
-    OnMade w (λ o. Foresees e first c l linked us (told_ahead o)) → w ≡ Ok v → OnOk w (d ≡ c) → OnMade y (λ o. Grounds e d first linked place tree.simple l o m) → y ≡ Err f → OnMade {X = Y} (Err f) (Brings (Splits e at (state c b l) first tree us) t os ps)
+    OnMade w (λ o. Foresees e first c l linked tree.simple us (told_ahead o)) → w ≡ Ok v → OnOk w (d ≡ c) → OnMade y (λ o. Grounds e d first linked place tree.simple l o m) → y ≡ Err f → OnMade {X = Y} (Err f) (Brings (Splits e at (state c b l) first tree us) t os ps)
 told_not_grounded {Z} Y e at c d b first place linked tree us l m t os ps w v y f el ep a ew same h' ey =
-    let none : Foresees e first c l (is_some tree.then) us None = foreseen_none e first c l linked us tree w v el a ew in
+    let none : Foresees e first c l (is_some tree.then) tree.simple us None = foreseen_none e first c l linked us tree w v el a ew in
     let h : OnMade y (λ o. Grounds e c first linked place tree.simple l o m) = subst (λ z. OnMade y (λ o. Grounds e z first linked place tree.simple l o m)) (made_so w v ew same) h' in
     let P : Result Given ProofRefusal → Type 0 = λ o. Grounds e c first (is_some tree.then) tree.semicolon tree.simple l o m in
     let Q : Result Y ProofRefusal → Type 0 = Brings (Splits e at (state c b l) first tree us) t os ps in
     on_err P Q y f ey (subst (λ z. OnMade y (λ o. Grounds e c first (is_some tree.then) z tree.simple l o m)) ep (subst (λ z. OnMade y (λ o. Grounds e c first z place tree.simple l o m)) el h)) (λ r k. wa.not_grounded (state c b l) first tree us r m none k)
 
 pub told_stopped : {X Z : Type 0} (Y : Type 0) (e : Environment) (at : Extent) (c d : Context) (b : Block) (first place : Place) (linked : Bool) (tree : SplitTree) (us : SupposeList) (l m n : Left) (t : State) (os ps inner inner' : List Obligation) (sold snew : List Statement) (x : Result Z ProofFault) (v : Z) (y : Result Given ProofFault) (given : Given) (w : Result X ProofFault) (f : ProofFault) → linked ≡ is_some tree.then → place ≡ tree.semicolon →
-    OnMade x (λ o. Foresees e first c l linked us (told_ahead o)) → x ≡ Ok v → OnOk x (d ≡ c) → OnMade y (λ o. Grounds e d first linked place tree.simple l o m) → y ≡ Ok given → OnMade w (TakesCases (Supposes e at d us m) n sold snew inner inner') → w ≡ Err f → OnMade {X = Y} (Err f) (Brings (Splits e at (state c b l) first tree us) t os ps)
+    OnMade x (λ o. Foresees e first c l linked tree.simple us (told_ahead o)) → x ≡ Ok v → OnOk x (d ≡ c) → OnMade y (λ o. Grounds e d first linked place tree.simple l o m) → y ≡ Ok given → OnMade w (TakesCases (Supposes e at d us m) n sold snew inner inner') → w ≡ Err f → OnMade {X = Y} (Err f) (Brings (Splits e at (state c b l) first tree us) t os ps)
 told_stopped {X} {Z} Y e at c d b first place linked tree us l m n t os ps inner inner' sold snew x v y given w f el ep a ex same h' ey k' ew =
-    let none : Foresees e first c l (is_some tree.then) us None = foreseen_none e first c l linked us tree x v el a ex in
+    let none : Foresees e first c l (is_some tree.then) tree.simple us None = foreseen_none e first c l linked us tree x v el a ex in
     let h : OnMade y (λ o. Grounds e c first linked place tree.simple l o m) = subst (λ z. OnMade y (λ o. Grounds e z first linked place tree.simple l o m)) (made_so x v ex same) h' in
     let k : OnMade w (TakesCases (Supposes e at c us m) n sold snew inner inner') = subst (λ z. OnMade w (TakesCases (Supposes e at z us m) n sold snew inner inner')) (made_so x v ex same) k' in
     let P : Result Given ProofRefusal → Type 0 = λ o. Grounds e c first (is_some tree.then) tree.semicolon tree.simple l o m in
@@ -195,10 +195,10 @@ told_stopped {X} {Z} Y e at c d b first place linked tree us l m n t os ps inner
     on_err S Q w f ew k (λ r z. wa.cases_stopped (state c b l) first tree us given m r none grounded z)
 
 pub told_split : {X Y Z : Type 0} (e : Environment) (at : Extent) (c c' d d' : Context) (b : Block) (first place : Place) (linked : Bool) (tree : SplitTree) (us : SupposeList) (l m n : Left) (os ps inner inner' inner'' : List Obligation) (sold snew ss : List Statement) (gs : Given) (x : Result Z ProofFault) (x' : Z) (y : Result Given ProofFault) (given : Given) (w : Result X ProofFault) (v : X) (q : Result Y ProofFault) → linked ≡ is_some tree.then → place ≡ tree.semicolon →
-    OnMade x (λ o. Foresees e first c l linked us (told_ahead o)) → x ≡ Ok x' → OnOk x (c' ≡ c) → OnMade y (λ o. Grounds e c' first linked place tree.simple l o m) → y ≡ Ok given → inner ≡ [] → sold ≡ [] → OnMade w (TakesCases (Supposes e at c' us m) n sold snew inner inner') → w ≡ Ok v → OnOk w (d ≡ c') → inner'' ≡ inner' → ss ≡ snew → gs ≡ given →
+    OnMade x (λ o. Foresees e first c l linked tree.simple us (told_ahead o)) → x ≡ Ok x' → OnOk x (c' ≡ c) → OnMade y (λ o. Grounds e c' first linked place tree.simple l o m) → y ≡ Ok given → inner ≡ [] → sold ≡ [] → OnMade w (TakesCases (Supposes e at c' us m) n sold snew inner inner') → w ≡ Ok v → OnOk w (d ≡ c') → inner'' ≡ inner' → ss ≡ snew → gs ≡ given →
     OnMade q (SplitEnds e at d d' first tree gs ss inner'' os ps) → OnMade q (Brings (Splits e at (state c b l) first tree us) (state d' b n) os ps)
 told_split {X} {Y} {Z} e at c c' d d' b first place linked tree us l m n os ps inner inner' inner'' sold snew ss gs x x' y given w v q el ep a ex first_same h' ey ei es k' ew same' ei' es' eg j =
-    let none : Foresees e first c l (is_some tree.then) us None = foreseen_none e first c l linked us tree x x' el a ex in
+    let none : Foresees e first c l (is_some tree.then) tree.simple us None = foreseen_none e first c l linked us tree x x' el a ex in
     let is_c : c' ≡ c = made_so x x' ex first_same in
     let h : OnMade y (λ o. Grounds e c first linked place tree.simple l o m) = subst (λ z. OnMade y (λ o. Grounds e z first linked place tree.simple l o m)) is_c h' in
     let k : OnMade w (TakesCases (Supposes e at c us m) n sold snew inner inner') = subst (λ z. OnMade w (TakesCases (Supposes e at z us m) n sold snew inner inner')) is_c k' in

@@ -1,11 +1,17 @@
 -- What the cases of a split suppose, read ahead.
-use Rattle.std.specs.Prelude.{◌≡◌, ◌++◌, ◌∷◌, [], List, Bool, true, false, Option, Some, None, Result, Ok, Err}
+use Rattle.std.specs.Prelude.{◌≡◌, ◌++◌, ◌∷◌, [], List, Bool, true, false, if◌then◌else◌, Option, Some, None, Result, Ok, Err}
+use Rattle.mz_base.specs.declared.place.Place.{Place}
 use Rattle.mz_core.specs.Statement.{Statement}
 use Rattle.mz_core.specs.declared.outcome.Left.{Left}
 use Rattle.mz_context.specs.declared.context.Context.{Context}
 use Rattle.mz_environment.specs.declared.environment.Environment.{Environment}
 use Rattle.mz_tree_proof.specs.Reasoning.{SupposeData, SupposeList, more_supposes}
+use Rattle.mz_tree_proof.specs.declared.references.SimpleTree.{SimpleTree}
+use Rattle.mz_names.specs.declared.refusal.Refusal.{Refusal}
+use Rattle.mz_names.specs.declared.refusal.Refusal.TheVariants.{TooLarge}
+use Rattle.mz_justified.specs.Kept.{justification_keeps}
 use Rattle.mz_justified.specs.declared.proof_fault.ProofRefusal.{ProofRefusal}
+use Rattle.mz_justified.specs.declared.proof_fault.ProofRefusal.TheVariants.{Resolve}
 use Rattle.mz_walk.specs.Walk.{supposed_first, SuppositionsRead}
 
 -- what a case supposes was read, and put behind the others: whatever is read of the cases behind it, with it there stands this in
@@ -34,3 +40,9 @@ ReadsCases e c us l old new false = SuppositionsRead e c us l None
 abbrev pub told_ahead : {X : Type 0} → Result X ProofRefusal → Option ProofRefusal
 told_ahead (Ok x) = None
 told_ahead (Err r) = Some r
+
+-- the refusal, where there is one, of the disjunction that the cases suppose: that of making it, or that an instance of a scheme that the
+-- justification makes for it is too large
+abbrev pub foreseen_of : Environment → Place → Context → Bool → SimpleTree → Result Statement Refusal → Option ProofRefusal
+foreseen_of e first c linked t (Ok y) = if justification_keeps e c linked t y then None else Some (Resolve (TooLarge first))
+foreseen_of e first c linked t (Err r) = Some (Resolve r)

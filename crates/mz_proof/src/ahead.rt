@@ -5,7 +5,7 @@ ghost use Rattle.mz_tree_proof.specs.Reasoning.{supposes_of, more_supposes};
 ghost use Rattle.mz_steps.specs.Changes.{statement_of};
 ghost use Rattle.mz_justified.specs.Answers.{OnMade};
 ghost use Rattle.mz_walk.specs.Walk.{nodes_alone, Foresees};
-ghost use Rattle.mz_proof.specs.Ahead.{ReadsCase, ReadsCases, told_ahead};
+ghost use Rattle.mz_proof.specs.Ahead.{ReadsCase, ReadsCases, told_ahead, foreseen_of};
 
 use crate::parts::case_parts;
 use mz_context::context::Context;
@@ -15,14 +15,17 @@ use mz_core::outcome::Left;
 use mz_core::parts::conjunction;
 use mz_core::statement::Statement;
 use mz_core::statements::Statements;
+use mz_justified::kept::justification_keeps;
 use mz_justified::proof_fault::{ProofFault, ProofRefusal};
 use mz_justified::walker::{Opening, Walker};
+use mz_names::refusal::Refusal;
 use mz_parts::propositions::read_hypotheses;
 use mz_performing::cases::disjunction_of;
 use mz_performing::linked::is_linked;
 use mz_resolve::resolve_fault::ResolveFault;
 use mz_steps::changes::statements_of;
 use mz_tree_proof::reasoning::{SupposeTree, SupposeTrees};
+use mz_tree_proof::references::SimpleTree;
 use std::alloc::{AllocError, Global};
 
 /// The conjunction of the propositions.
@@ -110,20 +113,46 @@ fn read_ahead(
     read_cases(walker, ctx, case, more, &mut ahead, out)
 }
 
+/// The same of the disjunction, or why it isn't made.
+#[tactic(auto, using(crate::proofs::AheadLemmas::large_rules))]
+fn foresee_instances(
+    walker: Walker<'_>,
+    ctx: &Context,
+    opening: Opening,
+    tree: &SimpleTree,
+    disjunction: Result<Statement, Refusal>,
+) -> Result<(), ProofFault>
+    ensures { OnMade result (λ o. told_ahead o ≡ foreseen_of walker.entry.env.now opening.first ctx.now opening.linked tree.now disjunction) }
+{
+    match disjunction {
+        Err(r) => Err(ProofFault::Refused(ProofRefusal::Resolve(r))),
+        Ok(s) => {
+            let kept = justification_keeps(walker, ctx, opening.linked, tree, &s)?;
+            if !kept {
+                return Err(ProofFault::Refused(ProofRefusal::Resolve(Refusal::TooLarge(
+                    opening.first,
+                ))));
+            }
+            Ok(())
+        }
+    }
+}
+
 /// Sees whether something can be told of a split before its justification. The context is as before.
 ///
 /// Refusals, at the place: `StepNoFit` where it is linked and there is no statement just before; `TooLarge` where all that its
-/// cases suppose can be read and their disjunction is beyond the limits.
+/// cases suppose can be read and their disjunction, or an instance of a scheme that the justification makes for it, is beyond the limits.
 #[tactic(auto, using(crate::proofs::AheadLemmas::foresee_rules))]
 pub fn foresee(
     walker: Walker<'_>,
     ctx: &mut Context,
     opening: Opening,
+    tree: &SimpleTree,
     case: &SupposeTree,
     more: &SupposeTrees,
     left: &Left,
 ) -> Result<(), ProofFault>
-    ensures foresees { OnMade result (λ o. Foresees walker.entry.env.now opening.first ctx.old left.now opening.linked (more_supposes case.now (supposes_of more.now)) (told_ahead o)) }
+    ensures foresees { OnMade result (λ o. Foresees walker.entry.env.now opening.first ctx.old left.now opening.linked tree.now (more_supposes case.now (supposes_of more.now)) (told_ahead o)) }
     ensures same { OnOk result (ctx.new ≡ ctx.old) }
 {
     if !is_linked(opening.linked, ctx) {
@@ -133,8 +162,6 @@ pub fn foresee(
     if !read_ahead(walker, ctx, case, more, left, &mut supposed)? {
         return Ok(());
     }
-    match disjunction_of(walker.alloc, opening.first, supposed)? {
-        Ok(_) => Ok(()),
-        Err(r) => Err(ProofFault::Refused(ProofRefusal::Resolve(r))),
-    }
+    let disjunction = disjunction_of(walker.alloc, opening.first, supposed)?;
+    foresee_instances(walker, ctx, opening, tree, disjunction)
 }

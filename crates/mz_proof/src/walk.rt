@@ -264,7 +264,7 @@ fn split(
 {
     let linked = tree.then.is_some();
     let opening = Opening { first, linked };
-    match foresee(walker, ctx, opening, case, more, left) {
+    match foresee(walker, ctx, opening, &tree.simple, case, more, left) {
         Ok(()) => {}
         Err(f) => return Err(f),
     }

@@ -35,6 +35,7 @@ use Rattle.mz_parts.specs.Named.{NamedRead, RetypedRead}
 use Rattle.mz_parts.specs.declared.described.Description.{Description}
 use Rattle.mz_private.specs.Private.{FunctorRead, PredicateRead, with_functor, with_predicate}
 use Rattle.mz_given.specs.declared.given.Given.{Given}
+use Rattle.mz_justified.specs.Kept.{justifications_keep}
 use Rattle.mz_justified.specs.Justified.{Grounds, Owes, Justified, place_of}
 use Rattle.mz_justified.specs.declared.proof_fault.ProofRefusal.{ProofRefusal}
 use Rattle.mz_justified.specs.declared.proof_fault.ProofRefusal.TheVariants.{StepNoFit, Resolve, TooManyObligations}
@@ -56,13 +57,17 @@ pub data OwesEach (e : Environment) (at : Extent) (c : Context) (given : Given) 
   owes_none : OwesEach e at c given place [] []
   owes_more : (s : Statement) (ss : List Statement) (o : Obligation) (os : List Obligation) → Owes e at c given s place o → OwesEach e at c given place ss os → OwesEach e at c given place (s ∷ ss) (o ∷ os)
 
--- statements that are all justified by the same references: an obligation for each has to be left before these are looked at
+-- statements that are all justified by the same references: no instance of a scheme for one of them is too large, and an obligation for
+-- each has to be left before the references are looked at
 pub data JustifiesEach (e : Environment) (at : Extent) (c : Context) (first : Place) (linked : Bool) (place : Place) (t : SimpleTree) : List Statement → Left → Walked Left → Type 0 where
   none_owed : (l : Left) → JustifiesEach e at c first linked place t [] l (Made [] l)
-  too_many : (s : Statement) (ss : List Statement) (l : Left) → spent_for ss l ≡ None → JustifiesEach e at c first linked place t (s ∷ ss) l (Refused (TooManyObligations (place_of place t)))
-  not_grounded : (s : Statement) (ss : List Statement) (l m after : Left) (r : ProofRefusal) → spent_for ss l ≡ Some m → Grounds e c first linked place t m (Err r) after → JustifiesEach e at c first linked place t (s ∷ ss) l (Refused r)
-  each_owed : (s : Statement) (ss : List Statement) (given : Given) (l m after : Left) (os : List Obligation) → spent_for ss l ≡ Some m → Grounds e c first linked place t m (Ok given) after →
-      OwesEach e at c given (place_of place t) (s ∷ ss) os → JustifiesEach e at c first linked place t (s ∷ ss) l (Made os after)
+  too_large : (s : Statement) (ss : List Statement) (l : Left) → justifications_keep e c linked t (s ∷ ss) ≡ false → JustifiesEach e at c first linked place t (s ∷ ss) l (Refused (Resolve (TooLarge first)))
+  too_many : (s : Statement) (ss : List Statement) (l : Left) → justifications_keep e c linked t (s ∷ ss) ≡ true → spent_for ss l ≡ None →
+      JustifiesEach e at c first linked place t (s ∷ ss) l (Refused (TooManyObligations (place_of place t)))
+  not_grounded : (s : Statement) (ss : List Statement) (l m after : Left) (r : ProofRefusal) → justifications_keep e c linked t (s ∷ ss) ≡ true → spent_for ss l ≡ Some m →
+      Grounds e c first linked place t m (Err r) after → JustifiesEach e at c first linked place t (s ∷ ss) l (Refused r)
+  each_owed : (s : Statement) (ss : List Statement) (given : Given) (l m after : Left) (os : List Obligation) → justifications_keep e c linked t (s ∷ ss) ≡ true → spent_for ss l ≡ Some m →
+      Grounds e c first linked place t m (Ok given) after → OwesEach e at c given (place_of place t) (s ∷ ss) os → JustifiesEach e at c first linked place t (s ∷ ss) l (Made os after)
 
 -- `consider x being T such that A`: that there is such an object has to be justified. The step fits wherever it stands
 pub data Considers (e : Environment) (at : Extent) (first : Place) (s : State) (t : ConsiderTree) : Walked State → Type 0 where

@@ -40,6 +40,7 @@ use Rattle.mz_obligations.specs.declared.obligation.Obligation.{Obligation}
 use Rattle.mz_parts.specs.Joined.{joined_within}
 use Rattle.mz_parts.specs.Propositions.{label_in, PropositionsRead, hypotheses_in}
 use Rattle.mz_given.specs.declared.given.Given.{Given}
+use Rattle.mz_justified.specs.Kept.{justification_keeps}
 use Rattle.mz_justified.specs.Justified.{Grounds, Owes, Justified, place_of}
 use Rattle.mz_justified.specs.declared.proof_fault.ProofRefusal.{ProofRefusal}
 use Rattle.mz_justified.specs.declared.proof_fault.ProofRefusal.TheVariants.{StepNoFit, ThesisLeft, Resolve}
@@ -114,12 +115,15 @@ abbrev pub nodes_alone : Left → Left
 nodes_alone l = record { nodes = l.nodes; obligations = 0; made = [] }
 
 -- what can be told of a split before its justification: that it follows no statement; or, where all that its cases suppose can be
--- read, that their disjunction is beyond the limits
-pub data Foresees (e : Environment) (first : Place) (c : Context) (l : Left) (linked : Bool) (us : SupposeList) : Option ProofRefusal → Type 0 where
-  not_linked : is_linked linked c.previous ≡ false → Foresees e first c l linked us (Some (StepNoFit first))
-  not_foreseen : is_linked linked c.previous ≡ true → SuppositionsRead e c us (nodes_alone l) None → Foresees e first c l linked us None
-  beyond : (ss : List Statement) (r : Refusal) → is_linked linked c.previous ≡ true → SuppositionsRead e c us (nodes_alone l) (Some ss) → within statement_keeps first (disjunction_of ss) ≡ Err r → Foresees e first c l linked us (Some (Resolve r))
-  kept : (ss : List Statement) (y : Statement) → is_linked linked c.previous ≡ true → SuppositionsRead e c us (nodes_alone l) (Some ss) → within statement_keeps first (disjunction_of ss) ≡ Ok y → Foresees e first c l linked us None
+-- read, that their disjunction, or an instance of a scheme that the justification makes for it, is beyond the limits
+pub data Foresees (e : Environment) (first : Place) (c : Context) (l : Left) (linked : Bool) (t : SimpleTree) (us : SupposeList) : Option ProofRefusal → Type 0 where
+  not_linked : is_linked linked c.previous ≡ false → Foresees e first c l linked t us (Some (StepNoFit first))
+  not_foreseen : is_linked linked c.previous ≡ true → SuppositionsRead e c us (nodes_alone l) None → Foresees e first c l linked t us None
+  beyond : (ss : List Statement) (r : Refusal) → is_linked linked c.previous ≡ true → SuppositionsRead e c us (nodes_alone l) (Some ss) → within statement_keeps first (disjunction_of ss) ≡ Err r → Foresees e first c l linked t us (Some (Resolve r))
+  instance_beyond : (ss : List Statement) (y : Statement) → is_linked linked c.previous ≡ true → SuppositionsRead e c us (nodes_alone l) (Some ss) → within statement_keeps first (disjunction_of ss) ≡ Ok y →
+      justification_keeps e c linked t y ≡ false → Foresees e first c l linked t us (Some (Resolve (TooLarge first)))
+  kept : (ss : List Statement) (y : Statement) → is_linked linked c.previous ≡ true → SuppositionsRead e c us (nodes_alone l) (Some ss) → within statement_keeps first (disjunction_of ss) ≡ Ok y →
+      justification_keeps e c linked t y ≡ true → Foresees e first c l linked t us None
 
 mutual
   -- a justification of a sentence: by references, of the closed sentence; or by a proof, in which its free reserved variables are
@@ -189,16 +193,16 @@ mutual
   -- a split into cases: what can be told of it ahead comes first, for it stands at its first token. What justifies it is looked at
   -- before the cases; what it has to justify, that one of the cases holds, is asked before what they ask
   pub data Splits (e : Environment) (at : Extent) : State → Place → SplitTree → SupposeList → Walked State → Type 0 where
-    foreseen : (s : State) (first : Place) (t : SplitTree) (us : SupposeList) (r : ProofRefusal) → Foresees e first s.context s.left (is_some t.then) us (Some r) → Splits e at s first t us (Refused r)
+    foreseen : (s : State) (first : Place) (t : SplitTree) (us : SupposeList) (r : ProofRefusal) → Foresees e first s.context s.left (is_some t.then) t.simple us (Some r) → Splits e at s first t us (Refused r)
     not_grounded : (s : State) (first : Place) (t : SplitTree) (us : SupposeList) (r : ProofRefusal) (l : Left) →
-        Foresees e first s.context s.left (is_some t.then) us None → Grounds e s.context first (is_some t.then) t.semicolon t.simple s.left (Err r) l → Splits e at s first t us (Refused r)
+        Foresees e first s.context s.left (is_some t.then) t.simple us None → Grounds e s.context first (is_some t.then) t.semicolon t.simple s.left (Err r) l → Splits e at s first t us (Refused r)
     cases_stopped : (s : State) (first : Place) (t : SplitTree) (us : SupposeList) (given : Given) (l : Left) (r : ProofRefusal) →
-        Foresees e first s.context s.left (is_some t.then) us None → Grounds e s.context first (is_some t.then) t.semicolon t.simple s.left (Ok given) l → Supposes e at s.context us l (Refused r) → Splits e at s first t us (Refused r)
+        Foresees e first s.context s.left (is_some t.then) t.simple us None → Grounds e s.context first (is_some t.then) t.semicolon t.simple s.left (Ok given) l → Supposes e at s.context us l (Refused r) → Splits e at s first t us (Refused r)
     cases_too_large : (s : State) (first : Place) (t : SplitTree) (us : SupposeList) (given : Given) (l : Left) (os : List Obligation) (x : Cases) (r : Refusal) →
-        Foresees e first s.context s.left (is_some t.then) us None → Grounds e s.context first (is_some t.then) t.semicolon t.simple s.left (Ok given) l → Supposes e at s.context us l (Made os x) →
+        Foresees e first s.context s.left (is_some t.then) t.simple us None → Grounds e s.context first (is_some t.then) t.semicolon t.simple s.left (Ok given) l → Supposes e at s.context us l (Made os x) →
         within statement_keeps first (disjunction_of x.suppositions) ≡ Err r → Splits e at s first t us (Refused (Resolve r))
     split : (s : State) (first : Place) (t : SplitTree) (us : SupposeList) (given : Given) (l : Left) (os : List Obligation) (x : Cases) (y : Statement) (o : Obligation) →
-        Foresees e first s.context s.left (is_some t.then) us None → Grounds e s.context first (is_some t.then) t.semicolon t.simple s.left (Ok given) l → Supposes e at s.context us l (Made os x) →
+        Foresees e first s.context s.left (is_some t.then) t.simple us None → Grounds e s.context first (is_some t.then) t.semicolon t.simple s.left (Ok given) l → Supposes e at s.context us l (Made os x) →
         within statement_keeps first (disjunction_of x.suppositions) ≡ Ok y →
         Owes e at s.context given y (place_of t.semicolon t.simple) o →
         Splits e at s first t us (Made (o ∷ os) (behind_cases s x.left))

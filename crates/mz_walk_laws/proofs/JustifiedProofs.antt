@@ -161,8 +161,9 @@ owed_derives W b held g c p at (ByScheme y ss) known s stands place x owes met =
     from_law b.axioms (facts c ++ held) (typing b.env c) c.constants (granted b.axioms held (typing b.env c) b.env.expansions c rests) rests.in_force y known.1 known.0 ss s in_force known.2.0 found
 
 pub justified_derives : (W : Context → Type 0) (b : Basis) (held : List Formula) → IsGrounded b held → (c : Context) → IsProper W b held c → (at : Extent) (first behind : Place) (linked : Bool) (t : SimpleTree) (s : Statement) → Stands (next c) s → (l : Left) (o : Result Obligation ProofRefusal) (m : Left) → Justified b.env at c first linked behind t s l o m → WhereOk o (λ x. IsMet b.axioms b.clauses x → Derives b.axioms (facts c ++ held) (erase s))
-justified_derives W b held g c p at first behind linked t s stands l o m (justified.not_grounded r after h) = tt
-justified_derives W b held g c p at first behind linked t s stands l o m (justified.owed ss x after h k) =
+justified_derives W b held g c p at first behind linked t s stands l o m (justified.too_large after n) = tt
+justified_derives W b held g c p at first behind linked t s stands l o m (justified.not_grounded r after n h) = tt
+justified_derives W b held g c p at first behind linked t s stands l o m (justified.owed ss x after n h k) =
     owed_derives W b held g c p at ss (grounds_known W b held g c p first behind linked t l (Ok ss) after h) s stands (justified.place_of behind t) x k
 
 -- several statements by the same references
@@ -188,9 +189,10 @@ owed_each W b held g c p at given known place ss stand os (introductions.owes_mo
 
 pub each_justified : (W : Context → Type 0) (b : Basis) (held : List Formula) → IsGrounded b held → (c : Context) → IsProper W b held c → (at : Extent) (first place : Place) (linked : Bool) (t : SimpleTree) (ss : List Statement) → AllStand (next c) ss → (l : Left) (w : Walked Left) → JustifiesEach b.env at c first linked place t ss l w → WhereMade w (λ os m. AreMet b.axioms b.clauses os → AllDerived b.axioms (facts c ++ held) ss)
 each_justified W b held g c p at first place linked t ss stand l w (introductions.none_owed x) = λ met. none_derived b.axioms (facts c ++ held)
-each_justified W b held g c p at first place linked t ss stand l w (introductions.too_many s ts x h) = tt
-each_justified W b held g c p at first place linked t ss stand l w (introductions.not_grounded s ts x m after r h k) = tt
-each_justified W b held g c p at first place linked t ss stand l w (introductions.each_owed s ts given x m after os h k owes) =
+each_justified W b held g c p at first place linked t ss stand l w (introductions.too_large s ts x y) = tt
+each_justified W b held g c p at first place linked t ss stand l w (introductions.too_many s ts x y h) = tt
+each_justified W b held g c p at first place linked t ss stand l w (introductions.not_grounded s ts x m after r y h k) = tt
+each_justified W b held g c p at first place linked t ss stand l w (introductions.each_owed s ts given x m after os y h k owes) =
     owed_each W b held g c p at given (grounds_known W b held g c p first place linked t m (Ok given) after k) (justified.place_of place t) (s ∷ ts) stand os owes
 
 -- the further equations of an iterative equality

@@ -174,8 +174,9 @@ owed_made e at c (ByStatements ss) s place o h = (h.extent_is, h.letters_are)
 owed_made e at c (ByScheme x ss) s place o h = (h.extent_is, h.letters_are)
 
 justified_made : (e : Environment) (at : Extent) (c : Context) (first place : Place) (linked : Bool) (t : SimpleTree) (s : Statement) (l : Left) (o : Result Obligation ProofRefusal) (m : Left) → Justified e at c first linked place t s l o m → WhereOk o (IsMadeAt at c.letters)
-justified_made e at c first place linked t s l o m (justified.not_grounded r after h) = tt
-justified_made e at c first place linked t s l o m (justified.owed ss x after h k) = owed_made e at c ss s (justified.place_of place t) x k
+justified_made e at c first place linked t s l o m (justified.too_large after n) = tt
+justified_made e at c first place linked t s l o m (justified.not_grounded r after n h) = tt
+justified_made e at c first place linked t s l o m (justified.owed ss x after n h k) = owed_made e at c ss s (justified.place_of place t) x k
 
 each_made : (e : Environment) (at : Extent) (c : Context) (given : Given) (place : Place) (ss : List Statement) (os : List Obligation) → OwesEach e at c given place ss os → AreMadeAt at c.letters os
 each_made e at c given place ss os introductions.owes_none = none_made at c.letters
@@ -183,9 +184,10 @@ each_made e at c given place ss os (introductions.owes_more s ts o ps h more) = 
 
 all_made : (e : Environment) (at : Extent) (c : Context) (first place : Place) (linked : Bool) (t : SimpleTree) (ss : List Statement) (l : Left) (w : Walked Left) → JustifiesEach e at c first linked place t ss l w → WhereMade w (λ os m. AreMadeAt at c.letters os)
 all_made e at c first place linked t ss l w (introductions.none_owed x) = none_made at c.letters
-all_made e at c first place linked t ss l w (introductions.too_many s ts x h) = tt
-all_made e at c first place linked t ss l w (introductions.not_grounded s ts x m after r h k) = tt
-all_made e at c first place linked t ss l w (introductions.each_owed s ts given x m after os h k owes) = each_made e at c given (justified.place_of place t) (s ∷ ts) os owes
+all_made e at c first place linked t ss l w (introductions.too_large s ts x y) = tt
+all_made e at c first place linked t ss l w (introductions.too_many s ts x y h) = tt
+all_made e at c first place linked t ss l w (introductions.not_grounded s ts x m after r y h k) = tt
+all_made e at c first place linked t ss l w (introductions.each_owed s ts given x m after os y h k owes) = each_made e at c given (justified.place_of place t) (s ∷ ts) os owes
 
 sides_made : (e : Environment) (at : Extent) (c : Context) (first semicolon : Place) (ks : List EqualityStepTree) (ss : List Statement) (l : Left) (w : Walked Left) → JustifiesSides e at c first semicolon ks ss l w → WhereMade w (λ os m. AreMadeAt at c.letters os)
 sides_made e at c first semicolon ks ss l w (compact.none_owed x) = none_made at c.letters

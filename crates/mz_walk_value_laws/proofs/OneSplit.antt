@@ -9,17 +9,20 @@ use Rattle.mz_context.specs.declared.context.Context.{Context}
 use Rattle.mz_context.specs.declared.labelled.LabelledStatement.{LabelledStatement}
 use Rattle.mz_environment.specs.declared.environment.Environment.{Environment}
 use Rattle.mz_names.specs.declared.refusal.Refusal.{Refusal}
+use Rattle.mz_names.specs.declared.refusal.Refusal.TheVariants.{TooLarge}
 use Rattle.mz_sizes.specs.Sizes.{statement_keeps}
 use Rattle.mz_applied.specs.Within.{within}
 use Rattle.mz_steps.specs.Changes.{statement_of, with_stated}
 use Rattle.mz_tree_proof.specs.Reasoning.{StepList, SupposeList, CaseSuppose, no_supposes, more_supposes}
 use Rattle.mz_tree_proof.specs.declared.propositions.HypothesesTree.{HypothesesTree}
+use Rattle.mz_tree_proof.specs.declared.references.SimpleTree.{SimpleTree}
 use Rattle.mz_tree_proof.specs.declared.skeleton.SplitTree.{SplitTree}
 use Rattle.mz_obligations.specs.declared.obligation.Extent.{Extent}
 use Rattle.mz_obligations.specs.declared.obligation.Obligation.{Obligation}
 use Rattle.mz_parts.specs.Joined.{joined_within}
 use Rattle.mz_parts.specs.Propositions.{PropositionsRead, hypotheses_in}
 use Rattle.mz_given.specs.declared.given.Given.{Given}
+use Rattle.mz_justified.specs.Kept.{justification_keeps}
 use Rattle.mz_justified.specs.Justified.{Grounds, Owes, place_of}
 use Rattle.mz_justified.specs.declared.proof_fault.ProofRefusal.{ProofRefusal}
 use Rattle.mz_justified.specs.declared.proof_fault.ProofRefusal.TheVariants.{StepNoFit, Resolve}
@@ -141,51 +144,64 @@ one_supposed e c (more_supposes (CaseSuppose p h q ds end semicolon) us) l =
     (one_after_read (PropositionsRead e c 0 l (hypotheses_in h)) none_told (SupposedNext e c us) (one_propositions e c 0 l (hypotheses_in h))
     (λ (ps : List LabelledStatement) (m : Left). one_made (SuppositionsRead e c us m) (supposed_first (conjunction (map statement_of ps))) (one_supposed e c us m)))
 
-abbrev KeptAs : Result Statement Refusal → Option ProofRefusal → Type 0
-KeptAs (Ok y) o = o ≡ None
-KeptAs (Err r) o = o ≡ Some (Resolve r)
+abbrev KeptBehind : Environment → Place → Context → Bool → SimpleTree → Statement → Option ProofRefusal → Type 0
+KeptBehind e first c linked t y o = IfSo (justification_keeps e c linked t y) (o ≡ None) (o ≡ Some (Resolve (TooLarge first)))
 
-abbrev ForeseenNext : Place → Option (List Statement) → Option ProofRefusal → Type 0
-ForeseenNext first None o = o ≡ None
-ForeseenNext first (Some ss) o = KeptAs (within statement_keeps first (disjunction_of ss)) o
+abbrev KeptAs : Environment → Place → Context → Bool → SimpleTree → Result Statement Refusal → Option ProofRefusal → Type 0
+KeptAs e first c linked t (Ok y) o = KeptBehind e first c linked t y o
+KeptAs e first c linked t (Err r) o = o ≡ Some (Resolve r)
 
-abbrev ForeseesBehind : Environment → Place → Context → Left → SupposeList → Option ProofRefusal → Type 0
-ForeseesBehind e first c l us o = After (SuppositionsRead e c us (nodes_alone l)) (ForeseenNext first) o
+abbrev ForeseenNext : Environment → Place → Context → Bool → SimpleTree → Option (List Statement) → Option ProofRefusal → Type 0
+ForeseenNext e first c linked t None o = o ≡ None
+ForeseenNext e first c linked t (Some ss) o = KeptAs e first c linked t (within statement_keeps first (disjunction_of ss)) o
+
+abbrev ForeseesBehind : Environment → Place → Context → Left → Bool → SimpleTree → SupposeList → Option ProofRefusal → Type 0
+ForeseesBehind e first c l linked t us o = After (SuppositionsRead e c us (nodes_alone l)) (ForeseenNext e first c linked t) o
 
 abbrev FollowsNothing : Place → Option ProofRefusal → Type 0
 FollowsNothing first o = o ≡ Some (StepNoFit first)
 
-abbrev ForeseesAs : Environment → Place → Context → Left → Bool → SupposeList → Option ProofRefusal → Type 0
-ForeseesAs e first c l linked us o = IfSo (is_linked linked c.previous) (ForeseesBehind e first c l us o) (FollowsNothing first o)
+abbrev ForeseesAs : Environment → Place → Context → Left → Bool → SimpleTree → SupposeList → Option ProofRefusal → Type 0
+ForeseesAs e first c l linked t us o = IfSo (is_linked linked c.previous) (ForeseesBehind e first c l linked t us o) (FollowsNothing first o)
 
-foresees_as : (e : Environment) (first : Place) (c : Context) (l : Left) (linked : Bool) (us : SupposeList) (o : Option ProofRefusal) → Foresees e first c l linked us o → ForeseesAs e first c l linked us o
-foresees_as e first c l linked us o (wk.not_linked h) = if_not (is_linked linked c.previous) (ForeseesBehind e first c l us o) (FollowsNothing first o) h refl
-foresees_as e first c l linked us o (wk.not_foreseen h k) = if_so (is_linked linked c.previous) (ForeseesBehind e first c l us o) (FollowsNothing first o) h (None, k, refl)
-foresees_as e first c l linked us o (wk.beyond ss r h k g) =
-    if_so (is_linked linked c.previous) (ForeseesBehind e first c l us o) (FollowsNothing first o) h (Some ss, k, subst (λ (z : Result Statement Refusal). KeptAs z o) (sym g) refl)
-foresees_as e first c l linked us o (wk.kept ss y h k g) =
-    if_so (is_linked linked c.previous) (ForeseesBehind e first c l us o) (FollowsNothing first o) h (Some ss, k, subst (λ (z : Result Statement Refusal). KeptAs z o) (sym g) refl)
+foresees_as : (e : Environment) (first : Place) (c : Context) (l : Left) (linked : Bool) (t : SimpleTree) (us : SupposeList) (o : Option ProofRefusal) → Foresees e first c l linked t us o → ForeseesAs e first c l linked t us o
+foresees_as e first c l linked t us o (wk.not_linked h) = if_not (is_linked linked c.previous) (ForeseesBehind e first c l linked t us o) (FollowsNothing first o) h refl
+foresees_as e first c l linked t us o (wk.not_foreseen h k) = if_so (is_linked linked c.previous) (ForeseesBehind e first c l linked t us o) (FollowsNothing first o) h (None, k, refl)
+foresees_as e first c l linked t us o (wk.beyond ss r h k g) =
+    if_so (is_linked linked c.previous) (ForeseesBehind e first c l linked t us o) (FollowsNothing first o) h (Some ss, k, subst (λ (z : Result Statement Refusal). KeptAs e first c linked t z o) (sym g) refl)
+foresees_as e first c l linked t us o (wk.instance_beyond ss y h k g n) =
+    let large : KeptBehind e first c linked t y o = if_not (justification_keeps e c linked t y) (o ≡ None) (o ≡ Some (Resolve (TooLarge first))) n refl in
+    if_so (is_linked linked c.previous) (ForeseesBehind e first c l linked t us o) (FollowsNothing first o) h (Some ss, k, subst (λ (z : Result Statement Refusal). KeptAs e first c linked t z o) (sym g) large)
+foresees_as e first c l linked t us o (wk.kept ss y h k g n) =
+    let small : KeptBehind e first c linked t y o = if_so (justification_keeps e c linked t y) (o ≡ None) (o ≡ Some (Resolve (TooLarge first))) n refl in
+    if_so (is_linked linked c.previous) (ForeseesBehind e first c l linked t us o) (FollowsNothing first o) h (Some ss, k, subst (λ (z : Result Statement Refusal). KeptAs e first c linked t z o) (sym g) small)
 
-one_kept : (z : Result Statement Refusal) → AtMostOne (KeptAs z)
-one_kept (Ok y) o p h k = h ∙ sym k
-one_kept (Err r) o p h k = h ∙ sym k
+abbrev IsNone : Option ProofRefusal → Type 0
+IsNone o = o ≡ None
 
-one_foreseen_next : (first : Place) (z : Option (List Statement)) → AtMostOne (ForeseenNext first z)
-one_foreseen_next first None o p h k = h ∙ sym k
-one_foreseen_next first (Some ss) o p h k = one_kept (within statement_keeps first (disjunction_of ss)) o p h k
+abbrev IsTooLarge : Place → Option ProofRefusal → Type 0
+IsTooLarge first o = o ≡ Some (Resolve (TooLarge first))
+
+one_kept : (e : Environment) (first : Place) (c : Context) (linked : Bool) (t : SimpleTree) (z : Result Statement Refusal) → AtMostOne (KeptAs e first c linked t z)
+one_kept e first c linked t (Ok y) o p h k = one_if (justification_keeps e c linked t y) IsNone (IsTooLarge first) (one_value None) (one_value (Some (Resolve (TooLarge first)))) o p h k
+one_kept e first c linked t (Err r) o p h k = h ∙ sym k
+
+one_foreseen_next : (e : Environment) (first : Place) (c : Context) (linked : Bool) (t : SimpleTree) (z : Option (List Statement)) → AtMostOne (ForeseenNext e first c linked t z)
+one_foreseen_next e first c linked t None o p h k = h ∙ sym k
+one_foreseen_next e first c linked t (Some ss) o p h k = one_kept e first c linked t (within statement_keeps first (disjunction_of ss)) o p h k
 
 one_follows_nothing : (first : Place) → AtMostOne (FollowsNothing first)
 one_follows_nothing first o p h k = h ∙ sym k
 
-pub one_foresight : (e : Environment) (first : Place) (c : Context) (l : Left) (linked : Bool) (us : SupposeList) → AtMostOne (Foresees e first c l linked us)
-one_foresight e first c l linked us =
-    one_by (Foresees e first c l linked us) (ForeseesAs e first c l linked us) (foresees_as e first c l linked us)
-    (one_if (is_linked linked c.previous) (ForeseesBehind e first c l us) (FollowsNothing first)
-    (one_after (SuppositionsRead e c us (nodes_alone l)) (ForeseenNext first) (one_supposed e c us (nodes_alone l)) (one_foreseen_next first))
+pub one_foresight : (e : Environment) (first : Place) (c : Context) (l : Left) (linked : Bool) (t : SimpleTree) (us : SupposeList) → AtMostOne (Foresees e first c l linked t us)
+one_foresight e first c l linked t us =
+    one_by (Foresees e first c l linked t us) (ForeseesAs e first c l linked t us) (foresees_as e first c l linked t us)
+    (one_if (is_linked linked c.previous) (ForeseesBehind e first c l linked t us) (FollowsNothing first)
+    (one_after (SuppositionsRead e c us (nodes_alone l)) (ForeseenNext e first c linked t) (one_supposed e c us (nodes_alone l)) (one_foreseen_next e first c linked t))
     (one_follows_nothing first))
 
 abbrev ForeseesIt : Environment → State → Place → SplitTree → SupposeList → Option ProofRefusal → Type 0
-ForeseesIt e s first t us o = Foresees e first s.context s.left (is_some t.then) us o
+ForeseesIt e s first t us o = Foresees e first s.context s.left (is_some t.then) t.simple us o
 
 abbrev SplitNext : Environment → Extent → State → Place → SplitTree → SupposeList → Option ProofRefusal → Walked State → Type 0
 SplitNext e at s first t us (Some r) o = o ≡ Refused r
@@ -221,4 +237,4 @@ one_split_next e at t us one s first None o p h k = one_justified_split e at t u
 pub one_split : (e : Environment) (at : Extent) (t : SplitTree) (us : SupposeList) → OneCases e at us → (s : State) (first : Place) → AtMostOne (Splits e at s first t us)
 one_split e at t us one s first =
     one_by (Splits e at s first t us) (SplitsAs e at s first t us) (splits_as e at s first t us)
-    (one_after (ForeseesIt e s first t us) (SplitNext e at s first t us) (one_foresight e first s.context s.left (is_some t.then) us) (one_split_next e at t us one s first))
+    (one_after (ForeseesIt e s first t us) (SplitNext e at s first t us) (one_foresight e first s.context s.left (is_some t.then) t.simple us) (one_split_next e at t us one s first))

@@ -1,7 +1,7 @@
 //! Private functors and predicates.
 use crate::proofs::outcomes::{Row, check_all};
 
-const PRIVATE: [Row; 28] = [
+const PRIVATE: [Row; 29] = [
     // the term at the argument
     ("deffunc F(object) = $1; F(c) = c;", "33 |- (= c1 c1)"),
     // a constant of the body
@@ -91,6 +91,11 @@ const PRIVATE: [Row; 28] = [
     (
         "defpred Da[object] means $1 = $1; defpred Db[object] means Da[$1] & Da[$1]; defpred Dc[object] means Db[$1] & Db[$1]; defpred Dd[object] means Dc[$1] & Dc[$1]; defpred De[object] means Dd[$1] & Dd[$1]; defpred Df[object] means De[$1] & De[$1]; defpred Dg[object] means Df[$1] & Df[$1]; defpred Dh[object] means Dg[$1] & Dg[$1]; defpred Di[object] means Dh[$1] & Dh[$1]; defpred Dj[object] means Di[$1] & Di[$1]; defpred Dk[object] means Dj[$1] & Dj[$1]; defpred Dl[object] means Dk[$1] & Dk[$1]; defpred Dm[object] means Dl[$1] & Dl[$1]; defpred Dn[object] means Dm[$1] & Dm[$1]; defpred Do[object] means Dn[$1] & Dn[$1]; defpred Dp[object] means Do[$1] & Do[$1]; defpred Dq[object] means Dp[$1] & Dp[$1]; defpred Dr[object] means Dq[$1] & Dq[$1]; defpred Ds[object] means Dr[$1] & Dr[$1]; defpred Dt[object] means Ds[$1] & Ds[$1];",
         "648 36",
+    ),
+    // a predicate of 16,384 places for its argument, at a term of 129 nodes
+    (
+        "defpred Da[object] means $1 = $1; defpred Db[object] means Da[$1] & Da[$1]; defpred Dc[object] means Db[$1] & Db[$1]; defpred Dd[object] means Dc[$1] & Dc[$1]; defpred De[object] means Dd[$1] & Dd[$1]; defpred Df[object] means De[$1] & De[$1]; defpred Dg[object] means Df[$1] & Df[$1]; defpred Dh[object] means Dg[$1] & Dg[$1]; defpred Di[object] means Dh[$1] & Dh[$1]; defpred Dj[object] means Di[$1] & Di[$1]; defpred Dk[object] means Dj[$1] & Dj[$1]; defpred Dl[object] means Dk[$1] & Dk[$1]; defpred Dm[object] means Dl[$1] & Dl[$1]; defpred Dn[object] means Dm[$1] & Dm[$1]; deffunc Fa(object) = sin $1; deffunc Fb(object) = Fa(Fa($1)); deffunc Fc(object) = Fb(Fb($1)); deffunc Fd(object) = Fc(Fc($1)); deffunc Fe(object) = Fd(Fd($1)); deffunc Ff(object) = Fe(Fe($1)); deffunc Fg(object) = Ff(Ff($1)); deffunc Fh(object) = Fg(Fg($1)); Dn[Fh(c)];",
+        "841 36",
     ),
 ];
 

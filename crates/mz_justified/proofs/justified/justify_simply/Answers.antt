@@ -1,8 +1,9 @@
-use Rattle.mz_justified.proofs.OweLemmas.{told_justified, told_not_justified}
+use Rattle.std.proofs.Common.{sym, ◌∙◌}
+use Rattle.mz_justified.proofs.OweLemmas.{told_too_large}
 use Rattle.mz_justified.proofs.justified.justify_simply.Goals as goal
 
-pub returns-in_ok-oblige-in-Ok : goal.returns-in_ok-oblige-in-Ok
-returns-in_ok-oblige-in-Ok c = told_justified _ _ _ _ _ _ _ _ _ _ _ _ _ _ _ c.ground.ensures c.in-Ok.is c.place_of.ensures c.in_ok-oblige-in-Ok.ensures
+pub justify_kept-requires : goal.justify_kept-requires
+justify_kept-requires c = sym c.in_ok-kept.ensures ∙ c.if-not-kept.false
 
-pub returns-in-Err : goal.returns-in-Err
-returns-in-Err c = told_not_justified _ _ _ _ _ _ _ _ _ _ _ _ _ _ _ c.ground.ensures c.in-Err.is
+pub returns-then-not-kept : goal.returns-then-not-kept
+returns-then-not-kept c = told_too_large _ _ _ _ _ _ _ _ _ _ _ _ _ _ _ c.in_ok-kept.ensures c.if-not-kept.true c.too_large.ensures

@@ -1,13 +1,11 @@
-use Rattle.std.proofs.Common.{◌≡◌, length, sym, ap, ◌∙◌}
-use Rattle.mz_performing.proofs.EachLemmas.{told_none, told_owed_of, told_not_grounded}
+use Rattle.std.proofs.Common.{sym, ap, ◌∙◌}
+use Rattle.mz_justified.specs.Kept.{justifications_keep}
+use Rattle.mz_performing.proofs.EachLemmas.{told_too_large}
 use Rattle.mz_performing.proofs.introductions.justify_each.Goals as goal
 
-pub returns-in-None : goal.returns-in-None
-returns-in-None c = told_none _ _ _ _ _ _ _ _ _ _ (ap length (sym (c.as_slice.ensures.value ∙ c.ss.view_is)) ∙ c.in-None.ensures.cases)
+pub justify_kept-requires : goal.justify_kept-requires
+justify_kept-requires c =
+    ap (justifications_keep c.args.walker.env.now c.args.ctx.now c.args.opening.linked c.args.tree.now) (sym (c.as_slice.ensures.value ∙ c.ss.view_is)) ∙ (sym c.in_ok-kept.ensures ∙ c.if-not-kept.false)
 
-pub returns-in_ok-oblige_each-in-Ok : goal.returns-in_ok-oblige_each-in-Ok
-returns-in_ok-oblige_each-in-Ok c =
-    told_owed_of _ _ _ _ _ _ _ _ _ _ _ _ _ _ _ _ _ _ _ (sym (c.as_slice.ensures.value ∙ c.ss.view_is) ∙ c.in-Some.ensures.cases.0) c.if-not-spend_each.ensures.spent c.ground.ensures c.in-Ok.is c.place_of-place-in-Ok.ensures (c.as_slice-in-Ok.ensures.value ∙ c.ss.view_is) c.in_ok-oblige_each-in-Ok.ensures
-
-pub returns-in-Err : goal.returns-in-Err
-returns-in-Err c = told_not_grounded _ _ _ _ _ _ _ _ _ _ _ _ _ _ _ _ _ _ (sym (c.as_slice.ensures.value ∙ c.ss.view_is) ∙ c.in-Some.ensures.cases.0) c.if-not-spend_each.ensures.spent c.ground.ensures c.in-Err.is
+pub returns-then-not-kept : goal.returns-then-not-kept
+returns-then-not-kept c = told_too_large _ _ _ _ _ _ _ _ _ _ _ _ _ _ _ _ c.in_ok-kept.ensures (c.as_slice.ensures.value ∙ c.ss.view_is) c.if-not-kept.true c.too_large.ensures
