@@ -5,6 +5,7 @@ use Rattle.mz_core.specs.declared.notation.Meaning.{Meaning}
 use Rattle.mz_context.specs.declared.context.Context.{Context}
 use Rattle.mz_ground.specs.declared.clause.Clause.{Clause}
 use Rattle.mz_environment.specs.declared.environment.Environment.{Environment}
+pub use Rattle.mz_types.specs.Known.{typing}
 use Rattle.mz_choice.specs.declared.choice.Applied.{Applied}
 use Rattle.mz_choice.specs.declared.choice.Wanted.{Wanted}
 use Rattle.mz_choice.specs.declared.resolve.Resolution.{Resolution}

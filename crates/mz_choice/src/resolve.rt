@@ -14,7 +14,7 @@ use mz_core::notation::{Meaning, Notation};
 use mz_core::soft_type::SoftType;
 use mz_environment::environment::Environment;
 use mz_ground::clause::Clause;
-use mz_types::known::typing;
+pub use mz_types::known::typing;
 use std::alloc::{AllocError, Global};
 use std::sync::Arc;
 

@@ -19,8 +19,9 @@ use Rattle.mz_applied.specs.Meant.{as_statement, as_attributed}
 use Rattle.mz_applied.specs.Private.{AppliesPredicate}
 use Rattle.mz_applied.specs.Reading.{ReadsAs}
 use Rattle.mz_terms.specs.Adjectives.{is_denied, attribute_in, ReadsOwn}
-use Rattle.mz_terms.specs.Terms.{ReadsTerm, ReadsAll}
-use Rattle.mz_terms.specs.Types.{ReadsType}
+pub use Rattle.mz_terms.specs.Terms.{ReadsTerm}
+use Rattle.mz_terms.specs.Terms.{ReadsAll}
+pub use Rattle.mz_terms.specs.Types.{ReadsType}
 use Rattle.mz_sizes.specs.Sizes.{statement_keeps}
 use Rattle.mz_joined.specs.Bound.{of_type_within}
 

@@ -21,8 +21,8 @@ use Rattle.mz_standing.specs.Standing.{no_context}
 use Rattle.mz_term_laws.specs.Usable.{type_usable}
 use Rattle.mz_term_laws.specs.Whole.{IsWhole}
 use Rattle.mz_term_laws.proofs.ChangeProofs.{empty_law}
-use Rattle.mz_walk_laws.specs.Grounds.{ReadsWell}
-use Rattle.mz_walk_laws.proofs.Outcomes.{WhereOk}
+use Rattle.mz_whole_laws.specs.WholeLaws.{ReadsWell}
+use Rattle.mz_whole_laws.proofs.WholeProofs.{WhereOk}
 use Rattle.mz_whole_laws.proofs.StandingLemmas.{type_usable_in}
 use Rattle.mz_whole_laws.proofs.WholeProofs.{reads_well_law}
 use Rattle.mz_level_laws.specs.Level.{IsLevel, StartLaw, ReadingLaw, ReservationLaw}

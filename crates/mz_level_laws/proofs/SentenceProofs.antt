@@ -32,7 +32,7 @@ use Rattle.mz_term_laws.proofs.ChangeProofs.{whole_from_law}
 use Rattle.mz_reading_laws.specs.ReadingLaws.{IsUsableSentence}
 use Rattle.mz_reading_laws.proofs.CallProofs.{sentence_call_law}
 use Rattle.mz_block_laws.specs.Orders.{AllStand}
-use Rattle.mz_walk_laws.proofs.Outcomes.{WhereOk, within_is}
+use Rattle.mz_whole_laws.proofs.WholeProofs.{WhereOk, within_is}
 use Rattle.mz_level_laws.specs.Level.{IsLevel, SentenceLaw}
 
 -- declared variables, and a statement behind them

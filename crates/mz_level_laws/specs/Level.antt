@@ -16,7 +16,7 @@ use Rattle.mz_reserve.specs.Reserve.{Reserves}
 use Rattle.mz_standing.specs.Standing.{no_context}
 use Rattle.mz_term_laws.specs.Whole.{IsWhole}
 use Rattle.mz_block_laws.specs.Orders.{Stands, AllStand}
-use Rattle.mz_walk_laws.specs.Grounds.{ReadsWell}
+use Rattle.mz_whole_laws.specs.WholeLaws.{ReadsWell}
 
 -- it holds nothing with a constant that isn't in force or with a loose index, and `it`, arguments `$1`, `$2`, .. and the subject
 -- of a field's type are unknown

@@ -16,7 +16,8 @@ use Rattle.mz_resolve.specs.Answers.{OnRead}
 use Rattle.mz_resolve.specs.Calls.{TypeRead}
 use Rattle.mz_resolve.specs.declared.resolve_fault.ResolveFault.{ResolveFault}
 use Rattle.mz_parts.specs.Propositions.{all_read}
-use Rattle.mz_parts.proofs.ReadLemmas.{read_by, refused_by, read_more, ok-inj, err-ok}
+pub use Rattle.mz_parts.proofs.ReadLemmas.{read_by, refused_by}
+use Rattle.mz_parts.proofs.ReadLemmas.{read_more, ok-inj, err-ok}
 use Rattle.mz_places.specs.Places as pl
 use Rattle.mz_places.specs.Places.{TypesReadBehind, types_in, PlacesRead}
 

@@ -18,7 +18,7 @@ use Rattle.mz_tree_proof.specs.declared.introduction.DefpredTree.{DefpredTree}
 use Rattle.mz_resolve.specs.Answers.{OnRead}
 use Rattle.mz_resolve.specs.Calls.{TermRead, FormulaRead}
 use Rattle.mz_resolve.specs.declared.resolve_fault.ResolveFault.{ResolveFault}
-use Rattle.mz_parts.proofs.ReadLemmas.{read_by, refused_by}
+use Rattle.mz_places.proofs.PlaceLemmas.{read_by, refused_by}
 use Rattle.mz_places.specs.Places.{PlacesRead}
 use Rattle.mz_private.specs.Private as pr
 use Rattle.mz_private.specs.Private.{inside, functor, predicate, FunctorRead, PredicateRead}

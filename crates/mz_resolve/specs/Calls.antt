@@ -14,8 +14,8 @@ use Rattle.mz_sizes.specs.Sizes.{type_nodes, statement_nodes}
 use Rattle.mz_tree.specs.Trees.{TermData, TypeData, FormulaData}
 use Rattle.mz_tree.specs.Places.{first_place}
 use Rattle.mz_tree.specs.Spell.{spell_term, spell_type, spell_formula}
-use Rattle.mz_terms.specs.Terms.{ReadsTerm}
-use Rattle.mz_terms.specs.Types.{ReadsType}
+use Rattle.mz_formulas.specs.Atoms.{ReadsTerm}
+use Rattle.mz_formulas.specs.Atoms.{ReadsType}
 use Rattle.mz_formulas.specs.Formulas.{ReadsFormula}
 use Rattle.mz_formulas.specs.Sentences.{ReadsSentence}
 use Rattle.mz_formulas.specs.declared.sentence.Sentence.{Sentence}

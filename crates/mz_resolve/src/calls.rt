@@ -18,13 +18,12 @@ use mz_core::outcome::Left;
 use mz_core::soft_type::SoftType;
 use mz_core::statement::Statement;
 use mz_environment::environment::Environment;
+use mz_formulas::atoms::{read_term, read_type};
 use mz_formulas::formulas::read_formula;
 use mz_formulas::sentence::{Sentence, read_sentence};
 use mz_logic::term::Term;
 use mz_names::refusal::Refusal;
 use mz_sizes::nodes::{after_statement, after_term, after_type};
-use mz_terms::terms::read_term;
-use mz_terms::types::read_type;
 use mz_tree::expressions::{FormulaTree, TermTree, TypeTree};
 use std::alloc::Global;
 

@@ -39,6 +39,7 @@ use Rattle.mz_block_laws.specs.Orders.{TermStands, TypeStands, AllStand, EqualSt
 use Rattle.mz_whole_laws.specs.WholeLaws.{ReadsWellLaw}
 use Rattle.mz_whole_laws.proofs.PrivateProofs.{functor_whole, predicate_whole}
 use Rattle.mz_whole_laws.proofs.StandingLemmas.{term_usable_in, type_usable_in, statement_usable_in, term_stands, type_stands, statement_stands}
+pub use Rattle.mz_walk_laws.proofs.Outcomes.{WhereOk, within_is}
 
 -- declared variables, and a statement behind them
 all_stand : (c : Context) (vs : List Variable) (s : Statement) → AreUsable 0 c vs → statement_usable 0 (with_variables c vs) s ≡ true → AllStand (next c) vs s

@@ -2,7 +2,7 @@
 use Rattle.mz_environment.specs.declared.environment.Environment.{Environment}
 use Rattle.mz_closed_laws.specs.ClosedEnvironment.{IsClosedEnvironment}
 use Rattle.mz_term_laws.specs.Whole.{IsWhole}
-use Rattle.mz_walk_laws.specs.Grounds.{ReadsWell}
+pub use Rattle.mz_walk_laws.specs.Grounds.{ReadsWell}
 use Rattle.mz_walk_laws.specs.WalkLaws.{SkeletonLaw, JustificationLaw, StatementLaw}
 
 -- by an environment that has no constant and no loose index, what is read in a whole context stands, and whole contexts stay

@@ -98,8 +98,7 @@ struct Waiting {
 
 impl Semantics for Waiting {
     ghost use Rattle.mz_article.specs.Outcome.{IsOutcome};
-    ghost use Rattle.mz_article_laws.proofs.OneOutcome.{one_outcome};
-    ghost use Rattle.mz_accepted_laws.proofs.AcceptedProofs.{accepted_law, name_law};
+    ghost use Rattle.mz_checker.proofs.Verdicts.{one_outcome, accepted_law, name_law};
 
     ghost is_outcome = { IsOutcome };
 

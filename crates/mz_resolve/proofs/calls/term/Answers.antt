@@ -2,7 +2,7 @@ use Rattle.std.proofs.Common.{subst}
 use Rattle.mz_tree.specs.Places.{first_place}
 use Rattle.mz_tree.specs.Spell.{spell_term}
 use Rattle.mz_ground.specs.Instance.{term_nodes}
-use Rattle.mz_terms.specs.Terms.{ReadsTerm}
+use Rattle.mz_formulas.specs.Atoms.{ReadsTerm}
 use Rattle.mz_resolve.proofs.CallLemmas.{told_counted, told_beyond}
 use Rattle.mz_resolve.proofs.calls.term.Goals as goal
 

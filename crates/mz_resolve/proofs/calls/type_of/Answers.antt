@@ -2,7 +2,7 @@ use Rattle.std.proofs.Common.{subst}
 use Rattle.mz_tree.specs.Places.{first_place}
 use Rattle.mz_tree.specs.Spell.{spell_type}
 use Rattle.mz_sizes.specs.Sizes.{type_nodes}
-use Rattle.mz_terms.specs.Types.{ReadsType}
+use Rattle.mz_formulas.specs.Atoms.{ReadsType}
 use Rattle.mz_resolve.proofs.CallLemmas.{told_counted, told_beyond}
 use Rattle.mz_resolve.proofs.calls.type_of.Goals as goal
 
