@@ -20,9 +20,8 @@ use Rattle.mz_standing_laws.specs.Owed.{IsOwed}
 use Rattle.mz_standing_laws.specs.Soundly.{Setting, axioms_at, AreDecided, StandsSoundly}
 use Rattle.mz_standing_laws.specs.Kinds.{HasGrown, GrowsLaw, KeepsSoundly}
 use Rattle.mz_standing_laws.proofs.KindProofs.{grows_all_law}
-use Rattle.mz_structure.specs.Structures as structures
-use Rattle.mz_structure.specs.Structures.{Structures}
-use Rattle.mz_structure_laws.proofs.KindProofs.{structures_grow}
+use Rattle.mz_structure_laws.specs.Headings.{KeepsInBlock}
+use Rattle.mz_structure_laws.proofs.KindProofs.{structures_grow, structures_keep}
 use Rattle.mz_taken.specs.OneByOne.{OneByOne, none_left, one_refused, one_taken}
 use Rattle.mz_taken.specs.Taken.{Taken, Made, Refused, behind}
 use Rattle.mz_taken.specs.declared.item_fault.ItemRefusal.{ItemRefusal}
@@ -97,10 +96,6 @@ definitions_grows s t _ (rule.block o h) = ended_grows (next s.context) s o (par
 
 -- it stands soundly but for the loci
 
-abbrev KeepsInBlock : Setting → ℕ → Taken Standing → Type 0
-KeepsInBlock g least (Made os t) = (final : List Clause) → Extends t.clauses final → AreDecided final os → StandsInBlock g least t
-KeepsInBlock g least (Refused r) = Unit {0}
-
 let_keeps : (g : Setting) (least : ℕ) (s : Standing) (t : BlockLetTree) (w : Taken Standing) → StandsInBlock g least s → Lets least s t w → KeepsInBlock g least w
 let_keeps g least s t w b (lets.not_declared r after h) = tt
 let_keeps g least s t w b (lets.declared vs after h) = λ final grows decided. blocks.let_law g least s (lets.with_loci s vs after) t [] b (lets.declared vs after h)
@@ -126,12 +121,9 @@ atom_keeps g least s h ws w b makes (atoms.is_read f v d after is vis read) =
     kept_keeps g least (item_keeps (h.item v d)) (unless_refused (first_stray ws) u) _
     (unless_keeps g least u (first_stray ws) (blocks.heading_law g least s (h.item v d) (label_in h.meaning) after b (makes f v d after vis read)))
 
-structure_keeps : (g : Setting) (least : ℕ) (s : Standing) (t : StructureTree) (ws : List ConditionOrPropertyTree) (w : Taken Standing) → StandsInBlock g least s → Structures least s t ws w → KeepsInBlock g least w
-structure_keeps g least s t ws w b structures.not_built = tt
-
 heading_keeps : (g : Setting) (least : ℕ) (s : Standing) (t : HeadingTree) (ws : List ConditionOrPropertyTree) (w : Taken Standing) → StandsInBlock g least s → Heads least s t ws w → KeepsInBlock g least w
 heading_keeps g least s _ _ _ b (head.predicate t ws o h) = atom_keeps g least s (predicate_heading least s.context t) ws o b (λ f v d after vis read. predicate_owed g least s t.pattern v f d after (axioms_at g s) b vis read) h
-heading_keeps g least s _ _ _ b (head.structure t ws o h) = structure_keeps g least s t ws o b h
+heading_keeps g least s _ _ _ b (head.structure t ws o h) = structures_keep g least s (t, ws) o b h
 heading_keeps g least s _ _ _ b (head.functor t ws) = tt
 heading_keeps g least s _ _ _ b (head.attribute t ws o h) = atom_keeps g least s (attribute_heading least s.context t) ws o b (λ f v d after vis read. attribute_owed g least s t.pattern v f d after (axioms_at g s) b vis read) h
 heading_keeps g least s _ _ _ b (head.mode t ws) = tt

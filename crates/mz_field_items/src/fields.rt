@@ -2,6 +2,7 @@
 ghost use Rattle.std.specs.Prelude.{◌≡◌, ◌+◌, length, map, IfOk};
 ghost use Rattle.mz_field_items.specs.Fields.{inner_count, field_type, selector_of, selectors_of, field_of, fields_of};
 
+use mz_base::text::Text;
 use mz_core::soft_type::SoftType;
 use mz_core::structure::{Field, Fields};
 use mz_fields::values::type_with_values;
@@ -10,8 +11,9 @@ use mz_loci::loci::type_over_loci;
 use mz_logic::sym::Sym;
 use std::alloc::{AllocError, Global};
 
-/// A field as read: its selector, and its type, in which the loci and the structure's object are constants.
+/// A field as read: how its selector is spelled, its selector, and its type, in which the loci and the structure's object are constants.
 pub struct ReadField {
+    pub name: Text,
     pub selector: Sym,
     pub ty: SoftType,
 }
@@ -19,6 +21,7 @@ pub struct ReadField {
 impl Drop for ReadField {
     fn drop(self) {
         let ReadField {
+            name: _name,
             selector: _selector,
             ty: _ty,
         } = self;
@@ -51,7 +54,8 @@ pub fn field_type(
     type_over_loci(alloc, &valued, least, inner)
 }
 
-fn selectors_of(alloc: Global, fs: &[ReadField]) -> Result<Vec<Sym>, AllocError>
+/// The selectors of fields.
+pub fn selectors_of(alloc: Global, fs: &[ReadField]) -> Result<Vec<Sym>, AllocError>
     ensures { IfOk result (λ ss. ss.items ≡ selectors_of fs.now) }
 {
     let mut out = Vec::new(alloc);

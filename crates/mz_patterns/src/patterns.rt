@@ -53,7 +53,7 @@ fn put_further(
 
 /// So with identifiers and commas between them.
 #[tactic(auto, using(crate::proofs::PlaceLemmas::member_rules))]
-fn put_members(
+pub fn put_members(
     ks: &[Option<Constant>],
     ws: &Separated<IdentifierTree>,
     out: &mut Numbers,
@@ -170,7 +170,7 @@ fn are_wanted(
 }
 
 /// These visible loci, where they are both and are those that a form wants.
-fn if_wanted(
+pub fn if_wanted(
     alloc: Global,
     ks: &[Option<Constant>],
     least: u32,

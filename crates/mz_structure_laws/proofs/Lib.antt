@@ -1,1 +1,5 @@
+pub mod KnownProofs
+pub mod ClosedProofs
+pub mod FieldProofs
+pub mod OneProofs
 pub mod KindProofs

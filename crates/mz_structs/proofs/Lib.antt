@@ -1,0 +1,4 @@
+pub mod LedLemmas
+pub mod AncestorLemmas
+pub mod FieldLemmas
+pub mod HeadingLemmas
