@@ -1,0 +1,4 @@
+pub mod ForcedSound
+pub mod SortedLemmas
+pub mod ForceLemmas
+pub mod NextLemmas

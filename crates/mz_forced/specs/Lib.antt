@@ -1,0 +1,5 @@
+pub mod Forced
+pub mod Force
+pub mod Sorted
+pub mod Added
+pub mod Laws

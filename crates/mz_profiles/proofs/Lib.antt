@@ -1,0 +1,3 @@
+pub mod OneNumber
+pub mod OneVerdict
+pub mod ProfileLemmas

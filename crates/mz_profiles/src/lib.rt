@@ -1,0 +1,4 @@
+//! The verdict on a problem under a profile: definitions and laws.
+#![tactic(auto)]
+
+pub mod laws;
