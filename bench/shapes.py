@@ -90,9 +90,30 @@ def disjuncts(n):
     return FRONT + "now let x be object;\n" + numbered(n, "consider y{k} being object such that A{k}: x in y{k} or x = x;\nB{k}: x = x;\n") + "assume that " + " and ".join(f"S{k}: x in x or x = x" for k in range(1, 9)) + ";\nthus x = x by " + joined(8, "S{k}", ",") + "," + joined(n, "B{k}", ",") + "; end;\n"
 
 
+def registrations(n):
+    # attributes, each with a registration that each set has it, and 1,000 statements with a type of two of them
+    defined = "environ vocabularies SYMBOLS; begin\ndefinition let X be set;\n" + numbered(n, "attr X is v{k} means X = X;\n") + "end;\n"
+    registered = "registration\n" + numbered(n, "cluster -> v{k} for set; coherence;\n") + "end;\n"
+    return defined + registered + "".join(f"for X being v{k % n + 1} v{(k + 1) % n + 1} set holds X = X;\n" for k in range(1000))
+
+
+def ancestors(n):
+    # ancestors of a structure, each with four fields of its own, and a statement on the structure's aggregate
+    fields = joined(4 * n, "u{k}", ", ")
+    own = "".join("struct s{k} (# {fields} -> set #);\n".format(k=k, fields=", ".join(f"u{j}" for j in range(4 * k - 3, 4 * k + 1))) for k in range(1, n + 1))
+    heir = f"struct ({joined(n, 's{k}', ', ')}) s0 (# {fields} -> set #);\n"
+    return f"environ vocabularies SYMBOLS; begin\ndefinition\n{own}{heir}end;\n" + f"for X being set holds the u1 of s0(# {joined(4 * n, 'X', ', ')} #) = X;\n"
+
+
+# the vocabulary `symbols.voc` of the shapes that need one
+VOCABULARIES = {
+    "registrations": lambda n: numbered(n, "Vv{k}\n"),
+    "ancestors": lambda n: "Gs0\n" + numbered(n, "Gs{k}\n") + numbered(4 * n, "Uu{k}\n"),
+}
+
 # the greatest n that the limits of the language allow
-MOST = {"quantifiers": 100, "lets": 400}
+MOST = {"quantifiers": 100, "lets": 400, "registrations": 400, "ancestors": 50}
 
 SHAPES = {it.__name__: it for it in (
     statements, theorems, cited_by_number, constants_in_chain, constants_considered, constants_and_universals, premises,
-    equations, reserved_names, quantifiers, lets, empty_nows, conjunctions, disjuncts)}
+    equations, reserved_names, quantifiers, lets, empty_nows, conjunctions, disjuncts, registrations, ancestors)}

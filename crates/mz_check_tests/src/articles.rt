@@ -10,3 +10,4 @@ mod others;
 mod registered;
 mod registrations;
 mod schemes;
+mod structures;

@@ -15,6 +15,10 @@ use std::thread::Threads;
 const B: &[u8] =
     b"environ theorems TARSKI_0; begin\ntheorem for x being object ex z being set st x in z\nproof let x be object; consider z being set such that\nA: for a being object holds a in z iff a = x or a = x by TARSKI_0:3;\ntake z; thus x in z by A; end;";
 
+/// A scheme.
+const S: &[u8] =
+    b"environ begin scheme Sc { P[object], Q[object] } : for x being object holds Q[x] provided A1: for x being object st P[x] holds Q[x] and A2: for x being object holds P[x] proof let x be object; P[x] by A2; hence thesis by A1; end;";
+
 /// An article that rests on B.
 const C: &[u8] = b"environ theorems B; begin theorem for x being object holds x = x;";
 
@@ -102,6 +106,39 @@ fn a_theorem_of_another_article(rt: HostRuntime) {
     let exports = exports_of_two(&rt, rt.alloc());
     let none = no_vocabularies(rt.alloc());
     check_rows(&rt, rt.alloc(), &exports, &none, &CITING);
+    forget(none);
+    forget(exports);
+}
+
+const BY_SCHEMES: [Row; 4] = [
+    // a scheme of another article
+    (
+        "environ schemes S; begin A: for x being object holds x in x or not x in x; C: for x being object st x in x or not x in x holds x = x; theorem for x being object holds x = x from S:sch 1(C,A);",
+        "accepted 1",
+    ),
+    // it isn't let in by `theorems`
+    (
+        "environ theorems S; begin A: for x being object holds x in x or not x in x; C: for x being object st x in x or not x in x holds x = x; theorem for x being object holds x = x from S:sch 1(C,A);",
+        "1:180 43",
+    ),
+    // nor has it a second one
+    (
+        "environ schemes S; begin A: for x being object holds x in x or not x in x; C: for x being object st x in x or not x in x holds x = x; theorem for x being object holds x = x from S:sch 2(C,A);",
+        "1:179 43",
+    ),
+    // its label is unknown here
+    (
+        "environ schemes S; begin A: for x being object holds x in x or not x in x; C: for x being object st x in x or not x in x holds x = x; theorem for x being object holds x = x from Sc(C,A);",
+        "1:179 43",
+    ),
+];
+
+#[test]
+fn a_scheme_of_another_article(rt: HostRuntime) {
+    let mut exports = exports(&rt, rt.alloc());
+    add_article(&rt, rt.alloc(), &mut exports, b"S", S);
+    let none = no_vocabularies(rt.alloc());
+    check_rows(&rt, rt.alloc(), &exports, &none, &BY_SCHEMES);
     forget(none);
     forget(exports);
 }

@@ -5,7 +5,9 @@ use std::mem::forget;
 use std::process::Abort;
 use std::thread::Threads;
 
-const STATED: [Row; 12] = [
+const STATED: [Row; 13] = [
+    // `thesis` is unknown in the conclusion
+    ("environ begin scheme S { P[object] } : thesis;", "1:40 33"),
     // a scheme without premises
     (
         "environ begin scheme S { P[object] } : for x being object holds P[x] implies P[x];",
@@ -320,6 +322,44 @@ const BESIDE: [Row; 9] = [
     ),
 ];
 
+const LARGE: [Row; 7] = [
+    // the part beside `not P[]` has 32,765 nodes, the statement 65,533, and the instance, which has a double negation, 65,535
+    (
+        "environ begin scheme S { P[] } : not P[] implies not P[]; theorem for c being object holds c = c proof let c be object;\n((c <> c iff (c = c iff (c = c iff (c = c iff (c = c iff (c = c iff (c = c iff (c = c iff (c = c iff (c = c iff (c = c iff (c = c)))))))))))) & c <> c & c <> c) implies ((c <> c iff (c = c iff (c = c iff (c = c iff (c = c iff (c = c iff (c = c iff (c = c iff (c = c iff (c = c iff (c = c iff (c = c)))))))))))) & c <> c & c <> c) from S;\nthus thesis; end;",
+        "accepted 2",
+    ),
+    // one node more: the statement has 65,535, and the instance 65,537
+    (
+        "environ begin scheme S { P[] } : not P[] implies not P[]; theorem for c being object holds c = c proof let c be object;\n((c <> c iff (c = c iff (c = c iff (c = c iff (c = c iff (c = c iff (c = c iff (c = c iff (c = c iff (c = c iff (c = c iff (c = c)))))))))))) & (c = c or c = c)) implies ((c <> c iff (c = c iff (c = c iff (c = c iff (c = c iff (c = c iff (c = c iff (c = c iff (c = c iff (c = c iff (c = c iff (c = c)))))))))))) & (c = c or c = c)) from S;\nthus thesis; end;",
+        "2:1 36",
+    ),
+    // it stands at the step's first token, before what is told at the justification
+    (
+        "environ begin scheme S { P[] } : not P[] implies not P[]; theorem for c being object holds c = c proof let c be object;\nA: ((c <> c iff (c = c iff (c = c iff (c = c iff (c = c iff (c = c iff (c = c iff (c = c iff (c = c iff (c = c iff (c = c iff (c = c)))))))))))) & (c = c or c = c)) implies ((c <> c iff (c = c iff (c = c iff (c = c iff (c = c iff (c = c iff (c = c iff (c = c iff (c = c iff (c = c iff (c = c iff (c = c)))))))))))) & (c = c or c = c)) from S;\nthus thesis; end;",
+        "2:1 36",
+    ),
+    // where another number is cited, no instance is made
+    (
+        "environ begin scheme S { P[] } : not P[] implies not P[]; theorem for c being object holds c = c proof let c be object;\nB: c = c;\n((c <> c iff (c = c iff (c = c iff (c = c iff (c = c iff (c = c iff (c = c iff (c = c iff (c = c iff (c = c iff (c = c iff (c = c)))))))))))) & (c = c or c = c)) implies ((c <> c iff (c = c iff (c = c iff (c = c iff (c = c iff (c = c iff (c = c iff (c = c iff (c = c iff (c = c iff (c = c iff (c = c)))))))))))) & (c = c or c = c))\nfrom S(B);\nthus thesis; end;",
+        "4:1 67 0",
+    ),
+    // the same of a split into cases
+    (
+        "environ begin scheme S { P[] } : not P[] or P[]; theorem for c being object holds c = c proof let c be object;\nper cases from S;\nsuppose ((c <> c iff (c = c iff (c = c iff (c = c iff (c = c iff (c = c iff (c = c iff (c = c iff (c = c iff (c = c iff (c = c iff (c = c)))))))))))) & c <> c & c <> c);\nthus thesis; end;\nsuppose not ((c <> c iff (c = c iff (c = c iff (c = c iff (c = c iff (c = c iff (c = c iff (c = c iff (c = c iff (c = c iff (c = c iff (c = c)))))))))))) & c <> c & c <> c);\nthus thesis; end;\nend;",
+        "accepted 2",
+    ),
+    // there it stands before what is wrong in a case
+    (
+        "environ begin scheme S { P[] } : not P[] or P[]; theorem for c being object holds c = c proof let c be object;\nper cases from S;\nsuppose ((c <> c iff (c = c iff (c = c iff (c = c iff (c = c iff (c = c iff (c = c iff (c = c iff (c = c iff (c = c iff (c = c iff (c = c)))))))))))) & (c = c or c = c));\nthus thesis; end;\nsuppose not ((c <> c iff (c = c iff (c = c iff (c = c iff (c = c iff (c = c iff (c = c iff (c = c iff (c = c iff (c = c iff (c = c iff (c = c)))))))))))) & (c = c or c = c));\nthus z = z; end;\nend;",
+        "2:1 36",
+    ),
+    // but where a case's supposition can't be read, that is told
+    (
+        "environ begin scheme S { P[] } : not P[] or P[]; theorem for c being object holds c = c proof let c be object;\nper cases from S;\nsuppose ((c <> c iff (c = c iff (c = c iff (c = c iff (c = c iff (c = c iff (c = c iff (c = c iff (c = c iff (c = c iff (c = c iff (c = c)))))))))))) & (c = c or c = c));\nthus thesis; end;\nsuppose not ((c <> c iff (c = c iff (c = c iff (c = c iff (c = c iff (c = c iff (c = c iff (c = c iff (c = c iff (c = c iff (c = c iff (c = c)))))))))))) & (c = c or c = c)) & z = z;\nthus thesis; end;\nend;",
+        "5:177 33",
+    ),
+];
+
 #[test]
 fn schemes_as_they_are_stated(rt: HostRuntime) {
     check_all(&rt, rt.alloc(), &STATED);
@@ -343,6 +383,11 @@ fn uses_of_schemes(rt: HostRuntime) {
 #[test]
 fn schemes_beside_other_items(rt: HostRuntime) {
     check_all(&rt, rt.alloc(), &BESIDE);
+}
+
+#[test]
+fn instances_that_are_too_large(rt: HostRuntime) {
+    check_all(&rt, rt.alloc(), &LARGE);
 }
 
 /// A scheme with a functor letter of so many places, at 1:26.
