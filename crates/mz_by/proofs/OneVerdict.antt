@@ -34,14 +34,14 @@ not_both_atoms d cs n w p =
     length-le_distinct p.0 w.0 p.1 (λ t c. (w.1.members t).1 (All-contains (λ u. IsAtomExpression u × InLayer d cs n u) p.0 t p.2 c)) in
     omega (arith, le, w.2, p.3)
 
-not_terms : (d : Disjunct) (cs : List Clause) (n : ℕ) → KeepsLimits d cs → HasTooManyTerms d cs n → ⊥
+pub not_terms : (d : Disjunct) (cs : List Clause) (n : ℕ) → KeepsLimits d cs → HasTooManyTerms d cs n → ⊥
 not_terms d cs n k h = not_both_terms d cs n (k n h.layer).0 h.passes
 
-not_atoms : (d : Disjunct) (cs : List Clause) (n : ℕ) → KeepsLimits d cs → HasTooManyAtoms d cs n → ⊥
+pub not_atoms : (d : Disjunct) (cs : List Clause) (n : ℕ) → KeepsLimits d cs → HasTooManyAtoms d cs n → ⊥
 not_atoms d cs n k h = not_both_atoms d cs n (k n h.layer).1 h.passes
 
 -- the first layer that passes a limit passes one of them
-not_terms_and_atoms : (d : Disjunct) (cs : List Clause) (m n : ℕ) (a b : Bool) → nat_lt m n ≡ a → nat_lt n m ≡ b → HasTooManyTerms d cs m → HasTooManyAtoms d cs n → ⊥
+pub not_terms_and_atoms : (d : Disjunct) (cs : List Clause) (m n : ℕ) (a b : Bool) → nat_lt m n ≡ a → nat_lt n m ≡ b → HasTooManyTerms d cs m → HasTooManyAtoms d cs n → ⊥
 not_terms_and_atoms d cs m n true b ea eb h k = not_both_terms d cs m (k.before m (ltb-true m n ea)).0 h.passes
 not_terms_and_atoms d cs m n false true ea eb h k = not_both_atoms d cs n (h.before n (ltb-true n m eb)).1 k.passes
 not_terms_and_atoms d cs m n false false ea eb h k =

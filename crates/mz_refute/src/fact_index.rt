@@ -73,7 +73,8 @@ impl FactIndex {
     }
 }
 
-fn classes<F: FactSet>(alloc: Global, f: &F) -> Result<Vec<usize>, AllocError>
+/// The number of the class of each term of the facts, by the term's number.
+pub fn classes<F: FactSet>(alloc: Global, f: &F) -> Result<Vec<usize>, AllocError>
     ensures { IfOk result (λ v. AreClasses (F.view f.now) v.items) }
 {
     let mut out = Vec::new(alloc);
@@ -83,7 +84,8 @@ fn classes<F: FactSet>(alloc: Global, f: &F) -> Result<Vec<usize>, AllocError>
     Ok(out)
 }
 
-fn signs<F: FactSet>(alloc: Global, f: &F, positive: bool) -> Result<Vec<bool>, AllocError>
+/// Whether each atom, by its number, is a fact with the sign.
+pub fn signs<F: FactSet>(alloc: Global, f: &F, positive: bool) -> Result<Vec<bool>, AllocError>
     ensures { IfOk result (λ v. AreSigns (F.view f.now) positive v.items) }
 {
     let mut out = Vec::new(alloc);
@@ -93,7 +95,8 @@ fn signs<F: FactSet>(alloc: Global, f: &F, positive: bool) -> Result<Vec<bool>, 
     Ok(out)
 }
 
-fn disequal<F: FactSet>(alloc: Global, f: &F) -> Result<Vec<bool>, AllocError>
+/// Whether the negation of each equation, by its number, is a fact.
+pub fn disequal<F: FactSet>(alloc: Global, f: &F) -> Result<Vec<bool>, AllocError>
     ensures { IfOk result (λ v. AreDisequal (F.view f.now) v.items) }
 {
     let mut out = Vec::new(alloc);

@@ -2,8 +2,8 @@
 #![tactic(auto)]
 
 pub mod answer;
-mod build;
-mod distinct;
+pub mod build;
+pub mod distinct;
 pub mod fact_index;
 pub mod laws;
 pub mod refuted;

@@ -19,7 +19,7 @@ use std::alloc::{AllocError, Global};
 const LIMIT: u64 = 10_000_000;
 
 /// A count, or 1,000,000,000 where it is greater.
-fn capped(n: usize) -> u64
+pub fn capped(n: usize) -> u64
     ensures { result ≡ capped n }
 {
     capped_sum(n as u64, 0)
@@ -37,7 +37,7 @@ fn atom_work(table: &Table, positive: bool, s: Sym) -> u64
 }
 
 /// The work of a formula, or of its negation where `positive` is false.
-fn work(table: &Table, terms: usize, universals: &Formulas, positive: bool, f: &Formula) -> u64
+pub fn work(table: &Table, terms: usize, universals: &Formulas, positive: bool, f: &Formula) -> u64
     ensures { result ≡ counted_work (count_of table.now) terms universals.now positive f.now }
 {
     match &f.node {

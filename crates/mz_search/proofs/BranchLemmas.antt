@@ -92,26 +92,26 @@ told_both k scope f g e bs w h =
     (λ a m. both_there k a scope f g m.0 m.1.0) (λ a m. let x = both_back k a scope f g m in (x.0, (x.1, tt))) (w, (w, tt)) (omega arith))
 
 -- one more variable
-at_last : ℕ → ℕ → (ℕ → ℕ) → ℕ → ℕ
+pub at_last : ℕ → ℕ → (ℕ → ℕ) → ℕ → ℕ
 at_last n v a i = if nat_eq n i then v else a i
 
-at_last-here : (n v : ℕ) (a : ℕ → ℕ) → at_last n v a n ≡ v
+pub at_last-here : (n v : ℕ) (a : ℕ → ℕ) → at_last n v a n ≡ v
 unfolding at_last
 at_last-here n v a = elim (eqb_tells n n) [ inl t ↦ ap (λ b. if b then v else a n) t.0 | inr t ↦ absurd (t.1 refl) ]
 
-at_last-there : (n v : ℕ) (a : ℕ → ℕ) (i : ℕ) → i < n → at_last n v a i ≡ a i
+pub at_last-there : (n v : ℕ) (a : ℕ → ℕ) (i : ℕ) → i < n → at_last n v a i ≡ a i
 unfolding at_last
 at_last-there n v a i lt = elim (eqb_tells n i) [ inl t ↦ let e : n ≡ i = t.1 in absurd (omega arith) | inr t ↦ ap (λ b. if b then v else a i) t.0 ]
 
-scope_same : (n : ℕ) (a b : ℕ → ℕ) (scope : List ℕ) → ((i : ℕ) → i < n → b i ≡ a i) → AllByRecursion (λ i. i < n) scope → map b scope ≡ map a scope
+pub scope_same : (n : ℕ) (a b : ℕ → ℕ) (scope : List ℕ) → ((i : ℕ) → i < n → b i ≡ a i) → AllByRecursion (λ i. i < n) scope → map b scope ≡ map a scope
 scope_same n a b [] f w = refl
 scope_same n a b (i ∷ scope) f w = λ j. f i w.0 j ∷ scope_same n a b scope f w.1 j
 
-goal_same : (k : Known) (n : ℕ) (a b : ℕ → ℕ) (g : Goal) → ((i : ℕ) → i < n → b i ≡ a i) → IsBelow n g → Meets k a g → Meets k b g
+pub goal_same : (k : Known) (n : ℕ) (a b : ℕ → ℕ) (g : Goal) → ((i : ℕ) → i < n → b i ≡ a i) → IsBelow n g → Meets k a g → Meets k b g
 unfolding Meets
 goal_same k n a b (Refute scope s f) h w m = subst (λ (c : List ℕ). RowsRefute k.rows k.values k.universals s c f) (sym (scope_same n a b scope h w)) m
 
-goals_same : (k : Known) (n : ℕ) (a b : ℕ → ℕ) (gs : List Goal) → ((i : ℕ) → i < n → b i ≡ a i) → AllByRecursion (IsBelow n) gs → AllByRecursion (Meets k a) gs → AllByRecursion (Meets k b) gs
+pub goals_same : (k : Known) (n : ℕ) (a b : ℕ → ℕ) (gs : List Goal) → ((i : ℕ) → i < n → b i ≡ a i) → AllByRecursion (IsBelow n) gs → AllByRecursion (Meets k a) gs → AllByRecursion (Meets k b) gs
 goals_same k n a b [] h w m = tt
 goals_same k n a b (g ∷ gs) h w m = (goal_same k n a b g h w.0 m.0, goals_same k n a b gs h w.1 m.1)
 

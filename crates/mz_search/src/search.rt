@@ -33,8 +33,8 @@ pub fn is_refuted(
     Ok(found)
 }
 
-/// Whether some classes that agree with those of the state bind all its goals.
-fn is_solvable<'a>(
+/// Whether some classes that agree with those of the state do what all its goals ask for.
+pub fn is_solvable<'a>(
     alloc: Global,
     table: &Table,
     values: &[usize],
