@@ -6,6 +6,7 @@ use Rattle.mz_core.specs.Statement.{Statement}
 use Rattle.mz_context.specs.declared.context.Context.{Context}
 use Rattle.mz_environment.specs.declared.environment.Environment.{Environment}
 use Rattle.mz_fits.proofs.FitLemmas.{empty}
+use Rattle.mz_names.specs.declared.refusal.Refusal.TheVariants.{TooLarge}
 use Rattle.mz_given.specs.Given.{cited_in}
 use Rattle.mz_tree_proof.specs.Reasoning.{JustData, SimpleJust, ProofJust, StepList}
 use Rattle.mz_tree_proof.specs.declared.equality_step.EqualityStepTree.{EqualityStepTree}
@@ -15,9 +16,9 @@ use Rattle.mz_given.specs.declared.given.Given.{Given}
 use Rattle.mz_justified.specs.declared.proof_fault.ProofFault.{ProofFault}
 use Rattle.mz_justified.specs.declared.proof_fault.ProofFault.TheVariants.{Refused}
 use Rattle.mz_justified.specs.declared.proof_fault.ProofRefusal.{ProofRefusal}
-use Rattle.mz_justified.specs.declared.proof_fault.ProofRefusal.TheVariants.{UnknownLabel, TooManyObligations}
+use Rattle.mz_justified.specs.declared.proof_fault.ProofRefusal.TheVariants.{UnknownLabel, Resolve, TooManyObligations}
 use Rattle.mz_walk.specs.Compact.{place_behind}
-use Rattle.mz_walk.specs.Earlier.{is_before, place_refused, uncited, ungrounded, else_told, told_behind, told_of_sides, told_first}
+use Rattle.mz_walk.specs.Earlier.{is_before, place_refused, uncited, ungrounded, else_told, told_behind, told_of_sides, told_first, large_or, told_unread}
 use Rattle.mz_performing.specs.Begun.{ToldAs}
 
 -- one justification
@@ -123,6 +124,23 @@ told_simple {E} e c semicolon n j t ks r y ej h = subst (λ z. IfOk y (λ x. x �
 
 pub told_proof : (e : Environment) (c : Context) (semicolon : Place) (n : ℕ) (j : JustData) (p end : Place) (ds : StepList) (ks : List EqualityStepTree) (r : ProofRefusal) → j ≡ ProofJust p ds end → r ≡ told_first e c semicolon n j ks r
 told_proof e c semicolon n j p end ds ks r ej = sym (ap (λ z. told_first e c semicolon n z ks r) ej)
+
+-- where what can be made is too large
+pub told_large_before : (first : Place) (r rest : ProofRefusal) (q : Place) (b : Bool) → q ≡ place_refused r → b ≡ is_before first q → b ≡ true → Resolve (TooLarge first) ≡ large_or first r rest
+told_large_before first r rest q b eq eb e1 = sym (ap (before_or (Resolve (TooLarge first)) rest) (ap (is_before first) (sym eq) ∙ (sym eb ∙ e1)))
+
+pub told_large_behind : (first : Place) (r rest : ProofRefusal) (q : Place) (b : Bool) → q ≡ place_refused r → b ≡ is_before first q → b ≡ false → rest ≡ large_or first r rest
+told_large_behind first r rest q b eq eb e0 = sym (ap (before_or (Resolve (TooLarge first)) rest) (ap (is_before first) (sym eq) ∙ (sym eb ∙ e0)))
+
+pub ruleset large_rules = (told_large_before, told_large_behind)
+
+pub told_kept : (e : Environment) (c : Context) (first semicolon : Place) (n : ℕ) (j : JustData) (ks : List EqualityStepTree) (kept : Bool) (r o : ProofRefusal) → kept ≡ true → o ≡ told_first e c semicolon n j ks r → o ≡ told_unread e c first semicolon n j ks kept r
+told_kept e c first semicolon n j ks kept r o ek eo = eo ∙ sym (ap (λ k. told_unread e c first semicolon n j ks k r) ek)
+
+pub told_large : (e : Environment) (c : Context) (first semicolon : Place) (n : ℕ) (j : JustData) (ks : List EqualityStepTree) (kept : Bool) (r o x : ProofRefusal) → kept ≡ false → o ≡ told_first e c semicolon n j ks r → x ≡ large_or first r o → x ≡ told_unread e c first semicolon n j ks kept r
+told_large e c first semicolon n j ks kept r o x ek eo ex = ex ∙ (ap (large_or first r) eo ∙ sym (ap (λ k. told_unread e c first semicolon n j ks k r) ek))
+
+pub ruleset unread_rules = (told_kept, told_large)
 
 pub told_as : (told : ProofRefusal → ProofRefusal) (f : ProofFault) (r q : ProofRefusal) → f ≡ Refused r → q ≡ told r → ToldAs told f (Refused q)
 told_as told f r q ef eq = (r, ef, eq)

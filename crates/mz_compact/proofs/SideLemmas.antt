@@ -1,6 +1,6 @@
 -- What the code of further sides tells.
-use Rattle.std.proofs.Common.{◌≡◌, ◌+◌, ℕ, suc, map, List, [], ◌∷◌, ◌++◌, length, false, refl, sym, ap, ◌∙◌, subst, arith}
-use Rattle.std.specs.Prelude.{Result, Ok, Err}
+use Rattle.std.proofs.Common.{◌≡◌, ◌+◌, ℕ, suc, map, List, [], ◌∷◌, ◌++◌, length, Bool, true, false, refl, sym, ap, ◌∙◌, subst, arith}
+use Rattle.std.specs.Prelude.{◌&&◌, Result, Ok, Err}
 use Rattle.std.proofs.lemmas.List.{append-nil, append_assoc, length-append}
 use Rattle.mz_base.specs.declared.place.Place.{Place}
 use Rattle.mz_logic.specs.Term.{Term}
@@ -25,6 +25,7 @@ use Rattle.mz_obligations.specs.declared.obligation.Extent.{Extent}
 use Rattle.mz_obligations.specs.declared.obligation.Obligation.{Obligation}
 use Rattle.mz_justified.specs.Answers.{OnMade}
 use Rattle.mz_justified.specs.Justified.{Justified, IsPut, Put}
+use Rattle.mz_justified.specs.Kept.{justification_keeps}
 use Rattle.mz_justified.specs.declared.proof_fault.ProofFault.{ProofFault}
 use Rattle.mz_justified.specs.declared.proof_fault.ProofRefusal.{ProofRefusal}
 use Rattle.mz_justified.specs.declared.proof_fault.ProofRefusal.TheVariants.{StepNoFit, Resolve}
@@ -32,7 +33,7 @@ use Rattle.mz_walk.specs.declared.compact.Compact.{Compact}
 use Rattle.mz_walk.specs.declared.compact.Said.{Said}
 use Rattle.mz_walk.specs.Walked.{Walked, Made, Refused, behind}
 use Rattle.mz_walk.specs.Compact as cp
-use Rattle.mz_walk.specs.Compact.{saying, compact, equalities, said_of, EqualityMade, EqualityRead, CompactRead, place_behind, JustifiesSides}
+use Rattle.mz_walk.specs.Compact.{saying, compact, equalities, said_of, EqualityMade, EqualityRead, CompactRead, place_behind, sides_keep, JustifiesSides}
 use Rattle.mz_walk.specs.Answers.{IsBrought, Brings}
 use Rattle.mz_performing.proofs.AnswerLemmas.{on_err, on_ok}
 use Rattle.mz_performing.proofs.KeptLemmas.{all_kept-is}
@@ -95,6 +96,25 @@ pub told_no_equation : (rest others : List EqualityStepTree) (k : EqualityStepTr
 told_no_equation rest others k equations er en h = omega (arith, ap length er)
 
 pub ruleset side_rules = (told_siding, told_lengths, told_side, told_side_unjustified, told_sides_end)
+
+-- whether the instances for their equations keep the limits: for those that are left as for all
+pub told_keep_turn : (e : Environment) (c : Context) (rest others : List EqualityStepTree) (k : EqualityStepTree) (equations more : List Statement) (s : Statement) (b : Bool) (all : List EqualityStepTree) (ss : List Statement) → rest ≡ k ∷ others → equations ≡ s ∷ more → b ≡ justification_keeps e c false k.simple s → b ≡ true →
+    sides_keep e c rest equations ≡ sides_keep e c all ss → sides_keep e c others more ≡ sides_keep e c all ss
+told_keep_turn e c rest others k equations more s b all ss er es eb e1 h =
+    sym (ap (λ y. y && sides_keep e c others more) (sym eb ∙ e1)) ∙ (sym (ap (λ xs. sides_keep e c xs equations) er ∙ ap (sides_keep e c (k ∷ others)) es) ∙ h)
+
+pub told_keep_stop : (e : Environment) (c : Context) (rest others : List EqualityStepTree) (k : EqualityStepTree) (equations more : List Statement) (s : Statement) (b : Bool) (all : List EqualityStepTree) (ss : List Statement) → rest ≡ k ∷ others → equations ≡ s ∷ more → b ≡ justification_keeps e c false k.simple s → b ≡ false →
+    sides_keep e c rest equations ≡ sides_keep e c all ss → false ≡ sides_keep e c all ss
+told_keep_stop e c rest others k equations more s b all ss er es eb e0 h =
+    sym (ap (λ y. y && sides_keep e c others more) (sym eb ∙ e0)) ∙ (sym (ap (λ xs. sides_keep e c xs equations) er ∙ ap (sides_keep e c (k ∷ others)) es) ∙ h)
+
+pub told_keep_none : (e : Environment) (c : Context) (rest others : List EqualityStepTree) (k : EqualityStepTree) (equations : List Statement) (all : List EqualityStepTree) (ss : List Statement) → rest ≡ k ∷ others → length equations ≡ 0 → sides_keep e c rest equations ≡ sides_keep e c all ss → true ≡ sides_keep e c all ss
+told_keep_none e c rest others k equations all ss er en h = sym (ap (λ xs. sides_keep e c xs equations) er ∙ ap (sides_keep e c (k ∷ others)) (empty equations en)) ∙ h
+
+pub told_keep_end : (e : Environment) (c : Context) (rest : List EqualityStepTree) (equations : List Statement) (all : List EqualityStepTree) (ss : List Statement) → length rest ≡ 0 → sides_keep e c rest equations ≡ sides_keep e c all ss → true ≡ sides_keep e c all ss
+told_keep_end e c rest equations all ss er h = sym (ap (λ xs. sides_keep e c xs equations) (empty rest er)) ∙ h
+
+pub ruleset keep_rules = (told_keep_turn, told_keep_stop, told_keep_none, told_keep_end)
 
 -- there are as many equations as further sides
 terms-length : (e : Environment) (c : Context) (least : ℕ) (l m : Left) (ts : List TermData) (before : List Term) (o : Result (List Term) Refusal) → TermsReadBehind e c least l ts before o m → (us : List Term) → o ≡ Ok us → length us ≡ length before + length ts

@@ -2,15 +2,18 @@
 ghost use Rattle.std.specs.Prelude.{◌≡◌, OnOk};
 ghost use Rattle.mz_steps.specs.Changes.{block_after, context_after};
 ghost use Rattle.mz_justified.specs.Answers.{OnMade};
-ghost use Rattle.mz_performing.specs.Begun.{FitsCompact, Begins};
+ghost use Rattle.mz_performing.specs.Begun.{FitsCompact, FitsKept, Begins};
 
+use crate::ahead::keeps_ahead;
 use crate::compact::read_compact;
 use crate::earlier::tell;
+use crate::sides::sides_keep;
 use mz_base::place::Place;
 use mz_context::context::Context;
 use mz_core::outcome::Left;
 use mz_justified::proof_fault::{ProofFault, ProofRefusal};
 use mz_justified::walker::{Opening, Walker};
+use mz_names::refusal::Refusal;
 use mz_performing::begun::{Begun, step_of};
 use mz_performing::labels::stated_under;
 use mz_performing::linked::is_linked;
@@ -51,11 +54,39 @@ fn fit_compact(
     }
 }
 
+/// The same where the instances that the justifications of its further sides make keep the limits; else `TooLarge` at the step.
+#[tactic(auto, using(crate::proofs::BegunLemmas::kept_rules))]
+fn fit_kept(
+    walker: Walker<'_>,
+    ctx: &Context,
+    block: &Block,
+    first: Place,
+    concluded: bool,
+    p: &PropositionTree,
+    sides: &[EqualityStepTree],
+    x: Box<Compact>,
+) -> Result<Begun, ProofFault>
+    ensures { OnMade result (FitsKept walker.entry.env.now ctx.now block.now first concluded p.now sides.now x.value) }
+{
+    let kept = sides_keep(walker, ctx, sides, x.said.further.items.as_slice())?;
+    match fit_compact(walker, ctx, block, first, concluded, p, x) {
+        Ok(begun) => {
+            if kept {
+                Ok(begun)
+            } else {
+                Err(ProofFault::Refused(ProofRefusal::Resolve(Refusal::TooLarge(first))))
+            }
+        }
+        Err(f) => Err(f),
+    }
+}
+
 /// Reads a compact statement, where it is linked behind a statement just before, and sees that it fits. The context is as
 /// before.
 ///
 /// Refusals: `StepNoFit` at the step where it is linked and there is no statement just before; those of what is read, before
-/// which those of the justifications in front of it come; then `StepNoFit` and `TooLarge` at the step.
+/// which there come, of the sides in front of it, `TooLarge` at the step and those of the justifications; then `StepNoFit` and
+/// `TooLarge` at the step, the latter also where an instance that the justification of a further side makes is beyond the limits.
 #[tactic(auto, using(crate::proofs::BegunLemmas::begin_rules))]
 pub fn begin(
     walker: Walker<'_>,
@@ -75,13 +106,27 @@ pub fn begin(
     if !is_linked(opening.linked, ctx) {
         return Err(ProofFault::Refused(ProofRefusal::StepNoFit(opening.first)));
     }
+    let nodes = left.nodes;
     let count = left.obligations;
     match read_compact(walker, ctx, opening.first, p, sides, left) {
         Ok(x) => {
             let x = Box::new(walker.alloc, x)?;
-            fit_compact(walker, ctx, block, opening.first, concluded, p, x)
+            fit_kept(walker, ctx, block, opening.first, concluded, p, sides, x)
         }
-        Err(f) => Err(tell(walker, ctx, semicolon, count, just, sides, f)),
+        Err(f) => {
+            let kept = keeps_ahead(walker, ctx, opening.linked, p, just, sides, nodes)?;
+            Err(tell(
+                walker,
+                ctx,
+                opening.first,
+                semicolon,
+                count,
+                just,
+                sides,
+                kept,
+                f,
+            ))
+        }
     }
 }
 

@@ -1,8 +1,8 @@
-//! What is told of an iterative equality of which a side isn't read: the refusal of a justification in front of the side, where
-//! there is one.
+//! What is told of an iterative equality of which a side isn't read: that what can be made of the sides in front of it is too large, or
+//! else the refusal of a justification in front of it, where there is one.
 ghost use Rattle.std.specs.Prelude.{◌≡◌, IfOk};
 ghost use Rattle.mz_tree_proof.specs.Reasoning.{SimpleJust};
-ghost use Rattle.mz_walk.specs.Earlier.{is_before, place_unread, place_refused, ungrounded, told_of_sides, told_first};
+ghost use Rattle.mz_walk.specs.Earlier.{is_before, place_unread, place_refused, ungrounded, told_of_sides, told_first, large_or, told_unread};
 ghost use Rattle.mz_performing.specs.Begun.{ToldAs};
 
 use crate::sides::place_behind;
@@ -124,9 +124,9 @@ fn told_from(
     }
 }
 
-/// What is told where a compact statement isn't read, and the article had `count` obligations left before it: a refusal of a
-/// justification that stands before that of the reading, or this one.
-pub fn told_first(
+/// What is told among the justifications of a compact statement that isn't read, where the article had `count` obligations left before
+/// it: a refusal of one that stands before that of the reading, or this one.
+fn told_first(
     walker: Walker<'_>,
     ctx: &Context,
     semicolon: Place,
@@ -143,23 +143,60 @@ pub fn told_first(
     }
 }
 
+/// That the step is too large, at its first token, where this is before the place of the refusal; or else the other.
+#[tactic(auto, using(crate::proofs::EarlierLemmas::large_rules))]
+fn large_or(first: Place, r: ProofRefusal, rest: ProofRefusal) -> ProofRefusal
+    ensures { result ≡ large_or first r rest }
+{
+    if is_before(first, place_refused(r)) {
+        ProofRefusal::Resolve(Refusal::TooLarge(first))
+    } else {
+        rest
+    }
+}
+
+/// What is told where a compact statement isn't read, and what can be made of it keeps the limits or doesn't.
+#[tactic(auto, using(crate::proofs::EarlierLemmas::unread_rules))]
+fn told_unread(
+    walker: Walker<'_>,
+    ctx: &Context,
+    first: Place,
+    semicolon: Place,
+    count: u32,
+    just: &JustTree,
+    sides: &[EqualityStepTree],
+    kept: bool,
+    r: ProofRefusal,
+) -> Result<ProofRefusal, AllocError>
+    ensures { IfOk result (λ o. o ≡ told_unread walker.entry.env.now ctx.now first semicolon count just.now sides.now kept r) }
+{
+    let told = told_first(walker, ctx, semicolon, count, just, sides, r)?;
+    if kept {
+        Ok(told)
+    } else {
+        Ok(large_or(first, r, told))
+    }
+}
+
 /// The same of a fault.
 #[tactic(auto, using(crate::proofs::EarlierLemmas::fault_rules))]
 pub fn tell(
     walker: Walker<'_>,
     ctx: &Context,
+    first: Place,
     semicolon: Place,
     count: u32,
     just: &JustTree,
     sides: &[EqualityStepTree],
+    kept: bool,
     f: ProofFault,
 ) -> ProofFault
-    ensures { ToldAs (told_first walker.entry.env.now ctx.now semicolon count just.now sides.now) f result }
+    ensures { ToldAs (told_unread walker.entry.env.now ctx.now first semicolon count just.now sides.now kept) f result }
 {
     match f {
         ProofFault::Memory => ProofFault::Memory,
         ProofFault::Refused(r) => {
-            match told_first(walker, ctx, semicolon, count, just, sides, r) {
+            match told_unread(walker, ctx, first, semicolon, count, just, sides, kept, r) {
                 Ok(q) => ProofFault::Refused(q),
                 Err(_) => ProofFault::Memory,
             }

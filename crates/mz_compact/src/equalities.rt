@@ -41,7 +41,7 @@ fn equation(alloc: Global, t: &Term, u: &Term) -> Result<Statement, AllocError>
 /// The statements for all objects of the variables' types, where the variables are the constants from n on. None where one of
 /// them is beyond the limits.
 #[tactic(auto, using(crate::proofs::EqualityLemmas::closed_rules))]
-fn all_closed(
+pub fn all_closed(
     alloc: Global,
     n: u32,
     vs: &Variables,

@@ -2,6 +2,7 @@
 //! `now` states, and how a case begins.
 #![tactic(auto)]
 
+pub mod ahead;
 pub mod begun;
 pub mod cases;
 pub mod compact;

@@ -1,3 +1,4 @@
 pub mod Walks
 pub mod OneIntroduction
 pub mod OneCompact
+pub mod OneAhead

@@ -45,7 +45,9 @@ use Rattle.mz_walk.specs.Performing.{Performs, PerformsAlone, is_linked}
 use Rattle.mz_walk.specs.Introductions as int
 use Rattle.mz_walk.specs.Introductions.{spent_for, OwesEach, JustifiesEach, Considers, types_owed, Retypes, Reconsiders, SetsOne, DefinesFunctor, DefinesPredicate, Introduces}
 use Rattle.mz_skeleton_laws.proofs.OnePerformed as pe
-use Rattle.mz_skeleton_laws.proofs.OnePerformed.{one_performed, one_by_one, one_alone, one_each}
+pub use Rattle.mz_skeleton_laws.proofs.OnePerformed.{one_performed}
+pub use Rattle.mz_skeleton_laws.proofs.OneSkeleton.{one_skeleton}
+use Rattle.mz_skeleton_laws.proofs.OnePerformed.{one_by_one, one_alone, one_each}
 use Rattle.mz_introduction_laws.specs.Laws.{OneIntroductionLaw}
 use Rattle.mz_introduction_laws.proofs.Walks.{refused, unread, NextMade, one_next_made}
 

@@ -1,5 +1,5 @@
 -- Steps that have begun: they were read and fit, and have still to be justified.
-use Rattle.std.specs.Prelude.{◌≡◌, ◌++◌, Bool, true, List, [], ◌∷◌, Some, Result, Ok, Err}
+use Rattle.std.specs.Prelude.{◌≡◌, ◌++◌, Bool, true, false, List, [], ◌∷◌, Some, Result, Ok, Err}
 use Rattle.mz_base.specs.declared.place.Place.{Place}
 use Rattle.mz_core.specs.Statement.{Statement}
 use Rattle.mz_core.specs.declared.outcome.Left.{Left}
@@ -7,6 +7,7 @@ use Rattle.mz_context.specs.declared.context.Context.{Context}
 use Rattle.mz_context.specs.declared.labelled.LabelledStatement.{LabelledStatement}
 use Rattle.mz_environment.specs.declared.environment.Environment.{Environment}
 use Rattle.mz_names.specs.declared.refusal.Refusal.{Refusal}
+use Rattle.mz_names.specs.declared.refusal.Refusal.TheVariants.{TooLarge}
 use Rattle.mz_types.specs.Known.{typing}
 use Rattle.mz_steps.specs.Changes.{with_stated, outside_of}
 use Rattle.mz_steps.specs.Effects.{Acts}
@@ -28,7 +29,7 @@ use Rattle.mz_justified.specs.declared.proof_fault.ProofRefusal.TheVariants.{Res
 use Rattle.mz_walk.specs.declared.compact.Compact.{Compact}
 use Rattle.mz_walk.specs.Walked.{state, Walked, Refused}
 use Rattle.mz_walk.specs.Performing.{Performs, keeps, is_linked}
-use Rattle.mz_walk.specs.Compact.{CompactRead, compact_stated}
+use Rattle.mz_walk.specs.Compact.{CompactRead, compact_stated, sides_keep}
 use Rattle.mz_walk.specs.Walk.{step_of, Says}
 use Rattle.mz_performing.specs.declared.begun.Begun.{Begun}
 
@@ -49,7 +50,16 @@ abbrev pub FitsCompact : Environment → Context → Block → Place → Bool �
 FitsCompact e c b first concluded p y (Ok x) = IsFit e c b concluded p y x
 FitsCompact e c b first concluded p y (Err r) = (l : Left) (ps : List LabelledStatement) → Performs e first (state c b l) (step_of concluded y.said.states) ps (Err r)
 
--- a compact statement that was read and fits
+-- where it fits, the instances that the justifications of its further sides make keep the limits; or it is refused
+pub data IsUnfit (e : Environment) (c : Context) (b : Block) (first : Place) (concluded : Bool) (p : PropositionTree) (ks : List EqualityStepTree) (y : Compact) : ProofRefusal → Type 0 where
+  unfit : (r : ProofRefusal) → FitsCompact e c b first concluded p y (Err r) → IsUnfit e c b first concluded p ks y r
+  instance_too_large : (x : Begun) → IsFit e c b concluded p y x → sides_keep e c ks y.said.further ≡ false → IsUnfit e c b first concluded p ks y (Resolve (TooLarge first))
+
+abbrev pub FitsKept : Environment → Context → Block → Place → Bool → PropositionTree → List EqualityStepTree → Compact → Result Begun ProofRefusal → Type 0
+FitsKept e c b first concluded p ks y (Ok x) = IsFit e c b concluded p y x × (sides_keep e c ks y.said.further ≡ true)
+FitsKept e c b first concluded p ks y (Err r) = IsUnfit e c b first concluded p ks y r
+
+-- a compact statement that was read and fits, and whose instances keep the limits
 pub record IsBegun (e : Environment) (c : Context) (b : Block) (first : Place) (linked concluded : Bool) (p : PropositionTree) (ks : List EqualityStepTree) (l m : Left) (x : Begun) : Type 0 where
   pub follows : is_linked linked c.previous ≡ true
   pub is_read : CompactRead e c first l p ks (Ok x.compact) m
@@ -57,6 +67,7 @@ pub record IsBegun (e : Environment) (c : Context) (b : Block) (first : Place) (
   pub states : x.stated ≡ compact_stated p x.compact ∷ []
   pub acts : Acts (typing e c) e.steps b c x.step (Some x.effect)
   pub within : keeps x.effect ≡ true
+  pub instances : sides_keep e c ks x.compact.said.further ≡ true
 
 -- or it is refused
 abbrev pub Begins : Environment → Context → Block → Place → Bool → Bool → PropositionTree → JustData → List EqualityStepTree → Place → Left → Left → Result Begun ProofRefusal → Type 0

@@ -435,10 +435,11 @@ led_grows c u os (Refused r) g = tt
 
 says_grow : (e : Environment) (at : Extent) (s : State) (first : Place) (linked concluded : Bool) (t : CompactData) (o : Walked State) → Says e at s first linked concluded t o → GrowsIn s.context o
 says_grow e at _ _ _ _ _ _ (wa.follows_nothing s first linked concluded t h) = tt
-says_grow e at _ _ _ _ _ _ (wa.not_read s first semicolon linked concluded p j ks r l h k) = tt
+says_grow e at _ _ _ _ _ _ (wa.not_read s first semicolon linked concluded p j ks r l kept h k a) = tt
 says_grow e at _ _ _ _ _ _ (wa.unfit s first semicolon linked concluded p j ks x l r h k f) = tt
-says_grow e at _ _ _ _ _ _ (wa.not_justified s u first semicolon linked concluded p j ks x l r h k f y) = tt
-says_grow e at _ _ _ _ _ _ (wa.justified s u first semicolon linked concluded p j ks x l m os o h k f y z) =
+says_grow e at _ _ _ _ _ _ (wa.instance_too_large s u first semicolon linked concluded p j ks x l h k f a) = tt
+says_grow e at _ _ _ _ _ _ (wa.not_justified s u first semicolon linked concluded p j ks x l r h k f a y) = tt
+says_grow e at _ _ _ _ _ _ (wa.justified s u first semicolon linked concluded p j ks x l m os o h k f a y z) =
     led_grows s.context u os o (performs_grow e first (record { context = s.context; block = s.block; left = l }) _ _ (Ok u) f)
 
 says_now_grow : (e : Environment) (at : Extent) (s : State) (first : Place) (concluded : Bool) (label : List ℕ) (ds : StepList) (o : Walked State) → SaysNow e at s first concluded label ds o → GrowsIn s.context o

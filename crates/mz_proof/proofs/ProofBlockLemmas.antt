@@ -101,10 +101,11 @@ introduces_proof e at first s _ _ (it.private_predicate t o h) eb = without_proo
 
 says_proof : (e : Environment) (at : Extent) (s : State) (first : Place) (linked concluded : Bool) (t : CompactData) (o : Walked State) → Says e at s first linked concluded t o → s.block ≡ Proof → ProofIn o
 says_proof e at _ _ _ _ _ _ (wa.follows_nothing s first linked concluded t h) eb = tt
-says_proof e at _ _ _ _ _ _ (wa.not_read s first semicolon linked concluded p j ks r l h k) eb = tt
+says_proof e at _ _ _ _ _ _ (wa.not_read s first semicolon linked concluded p j ks r l kept h k a) eb = tt
 says_proof e at _ _ _ _ _ _ (wa.unfit s first semicolon linked concluded p j ks x l r h k f) eb = tt
-says_proof e at _ _ _ _ _ _ (wa.not_justified s u first semicolon linked concluded p j ks x l r h k f y) eb = tt
-says_proof e at _ _ _ _ _ _ (wa.justified s u first semicolon linked concluded p j ks x l m os o h k f y z) eb =
+says_proof e at _ _ _ _ _ _ (wa.instance_too_large s u first semicolon linked concluded p j ks x l h k f a) eb = tt
+says_proof e at _ _ _ _ _ _ (wa.not_justified s u first semicolon linked concluded p j ks x l r h k f a y) eb = tt
+says_proof e at _ _ _ _ _ _ (wa.justified s u first semicolon linked concluded p j ks x l m os o h k f a y z) eb =
     led_proof u os o (performs_proof e first (record { context = s.context; block = s.block; left = l }) _ _ (Ok u) f eb)
 
 says_now_proof : (e : Environment) (at : Extent) (s : State) (first : Place) (concluded : Bool) (label : List ℕ) (ds : StepList) (o : Walked State) → SaysNow e at s first concluded label ds o → s.block ≡ Proof → ProofIn o

@@ -77,7 +77,7 @@ told_unjustified {X} Y e at c d b first semicolon place linked concluded tree p 
     let Q : Result Y ProofRefusal → Type 0 = Brings (Says e at (state c b l) first linked concluded (StatedCompact p j ks semicolon)) t qs rs in
     let at_place : OnMade w P = at_its_place e at c d first place (place_behind ks semicolon) linked i j z x.compact.sentence m n os ps w ed ep ei ez g in
     subst (λ z. OnMade {X = Y} (Err f) (Brings (Says e at (state c b l) first linked concluded z) t qs rs)) (ap (λ v. StatedCompact p j v semicolon) ek ∙ sym et)
-    (on_err P Q w f ew at_place (λ r k. wa.not_justified (state c b l) _ first semicolon linked concluded p j ks x.compact m r begun.follows begun.is_read (performs e c b first linked concluded p ks l m x begun) k))
+    (on_err P Q w f ew at_place (λ r k. wa.not_justified (state c b l) _ first semicolon linked concluded p j ks x.compact m r begun.follows begun.is_read (performs e c b first linked concluded p ks l m x begun) begun.instances k))
 
 pub told_side_unjustified : {X Z : Type 0} (Y : Type 0) (e : Environment) (at : Extent) (c d d' : Context) (b : Block) (first semicolon place : Place) (linked concluded : Bool) (tree : CompactData) (p : PropositionTree) (i j : JustData) (z : Sentence) (ks sides : List EqualityStepTree) (l m n n' : Left) (t : State) (os ps qs rs vs : List Obligation) (ss : List Statement) (y : Result Begun ProofFault) (x : Begun) (w : Result X ProofFault) (u : X) (w' : Result Z ProofFault) (f : ProofFault) →
     tree ≡ StatedCompact p j sides semicolon → ks ≡ sides → OnMade y (Begins e c b first linked concluded p j ks semicolon l m) → y ≡ Ok x → d ≡ c → place ≡ place_behind ks semicolon → i ≡ j → z ≡ x.compact.sentence →
@@ -93,7 +93,7 @@ told_side_unjustified {X} {Z} Y e at c d d' b first semicolon place linked concl
     let back : d' ≡ c = subst (λ z. OnOk z (d' ≡ d)) ew same ∙ ed in
     let sided : OnMade w' S = subst (λ z. OnMade w' (Brings (JustifiesSides e at c first semicolon ks z n) n' ps qs)) es (subst (λ z. OnMade w' (Brings (JustifiesSides e at z first semicolon ks ss n) n' ps qs)) back k) in
     subst (λ z. OnMade {X = Y} (Err f) (Brings (Says e at (state c b l) first linked concluded z) t rs vs)) (ap (λ v. StatedCompact p j v semicolon) ek ∙ sym et)
-    (on_err S Q w' f ew' sided (λ r z. wa.justified (state c b l) _ first semicolon linked concluded p j ks x.compact m n justified.made (Refused r) begun.follows begun.is_read (performs e c b first linked concluded p ks l m x begun) justified.is_made z))
+    (on_err S Q w' f ew' sided (λ r z. wa.justified (state c b l) _ first semicolon linked concluded p j ks x.compact m n justified.made (Refused r) begun.follows begun.is_read (performs e c b first linked concluded p ks l m x begun) begun.instances justified.is_made z))
 
 pub told_said : {X Z : Type 0} (e : Environment) (at : Extent) (c d d' c' : Context) (b b' : Block) (first semicolon place : Place) (linked concluded : Bool) (tree : CompactData) (p : PropositionTree) (i j : JustData) (z : Sentence) (ks sides : List EqualityStepTree) (l m n n' : Left) (os ps qs : List Obligation) (ss : List Statement) (y : Result Begun ProofFault) (x v : Begun) (w : Result X ProofFault) (u : X) (w' : Result Z ProofFault) (u' : Z) →
     tree ≡ StatedCompact p j sides semicolon → ks ≡ sides → OnMade y (Begins e c b first linked concluded p j ks semicolon l m) → y ≡ Ok x → d ≡ c → place ≡ place_behind ks semicolon → i ≡ j → z ≡ x.compact.sentence →
@@ -112,7 +112,7 @@ told_said {X} {Z} e at c d d' c' b b' first semicolon place linked concluded tre
     let after : state c' b' n' ≡ state (context_after c x.step x.effect x.stated) (block_after b x.effect) n' =
     ap (λ z. state z b' n') (ec ∙ (ap (λ z. context_after z v.step v.effect v.stated) back ∙ ap (λ z. context_after c z.step z.effect z.stated) ev)) ∙ ap (λ z. state (context_after c x.step x.effect x.stated) z n') (eb ∙ ap (λ z. block_after b z.effect) ev) in
     let whole : Says e at (state c b l) first linked concluded (StatedCompact p j ks semicolon) (Made (justified.made ++ all.made) (state (context_after c x.step x.effect x.stated) (block_after b x.effect) n')) =
-    wa.justified (state c b l) _ first semicolon linked concluded p j ks x.compact m n justified.made (Made all.made n') begun.follows begun.is_read (performs e c b first linked concluded p ks l m x begun) justified.is_made all.is_made in
+    wa.justified (state c b l) _ first semicolon linked concluded p j ks x.compact m n justified.made (Made all.made n') begun.follows begun.is_read (performs e c b first linked concluded p ks l m x begun) begun.instances justified.is_made all.is_made in
     record {
       made = justified.made ++ all.made;
       is_made = subst (λ z. Says e at (state c b l) first linked concluded z (Made (justified.made ++ all.made) (state c' b' n'))) (ap (λ z. StatedCompact p j z semicolon) ek ∙ sym et)

@@ -1,5 +1,5 @@
 -- Compact statements as they are read: a proposition, or an iterative equality t0 = t1 .= t2 .. .= tn.
-use Rattle.std.specs.Prelude.{◌≡◌, ℕ, Bool, true, false, List, [], ◌∷◌, map, Option, Some, None, Result, Ok, Err}
+use Rattle.std.specs.Prelude.{◌≡◌, ◌&&◌, ℕ, Bool, true, false, List, [], ◌∷◌, map, Option, Some, None, Result, Ok, Err}
 use Rattle.mz_base.specs.declared.place.Place.{Place}
 use Rattle.mz_logic.specs.Term.{Term}
 use Rattle.mz_core.specs.Statement.{Statement, Truth, Eq, Atom, Not, And, For}
@@ -21,6 +21,7 @@ use Rattle.mz_obligations.specs.declared.obligation.Extent.{Extent}
 use Rattle.mz_obligations.specs.declared.obligation.Obligation.{Obligation}
 use Rattle.mz_parts.specs.Named.{SidesRead}
 use Rattle.mz_parts.specs.Propositions.{label_in}
+use Rattle.mz_justified.specs.Kept.{justification_keeps}
 use Rattle.mz_justified.specs.Justified.{Justified}
 use Rattle.mz_justified.specs.declared.proof_fault.ProofRefusal.{ProofRefusal}
 use Rattle.mz_justified.specs.declared.proof_fault.ProofRefusal.TheVariants.{StepNoFit, Resolve}
@@ -98,6 +99,12 @@ compact_stated p x = stated_under (label_in p.label) x.said.states
 abbrev pub place_behind : List EqualityStepTree → Place → Place
 place_behind [] semicolon = semicolon
 place_behind (k ∷ ks) semicolon = k.sign
+
+-- whether the instances that the justifications of further sides make for their equations keep the limits
+abbrev pub sides_keep : Environment → Context → List EqualityStepTree → List Statement → Bool
+sides_keep e c [] ss = true
+sides_keep e c (k ∷ ks) [] = true
+sides_keep e c (k ∷ ks) (s ∷ ss) = justification_keeps e c false k.simple s && sides_keep e c ks ss
 
 -- the equations of further sides, each justified behind its own one
 pub data JustifiesSides (e : Environment) (at : Extent) (c : Context) (first semicolon : Place) : List EqualityStepTree → List Statement → Left → Walked Left → Type 0 where

@@ -1,6 +1,6 @@
--- The refusal that is told of an iterative equality of which a side isn't read: that of a justification in front of the side comes
--- first, since its place in the text is earlier.
-use Rattle.std.specs.Prelude.{ℕ, ◌-◌, Bool, ◌&&◌, ◌||◌, nat_lt, nat_eq, if◌then◌else◌, List, [], ◌∷◌, Option, Some, None, Result, Ok, Err}
+-- The refusal that is told of an iterative equality of which a side isn't read. What stands earlier in the text comes first: that what
+-- can be made of the sides in front of it is too large, at the step's first token; then the refusal of a justification in front of it.
+use Rattle.std.specs.Prelude.{ℕ, ◌-◌, Bool, true, false, ◌&&◌, ◌||◌, nat_lt, nat_eq, if◌then◌else◌, List, [], ◌∷◌, Option, Some, None, Result, Ok, Err}
 use Rattle.mz_base.specs.declared.place.Place.{Place}
 use Rattle.mz_context.specs.declared.context.Context.{Context}
 use Rattle.mz_environment.specs.declared.environment.Environment.{Environment}
@@ -62,3 +62,12 @@ told_of_sides e c semicolon n (k ∷ ks) r = told_behind e c n (place_of (place_
 abbrev pub told_first : Environment → Context → Place → ℕ → JustData → List EqualityStepTree → ProofRefusal → ProofRefusal
 told_first e c semicolon n (SimpleJust t) ks r = told_behind e c n (place_of (place_behind ks semicolon) t) t (told_of_sides e c semicolon (n - 1) ks r) r
 told_first e c semicolon n (ProofJust p ds end) ks r = r
+
+-- that the step is too large, at its first token, where this is before the place of the refusal; or else the other
+abbrev pub large_or : Place → ProofRefusal → ProofRefusal → ProofRefusal
+large_or first r rest = if is_before first (place_refused r) then Resolve (TooLarge first) else rest
+
+-- what is told where the step isn't read, and what can be made of it keeps the limits or doesn't
+abbrev pub told_unread : Environment → Context → Place → Place → ℕ → JustData → List EqualityStepTree → Bool → ProofRefusal → ProofRefusal
+told_unread e c first semicolon n j ks true r = told_first e c semicolon n j ks r
+told_unread e c first semicolon n j ks false r = large_or first r (told_first e c semicolon n j ks r)

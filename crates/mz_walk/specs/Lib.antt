@@ -4,6 +4,7 @@ pub mod Performing
 pub mod Skeleton
 pub mod Introductions
 pub mod Compact
+pub mod Ahead
 pub mod Earlier
 pub mod Walk
 pub mod Answers

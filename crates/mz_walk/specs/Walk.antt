@@ -49,8 +49,9 @@ use Rattle.mz_walk.specs.Performing.{Performs, is_linked, is_now}
 use Rattle.mz_walk.specs.Skeleton.{StepsOn}
 use Rattle.mz_walk.specs.Introductions.{Introduces}
 use Rattle.mz_walk.specs.declared.compact.Compact.{Compact}
-use Rattle.mz_walk.specs.Compact.{CompactRead, compact_stated, stated_under, place_behind, JustifiesSides}
-use Rattle.mz_walk.specs.Earlier.{told_first}
+use Rattle.mz_walk.specs.Compact.{CompactRead, compact_stated, stated_under, place_behind, sides_keep, JustifiesSides}
+use Rattle.mz_walk.specs.Ahead.{KeepsAhead}
+use Rattle.mz_walk.specs.Earlier.{told_unread}
 
 -- the step of a statement: with `thus`, `hence` and `hereby` it is concluded, else it is stated only
 abbrev pub step_of : Bool → Statement → ReadStep
@@ -110,9 +111,12 @@ pub data SuppositionsRead (e : Environment) (c : Context) : SupposeList → Left
   one_supposed : (l m : Left) (p q end semicolon : Place) (h : HypothesesTree) (ds : StepList) (us : SupposeList) (ps : List LabelledStatement) (o : Option (List Statement)) →
       PropositionsRead e c 0 l (hypotheses_in h) (Ok ps) m → SuppositionsRead e c us m o → SuppositionsRead e c (more_supposes (CaseSuppose p h q ds end semicolon) us) l (supposed_first (conjunction (map statement_of ps)) o)
 
--- the nodes alone of what is left
+-- so many nodes alone, and those of what is left
+abbrev pub only_nodes : ℕ → Left
+only_nodes n = record { nodes = n; obligations = 0; made = [] }
+
 abbrev pub nodes_alone : Left → Left
-nodes_alone l = record { nodes = l.nodes; obligations = 0; made = [] }
+nodes_alone l = only_nodes l.nodes
 
 -- what can be told of a split before its justification: that it follows no statement; or, where all that its cases suppose can be
 -- read, that their disjunction, or an instance of a scheme that the justification makes for it, is beyond the limits
@@ -143,22 +147,27 @@ mutual
         GoesAll e at (state c Proof l) ds (Made os t) → is_proved t.context.thesis ≡ true → Proves e at c ds end l (Made os t.left)
 
   -- a compact statement, which is linked where `then` or `hence` stands before it, and concluded behind `thus` and `hence`. Where
-  -- something of it isn't read, a refusal of a justification that stands before comes first
+  -- something of it isn't read, what can be told of what stands before that comes first. Where all is read and fits, an instance of a
+  -- scheme that is too large comes before all that is refused at a justification
   pub data Says (e : Environment) (at : Extent) : State → Place → Bool → Bool → CompactData → Walked State → Type 0 where
     follows_nothing : (s : State) (first : Place) (linked concluded : Bool) (t : CompactData) → is_linked linked s.context.previous ≡ false → Says e at s first linked concluded t (Refused (StepNoFit first))
-    not_read : (s : State) (first semicolon : Place) (linked concluded : Bool) (p : PropositionTree) (j : JustData) (ks : List EqualityStepTree) (r : ProofRefusal) (l : Left) →
-        is_linked linked s.context.previous ≡ true → CompactRead e s.context first s.left p ks (Err r) l →
-        Says e at s first linked concluded (StatedCompact p j ks semicolon) (Refused (told_first e s.context semicolon s.left.obligations j ks r))
+    not_read : (s : State) (first semicolon : Place) (linked concluded : Bool) (p : PropositionTree) (j : JustData) (ks : List EqualityStepTree) (r : ProofRefusal) (l : Left) (kept : Bool) →
+        is_linked linked s.context.previous ≡ true → CompactRead e s.context first s.left p ks (Err r) l → KeepsAhead e s.context linked (nodes_alone s.left) p j ks kept →
+        Says e at s first linked concluded (StatedCompact p j ks semicolon) (Refused (told_unread e s.context first semicolon s.left.obligations j ks kept r))
     unfit : (s : State) (first semicolon : Place) (linked concluded : Bool) (p : PropositionTree) (j : JustData) (ks : List EqualityStepTree) (x : Compact) (l : Left) (r : ProofRefusal) →
         is_linked linked s.context.previous ≡ true → CompactRead e s.context first s.left p ks (Ok x) l →
         Performs e first (with_left s l) (step_of concluded x.said.states) (compact_stated p x ∷ []) (Err r) → Says e at s first linked concluded (StatedCompact p j ks semicolon) (Refused r)
-    not_justified : (s u : State) (first semicolon : Place) (linked concluded : Bool) (p : PropositionTree) (j : JustData) (ks : List EqualityStepTree) (x : Compact) (l : Left) (r : ProofRefusal) →
+    instance_too_large : (s u : State) (first semicolon : Place) (linked concluded : Bool) (p : PropositionTree) (j : JustData) (ks : List EqualityStepTree) (x : Compact) (l : Left) →
         is_linked linked s.context.previous ≡ true → CompactRead e s.context first s.left p ks (Ok x) l →
         Performs e first (with_left s l) (step_of concluded x.said.states) (compact_stated p x ∷ []) (Ok u) →
+        sides_keep e s.context ks x.said.further ≡ false → Says e at s first linked concluded (StatedCompact p j ks semicolon) (Refused (Resolve (TooLarge first)))
+    not_justified : (s u : State) (first semicolon : Place) (linked concluded : Bool) (p : PropositionTree) (j : JustData) (ks : List EqualityStepTree) (x : Compact) (l : Left) (r : ProofRefusal) →
+        is_linked linked s.context.previous ≡ true → CompactRead e s.context first s.left p ks (Ok x) l →
+        Performs e first (with_left s l) (step_of concluded x.said.states) (compact_stated p x ∷ []) (Ok u) → sides_keep e s.context ks x.said.further ≡ true →
         Justifies e at s.context first linked (place_behind ks semicolon) j x.sentence l (Refused r) → Says e at s first linked concluded (StatedCompact p j ks semicolon) (Refused r)
     justified : (s u : State) (first semicolon : Place) (linked concluded : Bool) (p : PropositionTree) (j : JustData) (ks : List EqualityStepTree) (x : Compact) (l m : Left) (os : List Obligation) (o : Walked Left) →
         is_linked linked s.context.previous ≡ true → CompactRead e s.context first s.left p ks (Ok x) l →
-        Performs e first (with_left s l) (step_of concluded x.said.states) (compact_stated p x ∷ []) (Ok u) →
+        Performs e first (with_left s l) (step_of concluded x.said.states) (compact_stated p x ∷ []) (Ok u) → sides_keep e s.context ks x.said.further ≡ true →
         Justifies e at s.context first linked (place_behind ks semicolon) j x.sentence l (Made os m) →
         JustifiesSides e at s.context first semicolon ks x.said.further m o → Says e at s first linked concluded (StatedCompact p j ks semicolon) (led_to u (behind os o))
 

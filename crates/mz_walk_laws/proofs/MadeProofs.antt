@@ -252,10 +252,11 @@ mutual
 
   says_made : (e : Environment) (at : Extent) (s : State) (first : Place) (linked concluded : Bool) (t : CompactData) (w : Walked State) → Says e at s first linked concluded t w → WhereMade w (MadeFrom at s)
   says_made e at s first linked concluded t w (walk.follows_nothing z f n c y h) = tt
-  says_made e at s first linked concluded t w (walk.not_read z f d n c q j ks r l h i) = tt
+  says_made e at s first linked concluded t w (walk.not_read z f d n c q j ks r l kept h i a) = tt
   says_made e at s first linked concluded t w (walk.unfit z f d n c q j ks x l r h i k) = tt
-  says_made e at s first linked concluded t w (walk.not_justified z u f d n c q j ks x l r h i k y) = tt
-  says_made e at s first linked concluded t w (walk.justified z u f d n c q j ks x l m os o h i k y sides) =
+  says_made e at s first linked concluded t w (walk.instance_too_large z u f d n c q j ks x l h i k a) = tt
+  says_made e at s first linked concluded t w (walk.not_justified z u f d n c q j ks x l r h i k a y) = tt
+  says_made e at s first linked concluded t w (walk.justified z u f d n c q j ks x l m os o h i k a y sides) =
       let same : SameLetters z u = performs_same e f (with_left z l) _ _ (Ok u) k in
       made_led (MadeFrom at z) u (behind os o)
       (made_behind (λ ps v. MadeFrom at z ps (with_left u v)) os o

@@ -280,10 +280,11 @@ mutual
 
   says_walk : (W : Context → Type 0) (ax : List Formula) (cl : List Clause) (ls : List NamedLetter) (env : Environment) → ReadsWell env W → (held : List Formula) → IsGrounded (basis ax cl env ls) held → (at : Extent) (s : State) → IsProper W (basis ax cl env ls) held s.context → (first : Place) (linked concluded : Bool) (t : CompactData) (w : Walked State) → Says env at s first linked concluded t w → WhereMade w (λ os u. AreMet ax cl os → Reaches W (basis ax cl env ls) held s held u)
   says_walk W ax cl ls env reads held g at s p first linked concluded t w (walk.follows_nothing z f n c y h) = tt
-  says_walk W ax cl ls env reads held g at s p first linked concluded t w (walk.not_read z f e n c q j ks r l h i) = tt
+  says_walk W ax cl ls env reads held g at s p first linked concluded t w (walk.not_read z f e n c q j ks r l kept h i a) = tt
   says_walk W ax cl ls env reads held g at s p first linked concluded t w (walk.unfit z f e n c q j ks x l r h i k) = tt
-  says_walk W ax cl ls env reads held g at s p first linked concluded t w (walk.not_justified z u f e n c q j ks x l r h i k y) = tt
-  says_walk W ax cl ls env reads held g at s p first linked concluded t w (walk.justified z u f e n c q j ks x l m os o h i k y sides) =
+  says_walk W ax cl ls env reads held g at s p first linked concluded t w (walk.instance_too_large z u f e n c q j ks x l h i k a) = tt
+  says_walk W ax cl ls env reads held g at s p first linked concluded t w (walk.not_justified z u f e n c q j ks x l r h i k a y) = tt
+  says_walk W ax cl ls env reads held g at s p first linked concluded t w (walk.justified z u f e n c q j ks x l m os o h i k a y sides) =
       let stands : CompactStands ax held z.context x = compact_stands W (basis ax cl env ls) reads held z.context p f z.left q ks (Ok x) l i in
       let closed : Stands (next z.context) x.sentence.closed = subst (Stands (next z.context)) (sym stands.is_closed) (sentence_stands_law (next z.context) x.sentence.variables x.sentence.inner stands.sentence) in
       compact_walks W (basis ax cl env ls) reads held g at z u p f e c l m (label_in q.label) x stands k os

@@ -17,7 +17,7 @@ use Rattle.mz_walk.specs.Skeleton.{StepsOn}
 use Rattle.mz_walk.specs.Introductions.{Introduces}
 use Rattle.mz_walk.specs.Walk as wk
 use Rattle.mz_walk.specs.Walk.{Says, SaysNow, States, Goes, Splits}
-use Rattle.mz_skeleton_laws.proofs.OneSkeleton.{one_skeleton}
+use Rattle.mz_introduction_laws.proofs.OneIntroduction.{one_skeleton}
 use Rattle.mz_introduction_laws.proofs.OneIntroduction.{one_introduction}
 use Rattle.mz_walk_value_laws.specs.Laws.{OneJustifiedLaw, OneProofLaw, OneStatementLaw, OneStepLaw, OneCasesLaw, OneWalkLaw}
 use Rattle.mz_walk_value_laws.proofs.OneBlock.{OneStep, OneReasoning, OneJustification, one_no_steps, one_more_steps, one_proof, one_simply, one_by_proof}

@@ -6,7 +6,7 @@ use std::mem::forget;
 /// The nodes and the obligations that are left, and a row.
 type Limited = (u64, u32, Row);
 
-const LIMITS: [Limited; 28] = [
+const LIMITS: [Limited; 30] = [
     // one obligation left, and two that are asked
     (1000000, 1, ("p; q;", "5 44")),
     // none left: before the references are looked at
@@ -31,6 +31,24 @@ const LIMITS: [Limited; 28] = [
     ),
     // a link
     (1000000, 1, ("c = d .= e;", "11 44")),
+    // of the first equation, where nothing is too large
+    (
+        1000000,
+        1,
+        (
+            "B: for x,y,z being object st (p iff (p iff (p iff (p iff (p iff (p iff (p iff (p iff (p iff (p iff (p iff (p iff p)))))))))))) & x = x holds y = z; c = c .= c from TARSKI_0:sch 1;",
+            "155 44",
+        ),
+    ),
+    // an instance that is too large at a further side comes before
+    (
+        1000000,
+        1,
+        (
+            "B: for x,y,z being object st (p iff (p iff (p iff (p iff (p iff (p iff (p iff (p iff (p iff (p iff (p iff (p iff p)))))))))))) & x = x holds y = z; c = c .= c from TARSKI_0:sch 1(B);",
+            "149 36",
+        ),
+    ),
     // that of the cases before what is supposed is read
     (
         1000000,

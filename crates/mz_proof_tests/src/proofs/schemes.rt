@@ -44,7 +44,71 @@ const BY_SCHEMES: [Row; 14] = [
     ),
 ];
 
+/// Instances that are too large.
+const LARGE: [Row; 11] = [
+    // the instance of the premise has `p iff ..`, of 40,951 nodes, twice. At a further side it comes before what is told at a justification
+    (
+        "B: for x,y,z being object st (p iff (p iff (p iff (p iff (p iff (p iff (p iff (p iff (p iff (p iff (p iff (p iff p)))))))))))) & x = x holds y = z; c = c by A .= c from TARSKI_0:sch 1(B);",
+        "149 36",
+    ),
+    // where another number is cited, none is made
+    (
+        "B: for x,y,z being object st (p iff (p iff (p iff (p iff (p iff (p iff (p iff (p iff (p iff (p iff (p iff (p iff p)))))))))))) & x = x holds y = z; c = c by A .= c from TARSKI_0:sch 1;",
+        "158 43",
+    ),
+    // behind `then`, too
+    (
+        "B: for x,y,z being object st (p iff (p iff (p iff (p iff (p iff (p iff (p iff (p iff (p iff (p iff (p iff (p iff p)))))))))))) & x = x holds y = z; then c = c by A .= c from TARSKI_0:sch 1(B);",
+        "149 36",
+    ),
+    // in front of a side that isn't read
+    (
+        "B: for x,y,z being object st (p iff (p iff (p iff (p iff (p iff (p iff (p iff (p iff (p iff (p iff (p iff (p iff p)))))))))))) & x = x holds y = z; c = c from TARSKI_0:sch 1(B) .= v;",
+        "149 36",
+    ),
+    // where none is made that side is told
+    (
+        "B: for x,y,z being object st (p iff (p iff (p iff (p iff (p iff (p iff (p iff (p iff (p iff (p iff (p iff (p iff p)))))))))))) & x = x holds y = z; c = c from TARSKI_0:sch 1 .= v;",
+        "178 33",
+    ),
+    // of a further side in front of it
+    (
+        "B: for x,y,z being object st (p iff (p iff (p iff (p iff (p iff (p iff (p iff (p iff (p iff (p iff (p iff (p iff p)))))))))))) & x = x holds y = z; c = c by A .= c from TARSKI_0:sch 1(B) .= v;",
+        "149 36",
+    ),
+    // of the equation of that side none is made
+    (
+        "B: for x,y,z being object st (p iff (p iff (p iff (p iff (p iff (p iff (p iff (p iff (p iff (p iff (p iff (p iff p)))))))))))) & x = x holds y = z; c = c .= v from TARSKI_0:sch 1(B) .= c;",
+        "158 33",
+    ),
+    // a step that doesn't fit is told before
+    (
+        "B: for x,y,z being object st (p iff (p iff (p iff (p iff (p iff (p iff (p iff (p iff (p iff (p iff (p iff (p iff p)))))))))))) & x = x holds y = z; p proof thus c = c .= c from TARSKI_0:sch 1(B); end;",
+        "157 41",
+    ),
+    // one that fits isn't
+    (
+        "B: for x,y,z being object st (p iff (p iff (p iff (p iff (p iff (p iff (p iff (p iff (p iff (p iff (p iff (p iff p)))))))))))) & x = x holds y = z; c = c proof thus c = c by A .= c from TARSKI_0:sch 1(B); end;",
+        "161 36",
+    ),
+    // at `consider`
+    (
+        "B: for x,y,z being object st (p iff (p iff (p iff (p iff (p iff (p iff (p iff (p iff (p iff (p iff (p iff (p iff p)))))))))))) & x = x holds y = z; consider a being object such that p from TARSKI_0:sch 1(B);",
+        "149 36",
+    ),
+    // at `reconsider`
+    (
+        "B: for x,y,z being object st (p iff (p iff (p iff (p iff (p iff (p iff (p iff (p iff (p iff (p iff (p iff (p iff p)))))))))))) & x = x holds y = z; reconsider z = c as set from TARSKI_0:sch 1(B);",
+        "149 36",
+    ),
+];
+
 #[test]
 fn schemes_are_used(rt: HostRuntime) {
     check_all(&rt, rt.alloc(), &BY_SCHEMES);
+}
+
+#[test]
+fn instances_that_are_too_large(rt: HostRuntime) {
+    check_all(&rt, rt.alloc(), &LARGE);
 }

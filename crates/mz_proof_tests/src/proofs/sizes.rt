@@ -118,3 +118,22 @@ fn what_is_too_large(rt: HostRuntime) {
 fn cases_that_are_too_large(rt: HostRuntime) {
     check_all(&rt, rt.alloc(), &CASES);
 }
+
+/// `c = c .= sin .. sin c .= v;`, with so many functors.
+fn check_sides(rt: &impl Abort, alloc: Global, env: &Environment, functors: usize, wanted: &str) {
+    let mut bytes = Vec::new(alloc);
+    add(rt, &mut bytes, "c = c .= ", 1);
+    add(rt, &mut bytes, "sin ", functors);
+    add(rt, &mut bytes, "c .= v;", 1);
+    check(rt, alloc, env, AMPLE, text_of(rt, &bytes), wanted);
+    forget(bytes);
+}
+
+/// A term of depth 512 makes an equation of depth 513, which is told before the side behind it, which isn't read.
+#[test]
+fn an_equation_that_is_too_large(rt: HostRuntime) {
+    let env = environment(&rt, rt.alloc());
+    check_sides(&rt, rt.alloc(), &env, 511, "1 36");
+    check_sides(&rt, rt.alloc(), &env, 510, "2055 33");
+    forget(env);
+}

@@ -7,7 +7,7 @@ pub returns-then-not-is_linked-clause-begins : goal.returns-then-not-is_linked-c
 returns-then-not-is_linked-clause-begins c = told_follows_nothing _ _ _ _ _ _ _ _ _ _ _ c.args.left.now _ c.is_linked.ensures c.if-not-is_linked.true
 
 pub returns-in_ok-x-in-Ok-clause-begins : goal.returns-in_ok-x-in-Ok-clause-begins
-returns-in_ok-x-in-Ok-clause-begins c = told_begun _ _ _ _ _ _ _ _ _ _ _ _ _ _ _ _ _ c.is_linked.ensures c.if-not-is_linked.false c.read_compact.ensures.reads (c.in-Ok.is ∙ ap Ok (sym c.in_ok-x-in-Ok.ensures.ok)) c.read_compact.ensures.same c.fit_compact.ensures
+returns-in_ok-x-in-Ok-clause-begins c = told_begun _ _ _ _ _ _ _ _ _ _ _ _ _ _ _ _ _ c.is_linked.ensures c.if-not-is_linked.false c.read_compact.ensures.reads (c.in-Ok.is ∙ ap Ok (sym c.in_ok-x-in-Ok.ensures.ok)) c.read_compact.ensures.same c.fit_kept.ensures
 
-pub returns-in-Err-clause-begins : goal.returns-in-Err-clause-begins
-returns-in-Err-clause-begins c = told_unread _ _ _ _ _ _ _ _ _ _ _ _ _ _ _ _ _ _ c.is_linked.ensures c.if-not-is_linked.false c.read_compact.ensures.reads c.in-Err.is c.read_compact.ensures.same refl c.tell.ensures
+pub returns-in_ok-kept-in-Err-clause-begins : goal.returns-in_ok-kept-in-Err-clause-begins
+returns-in_ok-kept-in-Err-clause-begins c = told_unread _ _ _ _ _ _ _ _ _ _ _ _ _ _ _ _ _ _ _ _ _ c.is_linked.ensures c.if-not-is_linked.false c.read_compact.ensures.reads c.in-Err.is c.read_compact.ensures.same refl refl c.in_ok-kept-in-Err.ensures.keeps c.in_ok-kept-in-Err.ensures.same c.tell.ensures
