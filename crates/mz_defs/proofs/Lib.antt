@@ -1,4 +1,1 @@
-pub mod AnswerLemmas
-pub mod AtomLemmas
 pub mod BlockLemmas
-pub mod ManyLemmas

@@ -1,6 +1,5 @@
 //! Blocks of definitions and of notations, taken.
 #![tactic(auto)]
 
-pub mod atoms;
 pub mod blocks;
 pub mod defining;

@@ -1,5 +1,5 @@
 -- Places put behind others.
-use Rattle.std.proofs.Common.{◌≡◌, ℕ, true, false, Bool, List, [], ◌∷◌, ◌++◌, map, length, append_assoc, append-nil, refl, sym, ap, subst, ◌∙◌, Option, Some, None}
+use Rattle.std.proofs.Common.{◌≡◌, ℕ, true, false, Bool, List, [], ◌∷◌, ◌++◌, map, length, append_assoc, append-nil, refl, sym, ap, ◌∙◌, Option, Some, None}
 use Rattle.mz_context.specs.declared.constants.Constant.{Constant}
 use Rattle.mz_cited.specs.Cited.{members, tree_of}
 use Rattle.mz_loci.specs.Loci.{locus_named}
@@ -7,7 +7,7 @@ use Rattle.mz_tree.specs.declared.chain.Next.{Next}
 use Rattle.mz_tree.specs.declared.lists.Separated.{Separated}
 use Rattle.mz_tree.specs.declared.word.Comma.{Comma}
 use Rattle.mz_tree_heading.specs.declared.patterns.IdentifierTree.{IdentifierTree}
-use Rattle.mz_patterns.specs.Patterns.{behind, place_behind, loci_named, ArePut, alone, identifiers_in}
+use Rattle.mz_patterns.specs.Patterns.{behind, place_behind, loci_named, ArePut, alone}
 
 abbrev Places : Type 0
 Places = Option (List ℕ)

@@ -1,6 +1,6 @@
 -- The visible loci of a pattern are loci, and none of them twice.
-use Rattle.std.proofs.Common.{◌≡◌, ◌≤◌, ◌<◌, ◌-◌, ℕ, zero, suc, Bool, true, false, List, [], ◌∷◌, ◌++◌, length, refl, sym, ap, ◌∙◌, subst, arith, Option, Some, None}
-use Rattle.std.specs.Prelude.{◌&&◌, nat_lt, if◌then◌else◌}
+use Rattle.std.proofs.Common.{◌≡◌, ◌≤◌, ◌<◌, ◌-◌, ℕ, zero, suc, Bool, true, false, List, [], ◌∷◌, ◌++◌, length, refl, sym, ap, subst, arith, Option, Some, None}
+use Rattle.std.specs.Prelude.{if◌then◌else◌}
 use Rattle.std.specs.List.{list_all}
 use Rattle.std.proofs.lemmas.Bool.{and_parts, and_from, lt-ltb}
 use Rattle.mz_core.proofs.AllLemmas.{all-append}
@@ -9,7 +9,7 @@ use Rattle.mz_context.specs.declared.constants.Constant.{Constant}
 use Rattle.mz_items.specs.Closed.{is_locus, are_distinct}
 use Rattle.mz_loci.specs.Loci.{place_before, locus_named, are_fixed}
 use Rattle.mz_names.specs.Names.{has_name, latest_up_to, number_of}
-use Rattle.mz_patterns.specs.Patterns.{behind, place_behind, loci_named, visible, right_of, both_sides, are_wanted, if_wanted, visible_loci}
+use Rattle.mz_patterns.specs.Patterns.{place_behind, loci_named, visible, both_sides, are_wanted, if_wanted, visible_loci}
 use Rattle.mz_patterns.specs.declared.visible.Visible.{Visible}
 use Rattle.mz_tree_heading.specs.declared.patterns.IdentifierTree.{IdentifierTree}
 
@@ -97,6 +97,9 @@ pub visible_good : (least : ℕ) (ks : List (Option Constant)) (left right : Lis
 visible_good least ks left right v e =
     wanted_good least ks (both_sides (loci_named ks left) (loci_named ks right)) v
     (λ u is. sides_within (length ks) (loci_named ks left) (loci_named ks right) u (named_within ks left) (named_within ks right) is) e
+
+pub sides_named : (ks : List (Option Constant)) (left right : List IdentifierTree) (v : Visible) → both_sides (loci_named ks left) (loci_named ks right) ≡ Some v → list_all (is_locus (length ks)) (v.left ++ v.right) ≡ true
+sides_named ks left right v e = sides_within (length ks) (loci_named ks left) (loci_named ks right) v (named_within ks left) (named_within ks right) e
 
 -- where one identifier stands behind the symbol, one place does
 

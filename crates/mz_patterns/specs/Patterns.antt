@@ -1,5 +1,5 @@
 -- The visible loci of patterns, and patterns.
-use Rattle.std.specs.Prelude.{◌≡◌, ℕ, Bool, true, false, ◌&&◌, if◌then◌else◌, List, [], ◌∷◌, ◌++◌, map, Option, Some, None}
+use Rattle.std.specs.Prelude.{◌≡◌, ℕ, Bool, true, false, ◌&&◌, if◌then◌else◌, List, [], ◌∷◌, ◌++◌, Option, Some, None}
 use Rattle.mz_logic.specs.declared.kind.Kind.{Kind}
 use Rattle.mz_core.specs.declared.pattern.Pattern.{Pattern}
 use Rattle.mz_core.specs.declared.soft_type.SoftType.{SoftType}

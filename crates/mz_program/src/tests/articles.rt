@@ -356,8 +356,8 @@ const VOCABULARY_FAULTS: [(&[u8], &[u8], &str); 5] = [
     ),
     (
         b"Rc=",
-        b"environ vocabularies V; begin definition let X,Y be set; pred X c= Y means X = Y; reflexivity; end;",
-        "1:83 10 not built",
+        b"environ vocabularies V; begin definition let X,Y be set; redefine pred X = Y means X in Y; end;",
+        "1:58 10 not built",
     ),
 ];
 

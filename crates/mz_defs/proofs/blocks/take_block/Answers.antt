@@ -1,12 +1,9 @@
-use Rattle.std.proofs.Common.{ap, ◌∙◌}
-use Rattle.mz_tree_item.specs.declared.definition.DefinitionTree.{DefinitionTree}
 use Rattle.mz_defs.proofs.BlockLemmas.{told_ended, told_stopped}
 use Rattle.mz_defs.proofs.blocks.take_block.Goals as goal
 
 pub returns-in-Ok : goal.returns-in-Ok
-returns-in-Ok g c =
-    told_ended c.in_ok-least.least c.args.s.now c.take_parts.new.s c.end.new.s c.args.os.now c.take_parts.new.os c.args.t.now c.as_slice.result.now c.take_parts.result c.in-Ok.field-0 c.in_ok-least.ensures (c.as_slice.ensures.value ∙ ap (λ (d : DefinitionTree). d.parts) c.t.view_is) c.take_parts.ensures c.in-Ok.is c.end.ensures
+returns-in-Ok g c = told_ended c.in_ok-least.least c.args.s.now c.take_all.new.s c.end.new.s c.args.os.now c.take_all.new.os c.args.t.now c.take_all.result c.in-Ok.field-0 c.in_ok-least.ensures c.take_all.ensures c.in-Ok.is c.end.ensures
 
 pub returns-in-Err : goal.returns-in-Err
 returns-in-Err g c =
-    told_stopped c.in_ok-least.least c.args.s.now c.take_parts.new.s c.take_parts.new.s c.args.os.now c.take_parts.new.os c.take_parts.new.os c.args.t.now c.as_slice.result.now c.take_parts.result c.in-Err.fault c.in_ok-least.ensures (c.as_slice.ensures.value ∙ ap (λ (d : DefinitionTree). d.parts) c.t.view_is) c.take_parts.ensures c.in-Err.is
+    told_stopped _ c.in_ok-least.least c.args.s.now c.take_all.new.s _ c.args.os.now c.take_all.new.os _ c.args.t.now c.take_all.result c.in-Err.fault c.in_ok-least.ensures c.take_all.ensures c.in-Err.is

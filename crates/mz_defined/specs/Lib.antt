@@ -1,0 +1,5 @@
+pub mod Definientia
+pub mod Owing
+pub mod Headed
+pub mod Atoms
+pub mod Functors

@@ -1,0 +1,4 @@
+pub mod AnswerLemmas
+pub mod HeadingLemmas
+pub mod LimitLemmas
+pub mod OwingLemmas

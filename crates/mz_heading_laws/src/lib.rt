@@ -1,0 +1,4 @@
+//! Laws of headings of definitions.
+#![tactic(auto)]
+
+pub mod laws;

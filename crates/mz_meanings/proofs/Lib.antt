@@ -1,0 +1,4 @@
+pub mod ItLemmas
+pub mod EachLemmas
+pub mod DefiniensLemmas
+pub mod ResultLemmas

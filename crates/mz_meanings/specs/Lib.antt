@@ -1,0 +1,4 @@
+pub mod Each
+pub mod Definientia
+pub mod Results
+pub mod It

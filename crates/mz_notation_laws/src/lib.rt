@@ -1,0 +1,4 @@
+//! Laws of blocks of notations.
+#![tactic(auto)]
+
+pub mod laws;

@@ -1,0 +1,4 @@
+pub mod OverLoci
+pub mod Patterns
+pub mod Reading
+pub mod Notes

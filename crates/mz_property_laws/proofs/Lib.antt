@@ -1,0 +1,3 @@
+pub mod ClosedProofs
+pub mod KeepProofs
+pub mod OneProofs

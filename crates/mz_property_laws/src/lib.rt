@@ -1,0 +1,4 @@
+//! Laws of properties behind the headings of definitions.
+#![tactic(auto)]
+
+pub mod laws;
