@@ -5,10 +5,10 @@ ghost use Rattle.mz_article_items.specs.Answers.{as_of_item};
 ghost use Rattle.mz_article_items.specs.Items.{IsItem, IsPart, AreItems};
 
 use crate::items::{read_reserve, read_statement, read_theorem};
-use mz_define::define_items::DefineItems;
+pub use mz_define::define_items::DefineItems;
 use mz_justified::proof_fault::ProofFault;
 use mz_obligations::obligation::Obligations;
-use mz_register::register_items::RegisterItems;
+pub use mz_register::register_items::RegisterItems;
 use mz_scheme_items::state_schemes::StateSchemes;
 use mz_standing::standing::Standing;
 use mz_structure::struct_items::StructItems;

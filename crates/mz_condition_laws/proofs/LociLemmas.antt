@@ -28,7 +28,7 @@ use Rattle.mz_term_laws.specs.ChangeLaws.{AreUsable}
 use Rattle.mz_term_laws.proofs.ChangeProofs.{variables_law}
 use Rattle.mz_term_laws.proofs.UsableProofs.{next_further}
 use Rattle.mz_whole_laws.proofs.StandingLemmas.{type_stands, statement_stands}
-use Rattle.mz_level_laws.specs.Level.{IsLevel}
+use Rattle.mz_standing_laws.specs.Laws.{IsLevel}
 use Rattle.mz_standing_laws.specs.Headings.{IsWithLoci}
 
 -- what stands under terms, at these

@@ -18,7 +18,7 @@ use Rattle.mz_taken.proofs.OneByOneProofs.{one_all}
 use Rattle.mz_tree_item.specs.declared.definition.ConditionTree.{ConditionTree}
 use Rattle.mz_walk.specs.Walked.{Walked}
 use Rattle.mz_walk.specs.Walk.{Justifies}
-use Rattle.mz_walk_value_laws.proofs.OneWalk.{one_justified_law}
+pub use Rattle.mz_walk_value_laws.proofs.OneWalk.{one_justified_law}
 use Rattle.mz_condition_laws.specs.Laws.{OneConditionsLaw}
 
 -- what the word's justification leads to

@@ -29,8 +29,8 @@ use Rattle.mz_term_laws.specs.Whole.{IsWhole}
 use Rattle.mz_term_laws.specs.ChangeLaws.{AreUsable}
 use Rattle.mz_term_laws.proofs.UsableProofs.{usable_type_law, usable_statement_law, none_usable_law}
 use Rattle.mz_term_laws.proofs.ChangeProofs.{whole_from_law}
-use Rattle.mz_reading_laws.specs.ReadingLaws.{IsUsableSentence}
-use Rattle.mz_reading_laws.proofs.CallProofs.{sentence_call_law}
+use Rattle.mz_whole_laws.proofs.WholeProofs.{IsUsableSentence}
+use Rattle.mz_whole_laws.proofs.WholeProofs.{sentence_call_law}
 use Rattle.mz_block_laws.specs.Orders.{AllStand}
 use Rattle.mz_whole_laws.proofs.WholeProofs.{WhereOk, within_is}
 use Rattle.mz_level_laws.specs.Level.{IsLevel, SentenceLaw}

@@ -14,8 +14,8 @@ use Rattle.mz_context.specs.declared.constants.Constant.{Constant}
 use Rattle.mz_context.specs.declared.context.Context.{Context}
 use Rattle.mz_choice_laws.proofs.KnownValues.{type_known-where, statement_known-where}
 use Rattle.mz_let.specs.Lets.{Lets, not_declared, declared, with_loci}
-use Rattle.mz_level_laws.specs.Level.{IsLevel}
-use Rattle.mz_level_laws.proofs.LevelProofs as level_proofs
+use Rattle.mz_standing_laws.specs.Laws.{IsLevel}
+use Rattle.mz_standing_laws.proofs.HeadingProofs.{reading_law}
 use Rattle.mz_loci.specs.Loci.{loci_from, type_of_locus, type_over_loci, statement_over_loci, types_behind, locus_types, behind_loci}
 use Rattle.mz_names.specs.Closing.{constant_of, with_variables}
 use Rattle.mz_names.specs.declared.variable.Variable.{Variable}
@@ -148,7 +148,7 @@ end_law g least s b =
     ap (λ (d : Context). behind_loci d least) (b.here ∙ with_variables-places c b.loci) ∙ behind-places c least (map place_of b.loci) b.first in
     let sound : StandsSoundly g (with_context s (record c { previous = None })) =
     context_law g (with_context s c) (record c { previous = None }) b.sound (record { constants = refl; letters = refl; named = refl; previous = inr refl })
-    ((level_proofs.reading_law s.environment b.sound.closed_so).unlinked c b.sound.level) b.sound.no_thesis in
+    ((reading_law s.environment b.sound.closed_so).unlinked c b.sound.level) b.sound.no_thesis in
     subst (λ (d : Context). StandsSoundly g (with_context s d)) (sym is) sound
 
 -- loci

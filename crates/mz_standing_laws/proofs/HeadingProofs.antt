@@ -37,7 +37,7 @@ use Rattle.mz_walk_laws.proofs.MadeProofs.{justification_made_law}
 use Rattle.mz_walk_laws.proofs.PerformLemmas.{variables_letters}
 use Rattle.mz_walk_laws.proofs.WalkProofs as walk
 use Rattle.mz_level_laws.specs.Level.{IsLevel}
-use Rattle.mz_level_laws.proofs.LevelProofs as level_proofs
+pub use Rattle.mz_level_laws.proofs.LevelProofs.{reading_law}
 use Rattle.mz_standing.specs.Counts.{counted}
 use Rattle.mz_standing.specs.Standing.{extent_of, with_context, with_item, labelled_if_any}
 use Rattle.mz_standing.specs.declared.standing.Standing.{Standing}
@@ -65,7 +65,7 @@ pub condition_law : ConditionLaw
 condition_law g s loci d x left after first behind linked j os final sound stand with_loci inner closed_over closed justifies grows decided =
     let c : Context = s.context in
     let ax : List Formula = axioms_at g s in
-    let reads : ReadsWell s.environment IsLevel = level_proofs.reading_law s.environment sound.closed_so in
+    let reads : ReadsWell s.environment IsLevel = reading_law s.environment sound.closed_so in
     let made : AreMadeAt (extent_of s) d.letters os = justification_made_law s.environment (extent_of s) d first behind linked j x left after os justifies in
     let met : AreMet ax s.clauses os = decided_law g s final [] os sound grows refl (λ o is. ((made o is).0, (made o is).1 ∙ ap letters_clauses (letters_there g s loci d sound with_loci))) decided ax in
     let derived : Derives ax (facts d ++ []) (erase x.closed) =
@@ -101,7 +101,7 @@ counted_law : (g : Setting) (s : Standing) (counts : SymbolCounts) (schemes : Li
 counted_law g s counts schemes sound =
     let d : Context = record s.context { previous = None } in
     context_law g s (record d { counts = counts; schemes = schemes }) sound (record { constants = refl; letters = refl; named = refl; previous = inr refl })
-    (level_with d counts schemes ((level_proofs.reading_law s.environment sound.closed_so).unlinked s.context sound.level)) sound.no_thesis
+    (level_with d counts schemes ((reading_law s.environment sound.closed_so).unlinked s.context sound.level)) sound.no_thesis
 
 -- behind a heading
 

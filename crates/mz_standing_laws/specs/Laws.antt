@@ -21,7 +21,7 @@ use Rattle.mz_types.specs.Known.{letters_clauses}
 use Rattle.mz_block_laws.specs.Met.{AreMet, AreHeld}
 use Rattle.mz_walk_laws.specs.Grounds.{IsGrounded}
 use Rattle.mz_walk_laws.specs.MadeLaws.{AreMadeAt}
-use Rattle.mz_level_laws.specs.Level.{IsLevel}
+pub use Rattle.mz_level_laws.specs.Level.{IsLevel}
 use Rattle.mz_context.specs.Context.{next}
 use Rattle.mz_context.specs.declared.context.Context.{Context}
 use Rattle.mz_context.specs.declared.letters.NamedLetter.{NamedLetter}

@@ -32,8 +32,9 @@ use Rattle.mz_term_laws.specs.Whole.{IsUsableConstant, IsWhole}
 use Rattle.mz_term_laws.specs.ChangeLaws.{AreUsable}
 use Rattle.mz_term_laws.proofs.ChangeProofs.{constant_law, thesis_law, previous_law}
 use Rattle.mz_term_laws.proofs.AppliedProofs.{reserved_type_law, radices_law}
-use Rattle.mz_reading_laws.specs.ReadingLaws.{IsUsableSentence}
-use Rattle.mz_reading_laws.proofs.CallProofs.{term_call_law, type_call_law, sentence_call_law}
+pub use Rattle.mz_reading_laws.specs.ReadingLaws.{IsUsableSentence}
+pub use Rattle.mz_reading_laws.proofs.CallProofs.{sentence_call_law}
+use Rattle.mz_reading_laws.proofs.CallProofs.{term_call_law, type_call_law}
 use Rattle.mz_reading_laws.proofs.StepProofs.{context_after_law}
 use Rattle.mz_block_laws.specs.Orders.{TermStands, TypeStands, AllStand, EqualStands}
 use Rattle.mz_whole_laws.specs.WholeLaws.{ReadsWellLaw}
