@@ -97,6 +97,13 @@ def registrations(n):
     return defined + registered + "".join(f"for X being v{k % n + 1} v{(k + 1) % n + 1} set holds X = X;\n" for k in range(1000))
 
 
+def existentials(n):
+    # attributes, each with a registration that some set has it, and 1,000 statements with a type of one of them
+    defined = "environ vocabularies SYMBOLS; begin\nconsider Y being set such that Y = Y;\ndefinition let X be set;\n" + numbered(n, "attr X is v{k} means X = X;\n") + "end;\n"
+    registered = "registration\n" + numbered(n, "cluster v{k} set; existence proof take Y; thus thesis; end;\n") + "end;\n"
+    return defined + registered + "".join(f"for X being v{k % n + 1} set holds X = X;\n" for k in range(1000))
+
+
 def ancestors(n):
     # ancestors of a structure, each with four fields of its own, and a statement on the structure's aggregate
     fields = joined(4 * n, "u{k}", ", ")
@@ -105,15 +112,44 @@ def ancestors(n):
     return f"environ vocabularies SYMBOLS; begin\ndefinition\n{own}{heir}end;\n" + f"for X being set holds the u1 of s0(# {joined(4 * n, 'X', ', ')} #) = X;\n"
 
 
+def definitions(n):
+    # definitions of one block: predicates, attributes, functors and modes by turns
+    headings = ("pred p{k} X means X = X;\n", "attr X is v{k} means X = X;\n", "func f{k} X -> set equals X; coherence;\n", "mode m{k} of X -> set means it = it; existence;\n")
+    return "environ vocabularies SYMBOLS; begin\ndefinition let X be set;\n" + "".join(headings[k % 4].format(k=k) for k in range(n)) + "end;\n"
+
+
+def functors(n):
+    # functors with proofs of their conditions, each with a theorem that cites it, as real ones are
+    return "environ vocabularies SYMBOLS; theorems TARSKI_0; begin\n" + numbered(n, """definition let x,y be object;
+ func f{k}(x,y) -> set means
+:D{k}: for a being object holds a in it iff a = x or a = y;
+ existence by TARSKI_0:3;
+ uniqueness
+ proof let P,Q be set; assume that
+A: for a being object holds a in P iff a = x or a = y and
+B: for a being object holds a in Q iff a = x or a = y;
+  for a being object holds a in P iff a in Q
+  proof let a be object; a in P iff a = x or a = y by A; hence a in P iff a in Q by B; end;
+  hence P = Q by TARSKI_0:2;
+ end;
+end;
+theorem for x,y being object holds x in f{k}(x,y) & y in f{k}(x,y)
+proof let x,y be object; thus x in f{k}(x,y) by D{k}; thus y in f{k}(x,y) by D{k}; end;
+""")
+
+
 # the vocabulary `symbols.voc` of the shapes that need one
 VOCABULARIES = {
     "registrations": lambda n: numbered(n, "Vv{k}\n"),
+    "existentials": lambda n: numbered(n, "Vv{k}\n"),
+    "definitions": lambda n: "".join(f"{'RVOM'[k % 4]}{'pvfm'[k % 4]}{k}\n" for k in range(n)),
+    "functors": lambda n: numbered(n, "Of{k}\n"),
     "ancestors": lambda n: "Gs0\n" + numbered(n, "Gs{k}\n") + numbered(4 * n, "Uu{k}\n"),
 }
 
 # the greatest n that the limits of the language allow
-MOST = {"quantifiers": 100, "lets": 400, "registrations": 400, "ancestors": 50}
+MOST = {"quantifiers": 100, "lets": 400, "registrations": 400, "existentials": 400, "ancestors": 50}
 
 SHAPES = {it.__name__: it for it in (
     statements, theorems, cited_by_number, constants_in_chain, constants_considered, constants_and_universals, premises,
-    equations, reserved_names, quantifiers, lets, empty_nows, conjunctions, disjuncts, registrations, ancestors)}
+    equations, reserved_names, quantifiers, lets, empty_nows, conjunctions, disjuncts, registrations, existentials, ancestors)}

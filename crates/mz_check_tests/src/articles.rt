@@ -1,13 +1,20 @@
 //! Whole articles, accepted or with their faults, worked out by hand from the rules.
 mod accepted;
 mod articles;
+mod cases;
 mod checking;
 mod cuts;
 mod defined;
 mod definitions;
+mod elsewhere;
 mod faults;
+mod functors;
+mod modes;
+mod notations;
 mod others;
+mod properties;
 mod registered;
 mod registrations;
 mod schemes;
 mod structures;
+mod together;

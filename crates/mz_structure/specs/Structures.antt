@@ -81,12 +81,9 @@ abbrev pub grants_keep : Item → Bool
 grants_keep x = list_all statement_keeps (granted_statements x)
 
 -- it owes nothing, so each condition behind it is stray; and it has no properties
-abbrev pub stray_number : Option Condition → ℕ
-stray_number o = number_of o
-
 abbrev pub first_stray : List ConditionOrPropertyTree → Option ItemRefusal
 first_stray [] = None
-first_stray (written.Condition c ∷ ws) = Some (ConditionStray c.place (stray_number (named c.word)))
+first_stray (written.Condition c ∷ ws) = Some (ConditionStray c.place (number_of (named c.word)))
 first_stray (written.Property p ∷ ws) = Some (ConditionStray p.place 7)
 
 abbrev pub in_force : Standing → Item → Left → Standing

@@ -23,12 +23,12 @@ const PARTS_OF_SUBSETS: [Part; 10] = [
     (52, "accepted 0"),
     (74, "accepted 0"),
     (75, "accepted 0"),
-    (189, "6:2 10"),
-    (190, "6:2 10"),
-    (351, "6:2 10"),
-    (352, "6:2 10"),
-    (514, "6:2 10"),
-    (515, "6:2 10"),
+    (189, "accepted 2"),
+    (190, "accepted 2"),
+    (351, "accepted 3"),
+    (352, "accepted 3"),
+    (514, "accepted 4"),
+    (515, "accepted 4"),
 ];
 
 /// Reserved variables, steps that are open, cases, citations, and a variable that isn't known.

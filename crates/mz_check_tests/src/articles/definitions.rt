@@ -2,7 +2,7 @@
 use crate::articles::checking::{Row, check_rows, exports, vocabulary};
 use std::mem::forget;
 
-const DEFINITIONS: [Row; 37] = [
+const DEFINITIONS: [Row; 44] = [
     // a block without parts
     (
         "environ vocabularies V; begin definition end;",
@@ -163,25 +163,60 @@ const DEFINITIONS: [Row; 37] = [
         "environ vocabularies V; begin definition let x be object; attr x is empty means x = x; coherence; end;",
         "1:88 52 3",
     ),
-    // properties aren't built
+    // an abbreviation
     (
-        "environ vocabularies V; begin definition let x,y be object; pred x ## y means x = y; reflexivity; end;",
-        "1:86 10",
+        "environ vocabularies V; begin definition let x be object; mode Elm of x is set; end; theorem for x being object for y being Elm of x holds y is set;",
+        "accepted 2",
     ),
-    // nor are cases
-    (
-        "environ vocabularies V; begin definition let x,y be object; pred x ## y means x = y if (x = x); end;",
-        "1:61 10",
-    ),
-    // nor modes
-    (
-        "environ vocabularies V; begin definition let x be object; mode Elm of x is set; end;",
-        "1:59 10",
-    ),
-    // nor redefinitions
+    // redefinitions aren't built
     (
         "environ vocabularies V; begin definition let x,y be object; pred x ## y means x = y; redefine pred x ## y means x = y; end;",
         "1:86 10",
+    ),
+    // a hidden locus that the type of a visible one fixes
+    (
+        "environ vocabularies V; begin definition let x be object; mode Elm of x -> object means it = x; existence; end; definition let x be object; let y be Elm of x; attr y is empty means y = x; end; theorem for x being object for y being Elm of x holds y is empty;",
+        "accepted 3",
+    ),
+    // a locus that is in the type of a hidden one alone, which a visible one fixes
+    (
+        "environ vocabularies V; begin definition let x be object; mode Elm of x -> object means it = x; existence; end; definition let x be object; let y be Elm of x; let z be Elm of y; attr z is empty means z = x; end;",
+        "accepted 2",
+    ),
+    // a pattern without loci
+    (
+        "environ vocabularies V; begin definition pred ## means not contradiction; end; theorem ##;",
+        "accepted 2",
+    ),
+    // more than one locus before the symbol
+    (
+        "environ vocabularies V; begin definition let x,y,z be object; pred x,y ## z means x = z; end; theorem for x,y being object holds x,y ## x;",
+        "accepted 2",
+    ),
+    // a locus before an attribute
+    (
+        "environ vocabularies V; begin definition let x,y be object; attr y is x empty means y = x; end; theorem for x being object holds x is x empty;",
+        "accepted 2",
+    ),
+    // loci in parentheses
+    (
+        "environ vocabularies V; begin definition let x,y,z be object; attr z is (x,y) empty means z = x; end; theorem for x,y being object holds x is (x,y) empty;",
+        "accepted 2",
+    ),
+    // the subject is the locus before `is`, wherever it was declared
+    (
+        "environ vocabularies V; begin definition let x,y be object; attr x is y empty means x = y; end; theorem for x being object holds x is x empty;",
+        "accepted 2",
+    ),
+    // labels of two blocks
+    (
+        "environ vocabularies V; begin definition let x be object; attr x is empty means :D: x = x; end; definition let x,y be object; pred x ## y means :E: x is empty; end; theorem for x being object holds x ## x by D,E;",
+        "accepted 3",
+    ),
+    // a reserved type that has a constant of the article's own level
+    (
+        "environ vocabularies V; begin definition let x be object; mode Elm of x -> object means it = x; existence; end; consider a being object such that a = a; reserve z for Elm of a; definition let z; attr z is empty means z = z; end;",
+        "1:193 33",
     ),
     // a block ends the statement just before
     (

@@ -22,16 +22,19 @@ const FAULTS: [Row; 18] = [
     ),
     // an item of a form that isn't built
     (
-        "environ begin notation end; theorem for x being object holds x = y;",
-        "1:15 10",
+        "environ begin definition let x,y be object; redefine pred x = y means x = y; end; theorem for x being object holds x = y;",
+        "1:45 10",
     ),
     // is told alone, where a statement before it is open
     (
-        "environ begin theorem for x,y being object holds x = y; notation end;",
-        "1:57 10",
+        "environ begin theorem for x,y being object holds x = y; definition let x,y be object; redefine pred x = y means x = y; end;",
+        "1:87 10",
     ),
     // the forms of items that aren't built
-    ("environ begin notation end;", "1:15 10"),
+    (
+        "environ begin definition let x,y be object; redefine pred x = y means x = y; end;",
+        "1:45 10",
+    ),
     // a scheme that isn't there
     (
         "environ begin theorem for x being object holds x = x from S;",

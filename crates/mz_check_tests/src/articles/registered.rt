@@ -1,5 +1,5 @@
 //! Articles over the registrations of another one.
-use crate::articles::checking::{Row, check_rows, exports, outcome_named, vocabulary};
+use crate::articles::checking::{Row, check, check_rows, exports, outcome_named, vocabulary};
 use mz_axioms::exports::Exports;
 use mz_base::vocabularies::Vocabularies;
 use mz_core::outcome::{Export, Outcome};
@@ -15,6 +15,14 @@ const B: &[u8] =
 
 /// An article that rests on B.
 const C: &[u8] = b"environ vocabularies V; notations B; constructors B; registrations B; begin";
+
+/// Four attributes, of which each is registered to give the next one, and a functor whose values have the first.
+const CHAIN: &str =
+    "environ vocabularies V; begin\ndefinition let X be set; attr X is one means X = X; attr X is two means X = X; attr X is three means X = X; attr X is four means X = X; func Ff X -> set equals X; coherence; end;\nregistration cluster one -> two for set; coherence; cluster two -> three for set; coherence; cluster three -> four for set; coherence; end;\nregistration let X be set; cluster Ff X -> one; coherence; end;";
+
+/// The same, but that nothing is registered of the second attribute.
+const BROKEN: &[u8] =
+    b"environ vocabularies V; begin\ndefinition let X be set; attr X is one means X = X; attr X is two means X = X; attr X is three means X = X; attr X is four means X = X; func Ff X -> set equals X; coherence; end;\nregistration cluster one -> two for set; coherence; cluster three -> four for set; coherence; end;\nregistration let X be set; cluster Ff X -> one; coherence; end;";
 
 /// The export of an accepted article.
 fn accepted(rt: &impl Abort, outcome: Outcome) -> Export {
@@ -42,8 +50,8 @@ fn add_article(
     exports.insert(shared);
 }
 
-/// Articles over B and C.
-const REGISTERED: [Row; 12] = [
+/// Articles over these.
+const REGISTERED: [Row; 15] = [
     // registrations of another article
     (
         "environ vocabularies V; notations B; constructors B; registrations B; begin theorem for X being one set holds X is three;",
@@ -104,14 +112,44 @@ const REGISTERED: [Row; 12] = [
         "environ vocabularies V; notations B; constructors B; registrations B; begin registration cluster void -> one for set; coherence; end;",
         "1:128 61 1",
     ),
+    // each registration goes on from those before it
+    (
+        "environ vocabularies V; notations D; constructors D; registrations D; begin theorem for X being set holds Ff X is four;",
+        "accepted 1",
+    ),
+    // where none of them is let in nothing is known
+    (
+        "environ vocabularies V; notations D; constructors D; begin theorem for X being set holds Ff X is four;",
+        "1:102 61 1",
+    ),
+    // nor where one between is missing
+    (
+        "environ vocabularies V; notations E; constructors E; registrations E; begin theorem for X being set holds Ff X is four;",
+        "1:119 61 1",
+    ),
 ];
 
 #[test]
 fn registrations_of_another_article(rt: HostRuntime) {
-    let all = vocabulary(&rt, rt.alloc(), b"V", b"Vone\nVtwo\nVthree\nVvoid");
+    let all = vocabulary(
+        &rt,
+        rt.alloc(),
+        b"V",
+        b"Vone\nVtwo\nVthree\nVfour\nVvoid\nOFf",
+    );
     let mut exports = exports(&rt, rt.alloc());
     add_article(&rt, rt.alloc(), &mut exports, &all, b"B", B);
     add_article(&rt, rt.alloc(), &mut exports, &all, b"C", C);
+    check(
+        &rt,
+        rt.alloc(),
+        &exports,
+        &all,
+        CHAIN.as_bytes(),
+        "accepted 9",
+    );
+    add_article(&rt, rt.alloc(), &mut exports, &all, b"D", CHAIN.as_bytes());
+    add_article(&rt, rt.alloc(), &mut exports, &all, b"E", BROKEN);
     check_rows(&rt, rt.alloc(), &exports, &all, &REGISTERED);
     forget(all);
     forget(exports);

@@ -322,7 +322,7 @@ const BESIDE: [Row; 9] = [
     ),
 ];
 
-const LARGE: [Row; 7] = [
+const LARGE: [Row; 11] = [
     // the part beside `not P[]` has 32,765 nodes, the statement 65,533, and the instance, which has a double negation, 65,535
     (
         "environ begin scheme S { P[] } : not P[] implies not P[]; theorem for c being object holds c = c proof let c be object;\n((c <> c iff (c = c iff (c = c iff (c = c iff (c = c iff (c = c iff (c = c iff (c = c iff (c = c iff (c = c iff (c = c iff (c = c)))))))))))) & c <> c & c <> c) implies ((c <> c iff (c = c iff (c = c iff (c = c iff (c = c iff (c = c iff (c = c iff (c = c iff (c = c iff (c = c iff (c = c iff (c = c)))))))))))) & c <> c & c <> c) from S;\nthus thesis; end;",
@@ -357,6 +357,26 @@ const LARGE: [Row; 7] = [
     (
         "environ begin scheme S { P[] } : not P[] or P[]; theorem for c being object holds c = c proof let c be object;\nper cases from S;\nsuppose ((c <> c iff (c = c iff (c = c iff (c = c iff (c = c iff (c = c iff (c = c iff (c = c iff (c = c iff (c = c iff (c = c iff (c = c)))))))))))) & (c = c or c = c));\nthus thesis; end;\nsuppose not ((c <> c iff (c = c iff (c = c iff (c = c iff (c = c iff (c = c iff (c = c iff (c = c iff (c = c iff (c = c iff (c = c iff (c = c)))))))))))) & (c = c or c = c)) & z = z;\nthus thesis; end;\nend;",
         "5:177 33",
+    ),
+    // of a premise, at a theorem: each `P[]` has more than 32,755 nodes, and the second premise three of them
+    (
+        "environ begin scheme S { P[] } : for x being object holds x = x provided P[] and P[] & P[] & P[];\nB: for c being object holds c = c iff (c = c iff (c = c iff (c = c iff (c = c iff (c = c iff (c = c iff (c = c iff (c = c iff (c = c iff (c = c iff c = c))))))))));\nC: for c being object holds c = c;\ntheorem for x being object holds x = x from S(B,C);",
+        "4:1 36",
+    ),
+    // at a property
+    (
+        "environ begin scheme S { P[] } : for x being object holds x = x provided P[] and P[] & P[] & P[];\nB: for c being object holds c = c iff (c = c iff (c = c iff (c = c iff (c = c iff (c = c iff (c = c iff (c = c iff (c = c iff (c = c iff (c = c iff c = c))))))))));\nC: for c being object holds c = c;\ndefinition let x,y be object; pred x in y means x = y;\nsymmetry from S(B,C); end;",
+        "5:1 36",
+    ),
+    // at a condition
+    (
+        "environ begin scheme S { P[] } : for x being object holds x = x provided P[] and P[] & P[] & P[];\nB: for c being object holds c = c iff (c = c iff (c = c iff (c = c iff (c = c iff (c = c iff (c = c iff (c = c iff (c = c iff (c = c iff (c = c iff c = c))))))))));\nC: for c being object holds c = c;\ndefinition let x,y be object; pred x in y means x = y if (x = x), y = x if (y = y);\nconsistency from S(B,C); end;",
+        "5:1 36",
+    ),
+    // at a further side of an equality, before the references of the first one
+    (
+        "environ begin scheme S { A() -> object, P[] } : A() = A() provided P[] and P[] & P[] & P[]; theorem for c being object holds c = c proof let c be object;\nB: c = c iff (c = c iff (c = c iff (c = c iff (c = c iff (c = c iff (c = c iff (c = c iff (c = c iff (c = c iff (c = c iff c = c))))))))));\nC: c = c;\nc = c by Nowhere\n.= c from S(B,C);\nthus thesis; end;",
+        "4:1 36",
     ),
 ];
 
