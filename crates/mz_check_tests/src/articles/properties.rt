@@ -269,12 +269,12 @@ const FUNCTORS: [Row; 26] = [
     // a property of a mode
     (
         "environ vocabularies V; begin definition let x be object; mode Elm of x -> object means it = x; existence; reflexivity; end;",
-        "1:108 14",
+        "1:108 52 7",
     ),
     // that of modes stands in no grammar yet
     (
         "environ vocabularies V; begin definition let x be object; mode Elm of x -> object means it = x; existence; sethood; end;",
-        "1:108 52 7",
+        "1:108 14",
     ),
     // of an abbreviation
     (
